@@ -1,0 +1,133 @@
+-- The claims of specs/Laws.
+use mathlib.Core.Path.{_≡_, refl, sym, ap, _∙_}
+use mathlib.Core.Logic.{_↔_}
+use mathlib.Core.Bool.{true}
+use mathlib.Core.List.{List, [], _∷_, map, List·Memᴰ}
+use Prim.Native.Nat.{ℕ}
+use lib.ListN.{getD}
+use Rattle.clause.specs.Lists.{All}
+use Rattle.clause.specs.Clause.{Accepted}
+use Rattle.machine.specs.Instr.{key}
+use Rattle.machine.specs.Compile.{Variants, keys}
+use Rattle.tree.specs.Changes.{numbered, varied}
+use Rattle.tree.specs.Refusal.{codeOf, valuesOf}
+use Rattle.book.specs.Table.{Title, ready, kept, removed, is-covered, is-not-covered, returned, code, saidCall, saidQuery, saidCeiling}
+use Rattle.book.specs.Laws.{BookLaws}
+use Rattle.clause.proofs.Lists.{all-mem}
+use Rattle.clause.proofs.Literals.{accepted}
+use Rattle.machine.proofs.Keys.{keys-same}
+use Rattle.machine.proofs.Codes.{sequence-plain}
+use Rattle.tree.proofs.Changes.{kept-numbered, numbered-kept, kept-varied, varied-kept}
+use Rattle.walk.proofs.Kept.{kept-pair, pair-kept}
+use Rattle.clause.specs.declared.Fault.the-variants.{BadLength, Bad, Ninth}
+use Rattle.tree.specs.Entries.{Pair, Sound, entry}
+use Rattle.clause.specs.Word.{Words}
+use Rattle.tree.specs.declared.Refusal.{Refusal}
+use Rattle.tree.specs.declared.Refusal.the-variants.{BadSlice, Broken, ShortWitness, NumberTaken, NoSuchNumber, ListFull, NoRoom, BadSize, BadClause, Held, Spent}
+use Rattle.walk.specs.declared.CeilingAnswer.{CeilingAnswer}
+use Rattle.walk.specs.declared.CeilingAnswer.the-variants.{NoCeiling, Ceiling}
+use Rattle.walk.specs.declared.QueryAnswer.{QueryAnswer}
+use Rattle.walk.specs.declared.QueryAnswer.the-variants.{Unanswered, Covered, NotCovered}
+use Rattle.tree.specs.declared.CallAnswer.{CallAnswer}
+use Rattle.tree.specs.declared.CallAnswer.the-variants.{Refused, Ready, Kept, Removed}
+
+number : (n : ℕ) (K : List Pair) → (numbered n (map entry K) ≡ true) ↔ ((p : Pair) × List·Memᴰ p K × (p .number ≡ n))
+number n K = (
+  λ e. let (cs, k) = numbered-kept n (map entry K) (rw e tt) in let (p, m, f, g) = kept-pair K cs n k in (p, m, sym g),
+  λ h. let (p, m, g) = h in kept-numbered n (keys (p .clause)) (map entry K) (rw g at (pair-kept K p m)),
+)
+
+-- clauses with the same keys are variants
+same-keys : (c : List ℕ) → Accepted c → Words c → (p : Pair) → Sound p → keys c ≡ keys (p .clause) → Variants c (p .clause)
+same-keys c C w p s e = keys-same (sequence-plain c (accepted c C) w) (sequence-plain (p .clause) (accepted (p .clause) (s .accepted)) (s .words)) e
+
+variant : (c : List ℕ) (K : List Pair) → Accepted c → Words c → All Sound K
+    → (varied (keys c) (map entry K) ≡ true) ↔ ((p : Pair) × List·Memᴰ p K × Variants c (p .clause))
+variant c K C w S = (
+  λ e. let (n, k) = varied-kept (keys c) (map entry K) (rw e tt) in
+      let (p, m, f, g) = kept-pair K (keys c) n k in
+      (p, m, same-keys c C w p (all-mem S m) f),
+  λ h. let (p, m, v) = h in kept-varied (keys c) (p .number) (map entry K) (rw (← ap (map key) v) at (pair-kept K p m)),
+)
+
+-- ---- from what is said back to the answer
+
+-- the refusal of a code and its values
+refusalOf : (code : ℕ) (values : List ℕ) → Refusal
+refusalOf c vs =
+    let v : ℕ = getD vs 0 0 in
+    getD (
+    BadSize ∷ BadSlice ∷ Broken ∷ BadClause BadLength ∷ BadClause (Bad v) ∷ BadClause (Ninth v) ∷ ShortWitness ∷ NumberTaken ∷ Held v ∷ NoSuchNumber
+    ∷ ListFull ∷ NoRoom ∷ Spent v ∷ []
+    ) c BadSize
+
+refusal-back : (r : Refusal) → refusalOf (codeOf r) (valuesOf r) ≡ r
+unfolding refusalOf
+refusal-back BadSlice = refl
+refusal-back Broken = refl
+refusal-back (BadClause BadLength) = refl
+refusal-back (BadClause (Bad at)) = refl
+refusal-back (BadClause (Ninth at)) = refl
+refusal-back ShortWitness = refl
+refusal-back NumberTaken = refl
+refusal-back (Held n) = refl
+refusal-back NoSuchNumber = refl
+refusal-back ListFull = refl
+refusal-back NoRoom = refl
+refusal-back (Spent c) = refl
+refusal-back BadSize = refl
+
+callAs : Title → List ℕ → CallAnswer
+callAs ready vs = Ready
+callAs kept vs = Kept
+callAs removed vs = Removed
+callAs is-covered vs = Ready
+callAs is-not-covered vs = Ready
+callAs returned vs = Ready
+callAs (code n) vs = Refused (refusalOf n vs)
+
+call-back : (a : CallAnswer) → callAs (saidCall a .title) (saidCall a .values) ≡ a
+unfolding callAs
+call-back (Refused r) = ap Refused (refusal-back r)
+call-back Ready = refl
+call-back Kept = refl
+call-back Removed = refl
+
+queryAs : Title → List ℕ → QueryAnswer
+queryAs ready vs = NotCovered 0
+queryAs kept vs = NotCovered 0
+queryAs removed vs = NotCovered 0
+queryAs is-covered vs = Covered (getD vs 0 0) (getD vs 1 0)
+queryAs is-not-covered vs = NotCovered (getD vs 0 0)
+queryAs returned vs = NotCovered 0
+queryAs (code n) vs = Unanswered (refusalOf n vs)
+
+query-back : (a : QueryAnswer) → queryAs (saidQuery a .title) (saidQuery a .values) ≡ a
+unfolding queryAs
+query-back (Unanswered r) = ap Unanswered (refusal-back r)
+query-back (Covered n c) = refl
+query-back (NotCovered c) = refl
+
+ceilingAs : Title → List ℕ → CeilingAnswer
+ceilingAs ready vs = Ceiling 0
+ceilingAs kept vs = Ceiling 0
+ceilingAs removed vs = Ceiling 0
+ceilingAs is-covered vs = Ceiling 0
+ceilingAs is-not-covered vs = Ceiling 0
+ceilingAs returned vs = Ceiling (getD vs 0 0)
+ceilingAs (code n) vs = NoCeiling (refusalOf n vs)
+
+ceiling-back : (a : CeilingAnswer) → ceilingAs (saidCeiling a .title) (saidCeiling a .values) ≡ a
+unfolding ceilingAs
+ceiling-back (NoCeiling r) = ap NoCeiling (refusal-back r)
+ceiling-back (Ceiling n) = refl
+
+pub book-laws : BookLaws
+book-laws =
+    record {
+      call = λ a b e. sym (call-back a) ∙ ap (λ s. callAs (s .title) (s .values)) e ∙ call-back b;
+      query = λ a b e. sym (query-back a) ∙ ap (λ s. queryAs (s .title) (s .values)) e ∙ query-back b;
+      ceiling = λ a b e. sym (ceiling-back a) ∙ ap (λ s. ceilingAs (s .title) (s .values)) e ∙ ceiling-back b;
+      number = number;
+      variant = variant;
+    }

@@ -1,0 +1,109 @@
+-- What is claimed of the calls, and of lists of calls.
+use mathlib.Core.Path.{_≡_}
+use mathlib.Core.Logic.{_↔_, _≢_, _⊎_}
+use mathlib.Core.Option.{Option}
+use mathlib.Core.List.{List, [], _∷_, map, List·Memᴰ}
+use Prim.Native.Nat.{ℕ, _≤_}
+use lib.ListN.{length, replicate}
+use Rattle.clause.specs.Lists.{Each}
+use Rattle.clause.specs.Clause.{Accepted, Subsumes}
+use Rattle.machine.specs.Compile.{Variants, keys}
+use Rattle.machine.specs.Machine.{initial}
+use Rattle.tree.specs.Forest.{layout, ins, del}
+use Rattle.tree.specs.Laid.{maxKept, decode}
+use Rattle.tree.specs.Entries.{Mirrors, Pair, entry}
+use Rattle.walk.specs.Walk.{upTo, walk}
+use Rattle.walk.specs.Ceiling.{ceiling, fullBudget, ceilingCall}
+use Rattle.walk.specs.Query.{machine, witnessWords, written, told, walkSlice, query}
+use Rattle.walk.specs.Covering.{IsCovered, IsNotCovered, Answers}
+use Rattle.tree.specs.Calls.{fresh, insertion, removal}
+use Rattle.book.specs.Table.{ready, kept, removed, returned, saidCeiling, called, asked}
+use Rattle.book.specs.Refusals.{firstOf, freshRows, ceilingRows, insertRows, removeRows, queryRows, finished, unlessRefused, unlessSaid, walkResult}
+use Rattle.book.specs.Book.{Call, Fit, AllFit, call, done, sliceOf, bookStep, bookOf, treeOf}
+use Rattle.clause.specs.Word.{Words}
+use Rattle.tree.specs.declared.CallAnswer.the-variants.{Ready}
+
+-- Demand 1: every call, on any words, answers the first refusal that applies and leaves every lent word, or does what it is for
+pub record Demand1 : Type 0 where
+  pub freshening : (T : List ℕ)
+      → called (fresh T) ≡ unlessRefused (firstOf (freshRows T)) T (finished ready (replicate (length T) 0))
+  pub inserting : (T c : List ℕ) (n : ℕ)
+      → called (insertion T c n) ≡ unlessRefused (firstOf (insertRows T c n)) T (finished kept (layout (length T) (ins (keys c) n (decode T))))
+  pub removing : (T : List ℕ) (n : ℕ)
+      → called (removal T n) ≡ unlessRefused (firstOf (removeRows T n)) T (finished removed (layout (length T) (del n (decode T))))
+  pub asking : (T d : List ℕ) (b : ℕ) (W : List ℕ)
+      → asked (query T d b W) ≡ unlessRefused (firstOf (queryRows T d W)) W (walkResult b W (walkSlice T d b))
+  pub bounding : (k q m : ℕ)
+      → saidCeiling (ceilingCall k q m) ≡ unlessSaid (firstOf (ceilingRows k q m)) (record { title = returned; values = ceiling k q m ∷ [] })
+
+-- a list of calls on a slice on which fresh has answered "ready"
+pub record Run (T : List ℕ) (xs : List Call) : Type 0 where
+  pub ready : fresh T .answer ≡ Ready
+  pub fit : AllFit xs
+
+-- Reach: what holds after a list of calls
+pub record Reached (T : List ℕ) (xs : List Call) : Type 0 where
+  -- the slice is that of the tree of the kept clauses
+  pub slice : sliceOf T xs ≡ layout (length T) (treeOf (bookOf (length T) xs))
+  -- that tree's paths are the sequences of the kept clauses, each with its number
+  pub tree : Mirrors (treeOf (bookOf (length T) xs)) (map entry (bookOf (length T) xs))
+  -- the numbers in the book differ, no two of its clauses are variants, and it holds at most 1,024 pairs
+  pub numbers : Each (λ p q. p .number ≢ q .number) (bookOf (length T) xs)
+  pub clauses : Each (λ p q. Variants (p .clause) (q .clause) → ⊥) (bookOf (length T) xs)
+  pub few : length (bookOf (length T) xs) ≤ maxKept
+  -- "kept" and "removed" are answered exactly where the book changes
+  pub changes : (x : Call) → Fit x → (call (sliceOf T xs) x .answer ≡ done x) ↔ (bookStep (length T) (bookOf (length T) xs) x ≢ bookOf (length T) xs)
+
+-- the claim, for every list of calls
+abbrev pub Reach : Type 0
+Reach = (T : List ℕ) (xs : List Call) → Run T xs → Reached T xs
+
+-- Demand 2: every query after a list of calls is answered in terms of the clauses that the list keeps
+abbrev pub Demand2 : Type 0
+Demand2 =
+    (T : List ℕ) (xs : List Call) → Run T xs → (d : List ℕ) → Accepted d → (b : ℕ) (W : List ℕ) → witnessWords ≤ length W
+    → Answers (bookOf (length T) xs) (treeOf (bookOf (length T) xs)) (sliceOf T xs) d b W
+
+-- each clause of K is subsumed by one of L
+abbrev pub Under : List Pair → List Pair → Type 0
+Under K L = (p : Pair) → List·Memᴰ p K → (q : Pair) × List·Memᴰ q L × Subsumes (q .clause) (p .clause)
+
+-- each clause of K stands in L up to variable names, under the same number
+abbrev pub Renamed : List Pair → List Pair → Type 0
+Renamed K L = (p : Pair) → List·Memᴰ p K → (q : Pair) × List·Memᴰ q L × (q .number ≡ p .number) × Variants (q .clause) (p .clause)
+
+-- on two slices a query is answered the same, and the same words are written, into whatever witnesses
+pub record Same (S T d : List ℕ) (b : ℕ) : Type 0 where
+  pub words : List (Option ℕ)
+  pub answer : (U W : List ℕ) → witnessWords ≤ length U → witnessWords ≤ length W → query S d b U .answer ≡ query T d b W .answer
+  pub left : (U : List ℕ) → witnessWords ≤ length U → query S d b U .witness ≡ written words U
+  pub right : (W : List ℕ) → witnessWords ≤ length W → query T d b W .witness ≡ written words W
+
+-- what is claimed of one list's queries at the full budget, and of the walk
+pub record Alone (T : List ℕ) (xs : List Call) : Type 0 where
+  -- at the full budget every accepted query is answered covered or not covered
+  pub decided : (d : List ℕ) → Accepted d → (W : List ℕ) → witnessWords ≤ length W
+      → IsCovered (sliceOf T xs) d fullBudget W ⊎ IsNotCovered (sliceOf T xs) d fullBudget W
+  -- the answer is that of the walk over the tree of the kept clauses
+  pub walked :
+      (d : List ℕ) → Accepted d → (b : ℕ) (W : List ℕ) → witnessWords ≤ length W
+      → query (sliceOf T xs) d b W ≡ told b W (walk (machine d) (upTo b) (treeOf (bookOf (length T) xs)) initial 0)
+
+-- two lists of calls
+pub record Together (S : List ℕ) (xs : List Call) (T : List ℕ) (ys : List Call) : Type 0 where
+  pub reached-one : Reached S xs
+  pub reached-other : Reached T ys
+  pub one : Alone S xs
+  pub other : Alone T ys
+  -- at the full budget they agree on every accepted query exactly if each clause kept by either is subsumed by one kept by the other
+  pub agree :
+      ((d : List ℕ) → Accepted d → Words d → (U W : List ℕ) → witnessWords ≤ length U → witnessWords ≤ length W
+      → IsCovered (sliceOf S xs) d fullBudget U ↔ IsCovered (sliceOf T ys) d fullBudget W)
+      ↔ (Under (bookOf (length S) xs) (bookOf (length T) ys) × Under (bookOf (length T) ys) (bookOf (length S) xs))
+  -- with the same clauses up to variable names under the same numbers, every answer is the same at every budget
+  pub same : Renamed (bookOf (length S) xs) (bookOf (length T) ys) → Renamed (bookOf (length T) ys) (bookOf (length S) xs)
+      → (d : List ℕ) → Accepted d → (b : ℕ) → Same (sliceOf S xs) (sliceOf T ys) d b
+
+-- Demand 3
+abbrev pub Demand3 : Type 0
+Demand3 = (S : List ℕ) (xs : List Call) (T : List ℕ) (ys : List Call) → Run S xs → Run T ys → Together S xs T ys

@@ -1,0 +1,29 @@
+-- What is claimed of the table's names and of the book's tests: nothing is lost by the names, and the tests ask what document 01 says.
+use mathlib.Core.Path.{_≡_}
+use mathlib.Core.Logic.{_↔_}
+use mathlib.Core.Bool.{true}
+use mathlib.Core.List.{List, map, List·Memᴰ}
+use Prim.Native.Nat.{ℕ}
+use Rattle.clause.specs.Lists.{All}
+use Rattle.clause.specs.Clause.{Accepted}
+use Rattle.machine.specs.Compile.{Variants, keys}
+use Rattle.tree.specs.Changes.{numbered, varied}
+use Rattle.book.specs.Table.{saidCall, saidQuery, saidCeiling}
+use Rattle.tree.specs.Entries.{Pair, Sound, entry}
+use Rattle.clause.specs.Word.{Words}
+use Rattle.walk.specs.declared.CeilingAnswer.{CeilingAnswer}
+use Rattle.walk.specs.declared.QueryAnswer.{QueryAnswer}
+use Rattle.tree.specs.declared.CallAnswer.{CallAnswer}
+
+-- the claim
+pub record BookLaws : Type 0 where
+  -- no two answers to a call are said the same
+  pub call : (a b : CallAnswer) → saidCall a ≡ saidCall b → a ≡ b
+  pub query : (a b : QueryAnswer) → saidQuery a ≡ saidQuery b → a ≡ b
+  pub ceiling : (a b : CeilingAnswer) → saidCeiling a ≡ saidCeiling b → a ≡ b
+  -- a number is in the book
+  pub number : (n : ℕ) (K : List Pair) → (numbered n (map entry K) ≡ true) ↔ ((p : Pair) × List·Memᴰ p K × (p .number ≡ n))
+  -- a variant of a clause is in the book
+  pub variant :
+      (c : List ℕ) (K : List Pair) → Accepted c → Words c → All Sound K
+      → (varied (keys c) (map entry K) ≡ true) ↔ ((p : Pair) × List·Memᴰ p K × Variants c (p .clause))

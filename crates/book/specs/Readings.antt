@@ -1,0 +1,127 @@
+-- Where the scope leaves room: the readings taken, each on a small input.
+use mathlib.Core.Path.{_≡_}
+use mathlib.Core.List.{List, [], _∷_, _++_}
+use Prim.Native.Nat.{ℕ, _+_, _*_, _^_}
+use lib.ListN.{length, replicate}
+use Rattle.clause.specs.Clause.{shape}
+use Rattle.machine.specs.Instr.{Down, Right, Put, Push, Pop, Check, Compare, First, Do, instr}
+use Rattle.machine.specs.Compile.{sequence}
+use Rattle.tree.specs.Forest.{word}
+use Rattle.walk.specs.Ceiling.{ceilingCall}
+use Rattle.walk.specs.Query.{query}
+use Rattle.tree.specs.Calls.{insertion, removal}
+use Rattle.book.specs.Book.{insert, remove, sliceOf}
+use Rattle.book.specs.Trials.{P₃, P₂, P₁, Q₁, f, a, b, x, y, pxqx, ask}
+use Rattle.clause.specs.declared.Shape.the-variants.{Faulty, Whole}
+use Rattle.clause.specs.declared.Fault.the-variants.{BadLength, Bad, Ninth}
+use Rattle.tree.specs.declared.Refusal.the-variants.{Broken, BadClause, ShortWitness, NumberTaken, Held, NoRoom, Spent}
+use Rattle.walk.specs.declared.CeilingAnswer.the-variants.{Ceiling}
+use Rattle.walk.specs.declared.QueryAnswer.the-variants.{Covered, NotCovered, Unanswered}
+use Rattle.walk.specs.declared.QueryAnswer.{QueryAnswer}
+use Rattle.tree.specs.declared.CallAnswer.the-variants.{Refused, Kept}
+
+-- P and Q with no arguments, P with four
+abbrev pub P₀ : ℕ
+P₀ = 0x8001
+
+abbrev pub Q₀ : ℕ
+Q₀ = 0x8002
+
+abbrev pub P₄ : ℕ
+P₄ = 0xa001
+
+-- a slice of instruction words with its header
+abbrev pub sliceWith : (kept : ℕ) → List ℕ → List ℕ
+sliceWith kept ws = (length ws * 2 ^ 32 + kept) ∷ ws
+
+-- an instruction word
+abbrev pub at : (op operand extent : ℕ) → ℕ
+at op operand extent = word (instr op operand) extent
+
+-- the answer to a query with a witness of 72 words
+abbrev pub answered : (words clause : List ℕ) (budget : ℕ) → QueryAnswer
+answered ws d budget = query (sliceWith 1 ws) d budget (replicate 72 9) .answer
+
+-- a fresh slice
+abbrev pub blank : ℕ → List ℕ
+blank n = replicate n 0
+
+-- reading a clause
+abbrev pub reading : List (Type 0)
+reading =
+    (shape (P₁ ∷ []) ≡ Faulty (Bad 1)) ∷ (shape (P₁ ∷ f ∷ []) ≡ Faulty (Bad 2)) ∷ (shape (P₁ ∷ P₁ ∷ a ∷ []) ≡ Faulty (Bad 1))
+    ∷ (shape (P₁ ∷ 0x4800 ∷ []) ≡ Faulty (Bad 1)) ∷ (shape (replicate 8 P₀ ++ (P₁ ∷ [])) ≡ Faulty (Ninth 8))
+    ∷ (shape (replicate 9 P₀ ++ (x ∷ [])) ≡ Faulty (Ninth 8)) ∷ (shape (replicate 7 P₀ ++ (P₁ ∷ P₀ ∷ [])) ≡ Faulty (Bad 8))
+    ∷ (shape (replicate 8 P₀ ++ (a ∷ [])) ≡ Faulty (Bad 8)) ∷ (shape (replicate 65 x) ≡ Faulty BadLength) ∷ (shape [] ≡ Faulty BadLength)
+    ∷ (shape (replicate 8 P₀) ≡ Whole 8) ∷ []
+
+-- compiling
+abbrev pub compiling : List (Type 0)
+compiling =
+    (sequence (P₂ ∷ f ∷ x ∷ y ∷ []) ≡ First ∷ Do (Check P₂) ∷ Do Down ∷ Do (Check f) ∷ Do (Push 0) ∷ Do Down ∷ Do (Put 0) ∷ Do (Pop 0) ∷ Do (Put 1) ∷ [])
+    ∷ (sequence (P₁ ∷ x ∷ P₂ ∷ x ∷ x ∷ []) ≡
+    First ∷ Do (Check P₁) ∷ Do Down ∷ Do (Put 0)
+    ∷ First ∷ Do (Check P₂) ∷ Do Down ∷ Do (Put 1) ∷ Do Right ∷ Do (Put 2) ∷ Do (Compare 0 1) ∷ Do (Compare 0 2) ∷ [])
+    ∷ (sequence (P₄ ∷ x ∷ y ∷ y ∷ x ∷ []) ≡
+    First ∷ Do (Check P₄) ∷ Do Down ∷ Do (Put 0) ∷ Do Right ∷ Do (Put 1) ∷ Do Right ∷ Do (Put 2) ∷ Do Right ∷ Do (Put 3)
+    ∷ Do (Compare 0 3) ∷ Do (Compare 1 2) ∷ [])
+    ∷ []
+
+-- the walk
+abbrev pub walking : List (Type 0)
+walking =
+    -- a ninth First with the budget used up; an extent past its parent's, on a word that fails too; faults that are not met
+    (answered (at 1 0 10 ∷ at 1 0 9 ∷ at 1 0 8 ∷ at 1 0 7 ∷ at 1 0 6 ∷ at 1 0 5 ∷ at 1 0 4 ∷ at 1 0 3 ∷ at 1 0 2 ∷ at 0 1 1 ∷ []) (P₀ ∷ []) 8 ≡ Unanswered Broken)
+    ∷ (answered (at 1 0 4 ∷ at 7 Q₀ 1 ∷ at 7 P₀ 3 ∷ at 0 1 1 ∷ []) (P₀ ∷ []) 9 ≡ Unanswered Broken)
+    ∷ (answered (at 1 0 2 ∷ at 7 Q₀ 9 ∷ []) (P₀ ∷ []) 9 ≡ Unanswered Broken)
+    ∷ (answered (at 1 0 3 ∷ at 0 1 1 ∷ at 7 P₀ 0 ∷ []) (P₀ ∷ []) 9 ≡ Covered 1 1)
+    ∷ (answered (at 1 0 3 ∷ at 7 Q₀ 2 ∷ at 4 99 1 ∷ []) (P₀ ∷ []) 9 ≡ NotCovered 1)
+    -- First with nothing below it; an operand of First; an operation over 8; a Success at the top
+    ∷ (answered (at 1 0 1 ∷ []) (P₀ ∷ []) 9 ≡ NotCovered 1) ∷ (answered (at 1 0 1 ∷ []) (P₀ ∷ []) 0 ≡ Unanswered (Spent 0))
+    ∷ (answered (at 1 7 2 ∷ at 0 1 1 ∷ []) (P₀ ∷ []) 9 ≡ Covered 1 1) ∷ (answered (at 1 0 2 ∷ at 9 0 1 ∷ []) (P₀ ∷ []) 9 ≡ Unanswered Broken)
+    ∷ (answered (at 0 5 1 ∷ []) (P₀ ∷ []) 9 ≡ Unanswered Broken)
+    -- Right at a literal's head; Push without a right sibling; a number popped twice; what a sibling stored is gone; stored twice
+    ∷ (answered (at 1 0 3 ∷ at 3 0 2 ∷ at 0 1 1 ∷ []) (P₀ ∷ P₀ ∷ []) 9 ≡ Unanswered Broken)
+    ∷ (answered (at 1 0 5 ∷ at 7 P₁ 4 ∷ at 2 0 3 ∷ at 5 0 2 ∷ at 0 1 1 ∷ []) (P₁ ∷ a ∷ []) 9 ≡ Unanswered Broken)
+    ∷ (answered (at 1 0 8 ∷ at 7 P₂ 7 ∷ at 2 0 6 ∷ at 5 0 5 ∷ at 6 0 4 ∷ at 7 b 3 ∷ at 6 0 2 ∷ at 0 1 1 ∷ []) (P₂ ∷ a ∷ b ∷ []) 9 ≡ Covered 1 1)
+    ∷ (answered (at 1 0 6 ∷ at 4 0 2 ∷ at 7 b 1 ∷ at 4 1 3 ∷ at 8 1 2 ∷ at 0 1 1 ∷ []) (P₀ ∷ []) 9 ≡ Unanswered Broken)
+    ∷ (ask (sliceWith 1 (at 1 0 6 ∷ at 4 0 5 ∷ at 7 P₁ 4 ∷ at 2 0 3 ∷ at 4 0 2 ∷ at 0 1 1 ∷ [])) (P₁ ∷ a ∷ []) 9 1 1
+    ≡ record { answer = Covered 1 1; literals = 0 ∷ []; positions = 1 ∷ [] })
+    -- a Check of a variable's word; a Check over 16 bits; Compare k k; Put and Compare at a head; First in the middle of a literal
+    ∷ (answered (at 1 0 5 ∷ at 7 P₁ 4 ∷ at 2 0 3 ∷ at 7 x 2 ∷ at 0 1 1 ∷ []) (P₁ ∷ x ∷ []) 9 ≡ Covered 1 1)
+    ∷ (answered (at 1 0 3 ∷ at 7 0x18001 2 ∷ at 0 1 1 ∷ []) (P₀ ∷ []) 9 ≡ NotCovered 1)
+    ∷ (answered (at 1 0 4 ∷ at 4 0 3 ∷ at 8 0 2 ∷ at 0 1 1 ∷ []) (P₀ ∷ []) 9 ≡ Covered 1 1)
+    ∷ (answered (at 1 0 6 ∷ at 4 0 5 ∷ at 1 0 4 ∷ at 4 1 3 ∷ at 8 1 2 ∷ at 0 1 1 ∷ []) (P₀ ∷ Q₀ ∷ []) 9 ≡ Covered 1 2)
+    ∷ (answered (at 1 0 3 ∷ at 1 0 2 ∷ at 0 1 1 ∷ []) (P₀ ∷ []) 9 ≡ Covered 1 2)
+    -- a short witness before a broken header
+    ∷ (query ((9 * 2 ^ 32) ∷ 0 ∷ []) (P₀ ∷ []) 9 [] .answer ≡ Unanswered ShortWitness)
+    ∷ (query ((9 * 2 ^ 32) ∷ 0 ∷ []) (P₀ ∷ []) 9 (replicate 72 9) .answer ≡ Unanswered Broken)
+    ∷ (query (0 ∷ 0 ∷ 1 ∷ []) (P₀ ∷ []) 0 (replicate 72 9) .answer ≡ NotCovered 0)
+    -- the words of a witness that are not written
+    ∷ (query pxqx (P₁ ∷ a ∷ P₁ ∷ b ∷ Q₁ ∷ b ∷ []) 8 (replicate 74 9) .witness ≡ 1 ∷ 2 ∷ (replicate 6 9 ++ (3 ∷ 5 ∷ replicate 64 9)))
+    ∷ (query pxqx (P₁ ∷ a ∷ Q₁ ∷ b ∷ []) 8 (replicate 74 9) .witness ≡ replicate 74 9) ∷ []
+
+-- insertion, removal, ceiling
+abbrev pub calling : List (Type 0)
+calling =
+    -- two Successes among siblings; a leaf that is no Success; an operand of First; a wrong kept; a word past the used ones
+    (removal (sliceWith 2 (at 1 0 3 ∷ at 0 1 1 ∷ at 0 2 1 ∷ [])) 1 .answer ≡ Refused Broken)
+    ∷ (insertion (sliceWith 0 (at 1 0 1 ∷ [])) (P₀ ∷ []) 1 .answer ≡ Refused Broken)
+    ∷ (insertion (sliceWith 1 (at 1 7 2 ∷ at 0 1 1 ∷ [])) (Q₀ ∷ []) 1 .answer ≡ Refused Broken)
+    ∷ (insertion (sliceWith 9 (at 1 0 2 ∷ at 0 1 1 ∷ [])) (Q₀ ∷ []) 1 .answer ≡ Refused Broken)
+    ∷ (insertion (0 ∷ 0 ∷ 1 ∷ []) (P₀ ∷ []) 1 .answer ≡ Refused Broken) ∷ (insertion (0 ∷ 0 ∷ 1 ∷ []) (x ∷ []) 1 .answer ≡ Refused (BadClause (Bad 0)))
+    -- a Success at the top is well laid
+    ∷ (insertion ((2 ^ 32 + 1) ∷ at 0 5 1 ∷ 0 ∷ 0 ∷ 0 ∷ []) (P₀ ∷ []) 1 .slice ≡ sliceWith 2 (at 0 5 1 ∷ at 1 0 3 ∷ at 7 P₀ 2 ∷ at 0 1 1 ∷ []))
+    -- the same number before the same clause
+    ∷ (insertion (sliceOf (blank 9) (insert (P₀ ∷ []) 1 ∷ [])) (P₀ ∷ []) 1 .answer ≡ Refused NumberTaken)
+    ∷ (insertion (sliceOf (blank 9) (insert (P₀ ∷ []) 1 ∷ [])) (P₀ ∷ []) 2 .answer ≡ Refused (Held 1))
+    -- P(x,a,x) into 11 and 10 words; both into 16 and 15, and again after the first is removed
+    ∷ (insertion (blank 11) (P₃ ∷ x ∷ a ∷ x ∷ []) 1 .answer ≡ Kept) ∷ (insertion (blank 10) (P₃ ∷ x ∷ a ∷ x ∷ []) 1 .answer ≡ Refused NoRoom)
+    ∷ (insertion (sliceOf (blank 16) (insert (P₃ ∷ x ∷ a ∷ x ∷ []) 1 ∷ [])) (P₃ ∷ x ∷ x ∷ b ∷ []) 2 .answer ≡ Kept)
+    ∷ (insertion (sliceOf (blank 15) (insert (P₃ ∷ x ∷ a ∷ x ∷ []) 1 ∷ [])) (P₃ ∷ x ∷ x ∷ b ∷ []) 2 .answer ≡ Refused NoRoom)
+    ∷ (insertion (sliceOf (blank 15) (insert (P₃ ∷ x ∷ a ∷ x ∷ []) 1 ∷ remove 1 ∷ [])) (P₃ ∷ x ∷ x ∷ b ∷ []) 2 .answer ≡ Kept)
+    ∷ (ceilingCall 0 1 1 ≡ Ceiling 0) ∷ []
+
+-- all of them
+abbrev pub readings : List (Type 0)
+readings = reading ++ (compiling ++ (walking ++ calling))

@@ -1,0 +1,5 @@
+pub mod Lists
+pub mod Word
+pub mod Clause
+pub mod Positions
+pub mod Accepted

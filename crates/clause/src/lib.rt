@@ -1,0 +1,20 @@
+// Clauses: their words, their faults, the reading (document 01, "Clause words").
+
+// What is wrong with a clause: its length (code 3), a word or the end that breaks the rules (4) or a ninth head (5), each with its position.
+pub enum Fault {
+    BadLength,
+    Bad(usize),
+    Ninth(usize),
+}
+
+// What the reading of a clause finds: a fault, or a whole clause with its number of literals.
+pub enum Shape {
+    Faulty(Fault),
+    Whole(usize),
+}
+
+// A position in a clause, and how many right siblings the term there has.
+pub struct Cursor {
+    pub at: usize,
+    pub left: usize,
+}

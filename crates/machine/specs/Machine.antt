@@ -1,0 +1,145 @@
+-- The machine on one query.
+use mathlib.Core.Bool.{Bool, true, false}
+use mathlib.Core.Option.{Option, none, some}
+use mathlib.Core.List.{List, [], _∷_, _++_}
+use Prim.Native.Nat.{ℕ, zero, suc, _+_}
+use lib.ListN.{length, getD, drop, set, replicate}
+use lib.Dec.{ltb, eqb}
+use Rattle.clause.specs.Word.{arity}
+use Rattle.clause.specs.Positions.{jump}
+use Rattle.clause.specs.Clause.{skip, termAt, startOf, maxLiterals}
+use Rattle.clause.specs.Lists.{alike}
+use Rattle.machine.specs.Instr.{Step, Down, Right, Put, Push, Pop, Check, Compare, Instr, First, Do, Success}
+use Rattle.clause.specs.declared.Cursor.{Cursor}
+
+-- how many put and how many pushed positions there are
+abbrev pub slots : ℕ
+slots = 64
+
+-- the first of `count` siblings, at a position
+unfoldable pub cursor : (at count : ℕ) → Option Cursor
+cursor at zero = none
+cursor at (suc l) = some (record { at = at; left = l })
+
+-- to the first argument
+unfoldable pub down : List ℕ → Cursor → Option Cursor
+down d c = cursor (suc (c .at)) (arity (getD d (c .at) 0))
+
+-- to the next argument of the same symbol
+unfoldable pub right : List ℕ → Cursor → Option Cursor
+right d c = cursor (jump d 1 (c .at)) (c .left)
+
+-- the candidates so far, the head, and the put and pushed positions
+pub record State : Type 0 where
+  pub chosen : List ℕ
+  pub head : Option Cursor
+  pub puts : List (Option ℕ)
+  pub pushes : List (Option Cursor)
+
+-- no position put
+unfoldable pub noPuts : List (Option ℕ)
+noPuts = replicate slots none
+
+-- no position pushed
+unfoldable pub noPushes : List (Option Cursor)
+noPushes = replicate slots none
+
+-- the state before the first candidate
+abbrev pub initial : State
+initial = record { chosen = []; head = none; puts = noPuts; pushes = noPushes }
+
+-- what a step comes to: the next state, a mismatch, or a step that cannot be taken
+pub data Outcome (S : Type 0) : Type 0 where
+  next : S → Outcome S
+  fails stuck : Outcome S
+
+-- an outcome, then what follows a next state
+abbrev pub bind : {S : Type 0} → Outcome S → (S → Outcome S) → Outcome S
+bind (next s) f = f s
+bind fails f = fails
+bind stuck f = stuck
+
+-- a state with another head
+abbrev pub headed : State → Cursor → State
+headed s c = record { chosen = s .chosen; head = some c; puts = s .puts; pushes = s .pushes }
+
+-- with position p for Put k
+abbrev pub putting : State → ℕ → ℕ → State
+putting s k p = record { chosen = s .chosen; head = s .head; puts = set (s .puts) k (some p); pushes = s .pushes }
+
+-- with a position for Push n
+abbrev pub pushing : State → ℕ → Cursor → State
+pushing s n c = record { chosen = s .chosen; head = s .head; puts = s .puts; pushes = set (s .pushes) n (some c) }
+
+-- go on with a position if there is one
+unfoldable pub given : Option Cursor → (Cursor → State) → Outcome State
+given none f = stuck
+given (some c) f = next (f c)
+
+-- go on if the test passes
+unfoldable pub require : Outcome State → Bool → Outcome State → Outcome State
+require o true r = r
+require o false r = o
+
+-- the number of a Put, Push, Pop or Compare is below 64
+abbrev pub within : ℕ → Outcome State → Outcome State
+within n r = require stuck (ltb n slots) r
+
+-- the whole terms at two positions are equal
+unfoldable pub sameTerms : List ℕ → ℕ → ℕ → Bool
+sameTerms d p q = alike (termAt d p) (termAt d q)
+
+-- Compare with the two positions put
+unfoldable pub compareTerms : List ℕ → State → Option ℕ → Option ℕ → Outcome State
+compareTerms d s none q = stuck
+compareTerms d s (some p) none = stuck
+compareTerms d s (some p) (some q) = require fails (sameTerms d p q) (next s)
+
+-- one step with the head at a position
+unfoldable pub stepAt : List ℕ → Step → State → Cursor → Outcome State
+stepAt d Down s c = given (down d c) (headed s)
+stepAt d Right s c = given (right d c) (headed s)
+stepAt d (Put k) s c = within k (next (putting s k (c .at)))
+stepAt d (Push n) s c = within n (given (right d c) (pushing s n))
+stepAt d (Pop n) s c = within n (given (getD (s .pushes) n none) (headed s))
+stepAt d (Check w) s c = require fails (eqb (getD d (c .at) 0) w) (next s)
+stepAt d (Compare m k) s c = within m (within k (compareTerms d s (getD (s .puts) m none) (getD (s .puts) k none)))
+
+-- before a candidate no step can be taken
+unfoldable pub stepFrom : List ℕ → Step → State → Option Cursor → Outcome State
+stepFrom d x s none = stuck
+stepFrom d x s (some c) = stepAt d x s c
+
+-- one step
+unfoldable pub step : List ℕ → Step → State → Outcome State
+step d x s = stepFrom d x s (s .head)
+
+-- literal j as the next candidate
+abbrev pub starting : List ℕ → State → ℕ → State
+starting d s j = record { chosen = s .chosen ++ (j ∷ []); head = some (record { at = startOf d j; left = 0 }); puts = s .puts; pushes = s .pushes }
+
+-- First with literal j: a ninth cannot be taken. It never fails: that outcome, of a literal that is passed over uncounted, is there only for
+-- machines that do not take a literal twice
+unfoldable pub enter : List ℕ → ℕ → State → Outcome State
+enter d j s = require stuck (ltb (length (s .chosen)) maxLiterals) (next (starting d s j))
+
+-- Success with the head, if there is one
+unfoldable pub finishFrom : State → Option Cursor → Outcome State
+finishFrom s none = stuck
+finishFrom s (some c) = next s
+
+-- Success, which cannot come before a candidate
+unfoldable pub finish : State → Outcome State
+finish s = finishFrom s (s .head)
+
+-- First with the next of some candidates
+unfoldable pub start : List ℕ → List ℕ → State → (List ℕ → State → Outcome State) → Outcome State
+start d [] s rest = fails
+start d (j ∷ js) s rest = bind (enter d j s) (rest js)
+
+-- the instructions one after another, with the candidates that are given, and Success at the end
+unfoldable pub run : List ℕ → List Instr → (candidates : List ℕ) → State → Outcome State
+run d [] js s = finish s
+run d (First ∷ sequence) js s = start d js s (run d sequence)
+run d (Do x ∷ sequence) js s = bind (step d x s) (run d sequence js)
+run d (Success n ∷ sequence) js s = finish s

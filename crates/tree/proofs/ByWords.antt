@@ -1,0 +1,143 @@
+-- Insertion and removal on the words themselves are insertion and removal.
+use mathlib.Core.Path.{_≡_, refl, sym}
+use mathlib.Core.Bool.{Bool, true, false, and-eq-true-iff}
+use mathlib.Core.Option.{Option, none, some}
+use mathlib.Core.List.{List, _∷_}
+use Prim.Native.Nat.{ℕ, suc, _+_, _-_, _*_, _^_, _≤_, _<_}
+use native.Mathlib.Omega.{arith}
+use lib.Dec.{T, leb, ltb}
+use lib.ListN.{length, replicate, length-append, length-replicate}
+use borrow.Author.Tests.{leb-true, leb-false, lt-ltb, le-ltb}
+use Rattle.clause.specs.Clause.{shape}
+use Rattle.tree.specs.Keys.{inner}
+use Rattle.tree.specs.Forest.{Forest, size, leaves, encode, layout, ins, del, find, holder, WellFormed, Body}
+use Rattle.tree.specs.Laid.{maxKept, sized, usedOf, wellLaid, decode}
+use Rattle.tree.specs.Entries.{Entry, Pair, entry}
+use Rattle.tree.specs.Merge.{Spot, seek}
+use Rattle.tree.specs.Cut.{locate}
+use Rattle.tree.specs.Changes.{refuse, change, insertInto, removeFrom}
+use Rattle.tree.specs.Laws.{Stands}
+use Rattle.tree.specs.Calls.{Called, changed, insertion, removal}
+use Rattle.tree.specs.ByWords.{insertAt, insertUnless, insertByWords, removeAt, removeByWords}
+use Rattle.clause.proofs.Literals.{accepted}
+use Rattle.machine.proofs.Codes.{sequence-plain}
+use Rattle.tree.proofs.Plain.{plain-body}
+use Rattle.tree.proofs.Words.{used-layout, kept-layout, take-layout, length-layout, length-encode}
+use Rattle.tree.proofs.InsertWords.{filled, ins-size, ins-filled, ins-leaves}
+use Rattle.tree.proofs.RemoveWords.{Closes, closes, locate-none, del-leaves, del-filled}
+use Rattle.tree.proofs.Held.{hold-encode}
+use Rattle.tree.proofs.Grow.{laid-decode}
+use Rattle.clause.specs.declared.Shape.the-variants.{Whole}
+use Rattle.clause.specs.Word.{Words}
+use Rattle.tree.specs.declared.Refusal.the-variants.{NoRoom}
+use Rattle.tree.specs.declared.CallAnswer.{CallAnswer}
+use Rattle.tree.specs.declared.CallAnswer.the-variants.{Kept, Removed}
+
+-- a slice is its header and its words
+laid-words : (len : ℕ) (F : Forest) → layout len F ≡ (size F * 2 ^ 32 + leaves F) ∷ filled len F
+unfolding layout
+laid-words len F = refl
+
+module _ (len : ℕ) (F : Forest) (f : WellFormed F) (room : size F < len) (high : len ≤ 65_536) where
+  -- the header of the slice
+  abbrev header : ℕ
+  header = size F * 2 ^ 32 + leaves F
+
+  length-filled : length (filled len F) ≡ len - 1
+  length-filled = simp (length-append, length-encode, length-replicate) (omega arith)
+
+  -- a new tree in the slice
+  changes-to : (G : Forest) (a : CallAnswer) (h : ℕ) (ws : List ℕ) → h ≡ size G * 2 ^ 32 + leaves G → ws ≡ filled len G
+      → _≡_ {A = Called} (record { answer = a; slice = h ∷ ws }) (changed (layout len F) a (change G))
+  changes-to G a h ws p q = rw (length-layout len F room, laid-words len G, p, q)
+
+  -- ---- insertion
+
+  module _ (e : Entry) (b : Body (e .keys)) (l : e .number < inner) where
+    abbrev G : Forest
+    G = ins (e .keys) (e .number) F
+
+    abbrev spot : Spot
+    spot = seek (filled len F) 0 (size F) 0 (e .keys)
+
+    larger : size G ≡ size F + suc (length (spot .left))
+    larger = ins-size (e .keys) (e .number) F (replicate (len - suc (size F)) 0) (omega arith)
+
+    -- there is room
+    insert-room : leb len (size G) ≡ false → insertAt header (filled len F) e spot ≡ changed (layout len F) Kept (change G)
+    insert-room q =
+        let small : size G < len = leb-false len (size G) q in
+        let fits : ltb (length (filled len F)) (usedOf header + suc (length (spot .left))) ≡ false =
+        rw (length-filled, used-layout len F (omega arith)) (le-ltb (len - 1) (size F + suc (length (spot .left))) (omega (arith, larger))) in
+        rw fits
+        (changes-to G Kept _ _ (omega (arith, larger, ins-leaves (e .keys) (e .number) F b l))
+        (rw (length-filled, used-layout len F (omega arith)) (sym (ins-filled (e .keys) (e .number) F len (omega arith) room small))))
+
+    -- there is none
+    insert-full : leb len (size G) ≡ true → insertAt header (filled len F) e spot ≡ changed (layout len F) Kept (refuse NoRoom)
+    insert-full q =
+        let large : len ≤ size G = leb-true len (size G) q in
+        let over : ltb (length (filled len F)) (usedOf header + suc (length (spot .left))) ≡ true =
+        rw (length-filled, used-layout len F (omega arith)) (lt-ltb (len - 1) (size F + suc (length (spot .left))) (omega (arith, larger))) in
+        rw (over, laid-words len F)
+
+    insert-at : find (e .number) F ≡ none → holder (e .keys) F ≡ none → (s t : Bool) → leb maxKept (leaves F) ≡ s → leb len (size G) ≡ t
+        → insertUnless header (filled len F) e none none ≡ changed (layout len F) Kept (insertInto len F e)
+    unfolding insertInto
+    insert-at u v true t p q = rw (kept-layout len F (omega arith), p) (rw (u, v, p, insertInto) (rw (laid-words len F)))
+    insert-at u v false true p q =
+        rw (kept-layout len F (omega arith), p, used-layout len F (omega arith)) (rw (u, v, p, q, insertInto) (rw (used-layout len F (omega arith)) at (insert-full q)))
+    insert-at u v false false p q =
+        rw (kept-layout len F (omega arith), p, used-layout len F (omega arith)) (rw (u, v, p, q, insertInto) (rw (used-layout len F (omega arith)) at (insert-room q)))
+
+    -- by where the number stands and who holds the sequence
+    pub insert-laid : insertByWords (layout len F) e ≡ changed (layout len F) Kept (insertInto len F e)
+    unfolding insertByWords insertInto
+    insert-laid =
+        rw (laid-words len F, used-layout len F (omega arith), take-layout len F (omega arith), hold-encode (e .keys) F (replicate (len - suc (size F)) 0) (omega arith))
+        (rw (← laid-words len F) (go (find (e .number) F) refl (holder (e .keys) F) refl))
+      where
+        go : (o : Option (List ℕ)) → find (e .number) F ≡ o → (m : Option ℕ) → holder (e .keys) F ≡ m
+            → insertUnless header (filled len F) e (locate (encode F) (e .number) 0 0 0) m ≡ changed (layout len F) Kept (insertInto len F e)
+        go (some cs) u m v = rw (closes (e .number) F l f (omega arith) cs u .found) (rw (u, insertInto) (rw (laid-words len F)))
+        go none u (some m) v = rw (locate-none (e .number) F l f (omega arith) u) (rw (u, v, insertInto) (rw (laid-words len F)))
+        go none u none v = rw (locate-none (e .number) F l f (omega arith) u) (insert-at u v (leb maxKept (leaves F)) (leb len (size G)) refl refl)
+
+  -- ---- removal
+
+  module _ (n : ℕ) (l : n < inner) where
+    remove-found : (cs : List ℕ) → find n F ≡ some cs → (c : Closes n F)
+        → removeAt header (filled len F) (locate (encode F) n 0 0 0) ≡ changed (layout len F) Removed (change (del n F))
+    remove-found cs u c =
+        rw (c .found)
+        (changes-to (del n F) Removed _ _ (omega (arith, c .sized, del-leaves n F cs l f u)) (sym (del-filled n len F room c)))
+
+    pub remove-laid : removeByWords (layout len F) n ≡ changed (layout len F) Removed (removeFrom F n)
+    unfolding removeByWords removeFrom
+    remove-laid =
+        rw (laid-words len F, used-layout len F (omega arith), take-layout len F (omega arith)) (rw (← laid-words len F) (go (find n F) refl))
+      where
+        go : (o : Option (List ℕ)) → find n F ≡ o → removeAt header (filled len F) (locate (encode F) n 0 0 0) ≡ changed (layout len F) Removed (removeFrom F n)
+        go (some cs) u = rw (u, removeFrom) (remove-found cs u (closes n F l f (omega arith) cs u))
+        go none u = rw (locate-none n F l f (omega arith) u) (rw (u, removeFrom) (rw (laid-words len F)))
+
+-- ---- any well-laid slice
+
+module _ (T : List ℕ) (s : sized T ≡ true) (w : wellLaid T ≡ true) where
+  short : length T ≤ 65_536
+  short = leb-true (length T) 65_536 (and-eq-true-iff (leb 2 (length T)) (leb (length T) 65_536) .0 s .1)
+
+  stands : Stands T (decode T)
+  stands = laid-decode T (omega (arith, short)) (rw w tt)
+
+  pub insertion-words : (c : List ℕ) (n q : ℕ) → shape c ≡ Whole q → Words c → n < 2 ^ 32
+      → insertion T c n ≡ insertByWords T (entry (record { number = n; clause = c }))
+  unfolding insertion
+  insertion-words c n q e u l =
+      let p : Pair = record { number = n; clause = c } in
+      rw (s, e, w)
+      (sym (rw (← stands .words) at (insert-laid (length T) (decode T) (stands .formed) (stands .room) short (entry p) (plain-body (sequence-plain c (accepted c (q, e)) u)) l)))
+
+  pub removal-words : (n : ℕ) → n < 2 ^ 32 → removal T n ≡ removeByWords T n
+  unfolding removal
+  removal-words n l = rw (s, w) (sym (rw (← stands .words) at (remove-laid (length T) (decode T) (stands .formed) (stands .room) short n l)))

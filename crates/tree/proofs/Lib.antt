@@ -1,0 +1,16 @@
+pub mod Keys
+pub mod Paths
+pub mod Insert
+pub mod Remove
+pub mod Mirror
+pub mod Words
+pub mod Grow
+pub mod InsertWords
+pub mod RemoveWords
+pub mod Count
+pub mod Held
+pub mod Changes
+pub mod Plain
+pub mod Hops
+pub mod Laws
+pub mod ByWords

@@ -1,0 +1,64 @@
+-- What stands in a witness after its words are written.
+use mathlib.Core.Path.{_≡_, refl, sym, _∙_}
+use mathlib.Core.Option.{Option, none, some, Option·some-injective, Option·none-ne-some}
+use mathlib.Core.List.{List, [], _∷_, _++_, map}
+use Prim.Native.Nat.{ℕ, zero, suc, _+_, _-_, _≤_, _<_}
+use native.Mathlib.Omega.{arith}
+use lib.ListN.{length, getD, take, replicate, length-append, length-map, length-replicate, getD-replicate, List·getD-append}
+use lib.Seq.{length-take-le, getD-append-add, getD-take}
+use Rattle.clause.specs.Clause.{maxLiterals}
+use Rattle.machine.specs.Machine.{State}
+use Rattle.walk.specs.Query.{shown, written}
+use Rattle.clause.proofs.Lists.{getD-map-lt}
+
+pub written-there : (os : List (Option ℕ)) (ws : List ℕ) (i x : ℕ) → i < length ws → getD os i none ≡ some x → getD (written os ws) i 0 ≡ x
+written-there [] ws i x h e = absurd (Option·none-ne-some x e)
+written-there (o ∷ os) [] i x h e = absurd (omega arith)
+written-there (none ∷ os) (w ∷ ws) zero x h e = absurd (Option·none-ne-some x e)
+written-there (none ∷ os) (w ∷ ws) (suc i) x h e = written-there os ws i x (omega arith) e
+written-there (some y ∷ os) (w ∷ ws) zero x h e = Option·some-injective y x e
+written-there (some y ∷ os) (w ∷ ws) (suc i) x h e = written-there os ws i x (omega arith) e
+
+pub written-elsewhere : (os : List (Option ℕ)) (ws : List ℕ) (i : ℕ) → getD os i none ≡ none → getD (written os ws) i 0 ≡ getD ws i 0
+written-elsewhere [] ws i e = refl
+written-elsewhere (o ∷ os) [] i e = refl
+written-elsewhere (none ∷ os) (w ∷ ws) zero e = refl
+written-elsewhere (none ∷ os) (w ∷ ws) (suc i) e = written-elsewhere os ws i e
+written-elsewhere (some y ∷ os) (w ∷ ws) zero e = absurd (Option·none-ne-some y (sym e))
+written-elsewhere (some y ∷ os) (w ∷ ws) (suc i) e = written-elsewhere os ws i e
+
+pub length-written : (os : List (Option ℕ)) (ws : List ℕ) → length (written os ws) ≡ length ws
+length-written [] ws = refl
+length-written (o ∷ os) [] = refl
+length-written (none ∷ os) (w ∷ ws) = rw (length-written os ws)
+length-written (some y ∷ os) (w ∷ ws) = rw (length-written os ws)
+
+module _ (s : State) where
+  abbrev front : List (Option ℕ)
+  front = map some (s .chosen) ++ replicate maxLiterals none
+
+  length-front : length (take maxLiterals front) ≡ maxLiterals
+  length-front = length-take-le maxLiterals front (simp (length-append, length-map, length-replicate) (omega arith))
+
+  -- the literal for literal i stands at i
+  pub shown-literal : (i : ℕ) → length (s .chosen) ≤ maxLiterals → i < length (s .chosen) → getD (shown s) i none ≡ some (getD (s .chosen) i 0)
+  unfolding shown
+  shown-literal i h g =
+      List·getD-append (take maxLiterals front) (s .puts) none i (rw length-front (omega arith)) ∙ getD-take maxLiterals front i none (omega arith)
+      ∙ List·getD-append (map some (s .chosen)) (replicate maxLiterals none) none i (rw length-map g) ∙ getD-map-lt some (s .chosen) i 0 none g
+
+  -- nothing stands behind the literals
+  pub shown-none : (i : ℕ) → length (s .chosen) ≤ i → i < maxLiterals → getD (shown s) i none ≡ none
+  unfolding shown
+  shown-none i h g =
+      let n : ℕ = i - length (s .chosen) in
+      let e : length (map {B = Option ℕ} some (s .chosen)) + n ≡ i = rw length-map (omega arith) in
+      List·getD-append (take maxLiterals front) (s .puts) none i (rw length-front g) ∙ getD-take maxLiterals front i none g
+      ∙ rw (← e) (getD-append-add (map some (s .chosen)) (replicate maxLiterals none) n none ∙ getD-replicate maxLiterals n none none (omega arith))
+
+  -- the position for Put k stands at 8 + k
+  pub shown-position : (k : ℕ) → getD (shown s) (maxLiterals + k) none ≡ getD (s .puts) k none
+  unfolding shown
+  shown-position k =
+      let e = getD-append-add (take maxLiterals front) (s .puts) k none in
+      rw length-front at e
