@@ -6,7 +6,7 @@ use Rattle.clause.specs.Word.{kind, arity, sortBy, sort}
 use Rattle.clause.specs.Clause.{scanWord, scan, shape, before, literals, skip, term, starts}
 use Rattle.machine.specs.Instr.{key, instruction, instrOf}
 use Rattle.machine.specs.Compile.{way, wayFrom, first, repeats, compares, opening, begun, closing, act, putsAfter, sequenceFrom, sequence}
-use Rattle.machine.specs.Machine.{cursor, down, right, noPuts, noPushes, given, require, sameTerms, compareTerms, stepAt, stepFrom, step, enter, finishFrom, finish}
+use Rattle.machine.specs.Machine.{onto, down, right, unfilled, given, require, sameTerms, compareTerms, stepAt, stepFrom, step, enter, finishFrom, finish}
 use Rattle.tree.specs.Keys.{lawful}
 use Rattle.tree.specs.Forest.{layout, ins, del, find, holder}
 use Rattle.tree.specs.Laid.{region, wellLaid, decode}
@@ -16,7 +16,7 @@ use Rattle.walk.specs.Query.{shown, query}
 use Rattle.tree.specs.Calls.{fresh, insertion, removal}
 use Rattle.book.specs.Trials.{trials}
 use Rattle.book.specs.Readings.{readings}
-use Rattle.clause.specs.Positions.{jump}
+use Rattle.clause.specs.Positions.{jump, pushDue, siblings}
 
 hold : {l : List (Type 0)} → All (λ row. row) l → Hold l
 hold none = tt
@@ -24,7 +24,7 @@ hold (also h p) = (h, hold p)
 
 pub trials-hold : Hold trials
 unfolding flatMap kind arity sortBy sort scanWord scan shape before literals skip term starts key instruction instrOf way wayFrom numbersBelow first
-    repeats compares opening begun closing act putsAfter sequenceFrom sequence jump cursor down right noPuts noPushes given require sameTerms compareTerms
+    repeats compares opening begun closing act putsAfter sequenceFrom sequence jump pushDue siblings onto down right unfilled given require sameTerms compareTerms
     stepAt stepFrom step enter finishFrom finish lawful layout ins find holder region wellLaid decode insertInto extends shown query fresh
     insertion
 trials-hold =
@@ -33,7 +33,7 @@ trials-hold =
 -- so do the readings
 pub readings-hold : Hold readings
 unfolding flatMap kind arity sortBy sort scanWord scan shape before literals skip term starts key instruction instrOf way wayFrom numbersBelow first
-    repeats compares opening begun closing act putsAfter sequenceFrom sequence jump cursor down right noPuts noPushes given require sameTerms compareTerms
+    repeats compares opening begun closing act putsAfter sequenceFrom sequence jump pushDue siblings onto down right unfilled given require sameTerms compareTerms
     stepAt stepFrom step enter finishFrom finish lawful layout ins find holder region wellLaid decode insertInto extends shown query fresh
     insertion del removeFrom removal
 readings-hold =

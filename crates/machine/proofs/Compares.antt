@@ -16,7 +16,6 @@ use Rattle.machine.specs.Compile.{first, repeats, compares}
 use Rattle.machine.specs.Machine.{slots, State, Outcome, next, fails, require, compareTerms, sameTerms, stepAt, stepFrom, step, run}
 use Rattle.clause.proofs.Lists.{alike-same, alike-refl, all-flatMap, flatMap-all, all-append, all-first, all-last, all-head, all-tail}
 use Rattle.machine.proofs.Outcomes.{fails≢next}
-use Rattle.clause.specs.declared.Cursor.{Cursor}
 
 -- the numbers below n
 module _ {κ} {P : ℕ → Type κ} where
@@ -138,7 +137,7 @@ module _ (d : List ℕ) (sequence : List Instr) (js : List ℕ) (s : State) wher
 abbrev pub Consistent : List ℕ → (puts poss : List ℕ) (from : ℕ) → Type 0
 Consistent d puts poss from = (k : ℕ) → from ≤ k → k < length puts → termAt d (getD poss (first (getD puts k 0) puts) 0) ≡ termAt d (getD poss k 0)
 
-module _ (d : List ℕ) (s : State) (c : Cursor) (at : s .head ≡ some c) (m k p q : ℕ) (i : m < slots) (j : k < slots)
+module _ (d : List ℕ) (s : State) (c : ℕ) (at : s .head ≡ some c) (m k p q : ℕ) (i : m < slots) (j : k < slots)
     (e : getD (s .puts) m none ≡ some p) (f : getD (s .puts) k none ≡ some q) where
   compare-is : step d (Compare m k) s ≡ require fails (alike (termAt d p) (termAt d q)) (next s)
   unfolding step stepFrom stepAt require compareTerms sameTerms
@@ -152,7 +151,7 @@ module _ (d : List ℕ) (s : State) (c : Cursor) (at : s .head ≡ some c) (m k 
       go true t = holds (alike-same _ _ t) refl
       go false t = refuted (λ g. let u : alike (termAt d p) (termAt d q) ≡ true = rw g (alike-refl (termAt d q)) in true≢false (sym u ∙ t)) refl
 
-module _ (d : List ℕ) (sequence : List Instr) (js : List ℕ) (s : State) (c : Cursor) (at : s .head ≡ some c) (puts poss : List ℕ) (few : length puts ≤ slots)
+module _ (d : List ℕ) (sequence : List Instr) (js : List ℕ) (s : State) (c : ℕ) (at : s .head ≡ some c) (puts poss : List ℕ) (few : length puts ≤ slots)
     (filled : (i : ℕ) → i < length puts → getD (s .puts) i none ≡ some (getD poss i 0)) where
   -- one of the Compares
   one : (m k : ℕ) → m < length puts → k < length puts

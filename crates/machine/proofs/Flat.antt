@@ -18,10 +18,10 @@ use Rattle.machine.specs.Compile.{Saved, Place, ended, inside, way, wayF
 use Rattle.machine.specs.Machine.{slots, State, Outcome, fails, putting, require, stepAt, stepFrom, step, run}
 use Rattle.clause.proofs.Lists.{length-snoc}
 use Rattle.clause.proofs.Skip.{Enough}
+use Rattle.clause.proofs.Literals.{Clause}
 use Rattle.clause.proofs.Terms.{if-other, variable-arity}
-use Rattle.machine.proofs.Jump.{jump-zero, jump-word, enough-here, enough-word, enough-term}
+use Rattle.clause.proofs.Jump.{jump-zero, jump-word, enough-here, enough-word, enough-term}
 use Rattle.machine.proofs.Way.{need, after, need-way, Stands, Keeps, Moved, Onto, move}
-use Rattle.clause.specs.declared.Cursor.{Cursor}
 use Rattle.clause.specs.Positions.{jump}
 
 -- the words of a literal matched at p word by word, a variable with the whole term there: the positions of the variables
@@ -54,16 +54,16 @@ pushed-way zero (suc l) saved n = omega arith
 pushed-way zero zero (v ∷ saved) n = omega arith
 pushed-way zero zero [] n = omega arith
 
-module _ (d : List ℕ) (sequence : List Instr) (js : List ℕ) (s : State) {c : Cursor} (at : s .head ≡ some c) where
-  run-put : (k : ℕ) → k < slots → run d (Do (Put k) ∷ sequence) js s ≡ run d sequence js (putting s k (c .at))
+module _ (d : List ℕ) (sequence : List Instr) (js : List ℕ) (s : State) {c : ℕ} (at : s .head ≡ some c) where
+  run-put : (k : ℕ) → k < slots → run d (Do (Put k) ∷ sequence) js s ≡ run d sequence js (putting s k c)
   unfolding run step stepFrom stepAt require
   run-put k h = rw (at, lt-ltb k slots h)
 
-  run-check : (w : ℕ) → eqb (getD d (c .at) 0) w ≡ true → run d (Do (Check w) ∷ sequence) js s ≡ run d sequence js s
+  run-check : (w : ℕ) → eqb (getD d c 0) w ≡ true → run d (Do (Check w) ∷ sequence) js s ≡ run d sequence js s
   unfolding run step stepFrom stepAt require
   run-check w e = rw (at, e)
 
-  run-miss : (w : ℕ) → eqb (getD d (c .at) 0) w ≡ false → run d (Do (Check w) ∷ sequence) js s ≡ fails
+  run-miss : (w : ℕ) → eqb (getD d c 0) w ≡ false → run d (Do (Check w) ∷ sequence) js s ≡ fails
   unfolding run step stepFrom stepAt require
   run-miss w e = rw (at, e)
 
@@ -76,7 +76,7 @@ module _ (d rest : List ℕ) (from : ℕ) (js : List ℕ) where
     pub chosen : state .chosen ≡ s .chosen
     pub stored : state .puts ≡ sets (s .puts) k (map some ps)
     pub pushes : length (state .pushes) ≡ slots
-    pub cursor : Cursor
+    pub cursor : ℕ
     pub placed : state .head ≡ some cursor
     pub room : pushed + length rest ≤ slots
 
@@ -127,7 +127,7 @@ module _ (d rest : List ℕ) (from : ℕ) (js : List ℕ) where
   agrees-put p e (miss f) = miss (e ∙ f)
   agrees-put p e (hit {ps} a) = hit {ps = p ∷ ps} (after-from (p ∷ ps) ps e refl refl a)
 
-  module _ (w : ℕ) (ws : List ℕ) (ih : Reaches ws) (l : ℕ) (saved : List Saved) (puts : List ℕ) (n p : ℕ) where
+  module _ (D : Clause d) (w : ℕ) (ws : List ℕ) (ih : Reaches ws) (l : ℕ) (saved : List Saved) (puts : List ℕ) (n p : ℕ) where
     -- the sequence after the instruction of word w
     onward : List ℕ → List Instr
     onward puts′ =
@@ -140,7 +140,7 @@ module _ (d rest : List ℕ) (from : ℕ) (js : List ℕ) where
         → Ready (w ∷ ws) (inside l saved) puts n p s → Agrees s (length puts′) (putsAll puts′ ws) (run d (onward puts′) js s) (flat d ws q)
     unfolding onward need
     go-on q puts′ s o e h r =
-        let m : Moved d s q (way (arity w) l saved n) = move d s p q n (arity w) l saved o (omega arith) (r .pushes) (r .stands) in
+        let m : Moved d s q (way (arity w) l saved n) = move d D s p q n (enough-here d _ p (r .enough)) (arity w) l saved o (omega arith) (r .pushes) (r .stands) in
         agrees-kept (m .keeps) (m .moves _ js)
         (ih _ puts′ _ q (m .state)
         record { shaped = rw need-way (shaped-tail (r .shaped)); enough = rw need-way e; stands = m .stands; put-room = omega arith; push-room = omega (arith, pushed-way (arity w) l saved n); pushes = m .keeps .pushes ∙ r .pushes })
@@ -178,10 +178,10 @@ module _ (d rest : List ℕ) (from : ℕ) (js : List ℕ) where
         go (yes e) = rw e (reach-variable s e r)
         go (no e) = simp (if-other, e, append-nil) (reach-other s (eqb (getD d p 0) w) refl r)
 
-  pub reach : (ws : List ℕ) → Reaches ws
+  pub reach : Clause d → (ws : List ℕ) → Reaches ws
   unfolding flat putsAll closing need Stands
-  reach [] ended puts n p s r =
+  reach D [] ended puts n p s r =
       hit record { state = s; pushed = n; goes = refl; chosen = refl; stored = refl; pushes = r .pushes; cursor = r .stands .0; placed = r .stands .1; room = r .push-room }
-  reach [] (inside l saved) puts n p s r = absurd (omega (arith, shaped-nil (r .shaped)))
-  reach (w ∷ ws) ended puts n p s r = absurd (omega (arith, shaped-cons (r .shaped)))
-  reach (w ∷ ws) (inside l saved) puts n p s r = reach-word w ws (reach ws) l saved puts n p s r
+  reach D [] (inside l saved) puts n p s r = absurd (omega (arith, shaped-nil (r .shaped)))
+  reach D (w ∷ ws) ended puts n p s r = absurd (omega (arith, shaped-cons (r .shaped)))
+  reach D (w ∷ ws) (inside l saved) puts n p s r = reach-word D w ws (reach D ws) l saved puts n p s r

@@ -13,7 +13,7 @@ use Rattle.clause.proofs.Lists.{mem-index, index-mem}
 use Rattle.clause.proofs.Literals.{Clause, accepted}
 use Rattle.machine.proofs.Outcomes.{fails≢next}
 use Rattle.machine.proofs.Agree.{Agree, no-more}
-use Rattle.machine.proofs.Table.{filled, length-noPushes}
+use Rattle.machine.proofs.Table.{filled, length-unfilled}
 use Rattle.machine.proofs.Fits.{chosen, places, fits-replaces, replaces-fits}
 use Rattle.machine.proofs.Run.{Ended, succeeds, mismatch, Begins, run-literals}
 
@@ -37,7 +37,7 @@ module _ (c d : List ℕ) (C : Clause c) (D : Clause d) (js : List ℕ) (J : Cho
         few = omega arith;
         stored = refl;
         equal = refl;
-        pushes = length-noPushes;
+        pushes = length-unfilled;
         put-room = rw (C .whole) (omega arith);
         push-room = rw (C .whole) (omega arith);
         placed = λ e. absurd (C .nonempty (sym (C .whole) ∙ ap flatten e));

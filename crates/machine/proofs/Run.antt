@@ -17,13 +17,13 @@ use Rattle.clause.proofs.Skip.{shaped-enough}
 use Rattle.clause.specs.Accepted.{IsLiteral}
 use Rattle.clause.proofs.Literals.{literal-shaped, Clause}
 use Rattle.clause.proofs.Starts.{found}
+use Rattle.clause.proofs.Siblings.{rights-start}
 use Rattle.machine.proofs.Way.{need, after, Stands}
 use Rattle.machine.proofs.Flat.{flat, putsAll, After, Agrees, miss, hit, reach}
 use Rattle.machine.proofs.Compares.{Decided, holds, refuted, decided-from, Consistent, run-compares}
 use Rattle.machine.proofs.Replace.{length-vars, match-length}
 use Rattle.machine.proofs.Table.{filled, filled-more, filled-get}
 use Rattle.machine.proofs.Fits.{literal-match, Fits, fits-none, fits-also, places}
-use Rattle.clause.specs.declared.Cursor.{Cursor}
 
 -- the variables put after some words
 puts-vars : (puts ws : List ℕ) → putsAll puts ws ≡ puts ++ vars ws
@@ -42,7 +42,7 @@ run-first : (d : List ℕ) (sequence : List Instr) (s : State) (j : ℕ) (js : L
 unfolding run start enter require
 run-first d sequence s j js h = rw (lt-ltb (length (s .chosen)) maxLiterals h)
 
-run-success : (d js : List ℕ) (s : State) (c : Cursor) → s .head ≡ some c → run d [] js s ≡ next s
+run-success : (d js : List ℕ) (s : State) (c : ℕ) → s .head ≡ some c → run d [] js s ≡ next s
 unfolding run finish finishFrom
 run-success d js s c e = rw e
 
@@ -65,7 +65,7 @@ pub record Begins (ls : List (List ℕ)) (puts poss : List ℕ) (n : ℕ) (s : S
   pub pushes : length (s .pushes) ≡ slots
   pub put-room : length puts + length (flatten ls) ≤ slots
   pub push-room : n + length (flatten ls) ≤ slots
-  pub placed : ls ≡ [] → (c : Cursor) × (s .head ≡ some c)
+  pub placed : ls ≡ [] → (c : ℕ) × (s .head ≡ some c)
 
 -- what fits begins with the positions of the first literal
 fits-first : {d l : List ℕ} {ls : List (List ℕ)} {j : ℕ} {js puts poss : List ℕ} (ps : List ℕ) → flat d l (startOf d j) ≡ some ps
@@ -99,11 +99,11 @@ module _ (d : List ℕ) (D : Clause d) where
     unfolding need after Stands closing flatten
     literal-reached =
         let (r, f) = found d j J in
-        reach d (flatten ls) (length puts) js l (inside 0 []) puts n (startOf d j) (starting d s j)
+        reach d (flatten ls) (length puts) js D l (inside 0 []) puts n (startOf d j) (starting d s j)
         record {
           shaped = literal-shaped L;
           enough = rw f (shaped-enough (literal-shaped (all-get (literals d) (D .all) j [] J)) r);
-          stands = (refl, tt);
+          stands = (refl, rights-start d D j J, tt);
           put-room = B .put-room;
           push-room = B .push-room;
           pushes = B .pushes;

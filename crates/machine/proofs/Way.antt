@@ -12,10 +12,11 @@ use borrow.Author.Tests.{lt-ltb}
 use Rattle.clause.specs.Word.{arity}
 use Rattle.machine.specs.Instr.{Push, Down, Right, Pop, Instr, Do}
 use Rattle.machine.specs.Compile.{Saved, Place, ended, inside, Way, way}
-use Rattle.machine.specs.Machine.{slots, cursor, down, right, State, headed, pushing, given, require, stepAt, stepFrom, step, run}
-use Rattle.machine.proofs.Jump.{jump-zero, jump-suc}
-use Rattle.clause.specs.declared.Cursor.{Cursor}
-use Rattle.clause.specs.Positions.{jump}
+use Rattle.machine.specs.Machine.{slots, onto, down, right, State, headed, pushing, given, require, stepAt, stepFrom, step, run}
+use Rattle.clause.proofs.Jump.{jump-zero, jump-suc}
+use Rattle.clause.specs.Positions.{jump, rights}
+use Rattle.clause.proofs.Literals.{Clause}
+use Rattle.clause.proofs.Siblings.{rights-down, rights-right}
 
 -- how many terms of the literal come after the one at hand, and how many with it
 unfoldable pub after : ℕ → List Saved → ℕ
@@ -42,27 +43,27 @@ need-way zero zero (v ∷ saved) n = simp zero-add
 need-way zero zero [] n = simp zero-add
 
 -- the pushed positions, the latest at e: each lies past the terms that come before it
-abbrev pub Stacked : List ℕ → List (Option Cursor) → (n e : ℕ) → List Saved → Type 0
+abbrev pub Stacked : List ℕ → List (Option ℕ) → (n e : ℕ) → List Saved → Type 0
 Stacked d pushes n e [] = Unit {0}
 Stacked d pushes n e (v ∷ saved) =
-    (v .slot < n) × (getD pushes (v .slot) none ≡ some (record { at = e; left = v .left })) × Stacked d pushes n (jump d (suc (v .left)) e) saved
+    (v .slot < n) × (getD pushes (v .slot) none ≡ some e) × (rights d e ≡ v .left) × Stacked d pushes n (jump d (suc (v .left)) e) saved
 
 -- a push under a new number leaves the others
-stacked-push : (d : List ℕ) (pushes : List (Option Cursor)) (n e : ℕ) (saved : List Saved) (c : Option Cursor) → Stacked d pushes n e saved
+stacked-push : (d : List ℕ) (pushes : List (Option ℕ)) (n e : ℕ) (saved : List Saved) (c : Option ℕ) → Stacked d pushes n e saved
     → Stacked d (set pushes n c) (suc n) e saved
 stacked-push d pushes n e [] c h = tt
 stacked-push d pushes n e (v ∷ saved) c h =
     let g : v .slot < n = h .0 in
     let o : v .slot ≢ n = omega arith in
-    (omega arith, rw getD-set-other (h .1), stacked-push d pushes n (jump d (suc (v .left)) e) saved c (h .2))
+    (omega arith, rw getD-set-other (h .1), h .2, stacked-push d pushes n (jump d (suc (v .left)) e) saved c (h .3))
 
 -- the machine stands at position p, at a place of the literal
 unfoldable pub Stands : List ℕ → State → (n p : ℕ) → Place → Type 0
-Stands d s n p ended = (c : Cursor) × (s .head ≡ some c)
-Stands d s n p (inside l saved) = (s .head ≡ some (record { at = p; left = l })) × Stacked d (s .pushes) n (jump d (suc l) p) saved
+Stands d s n p ended = (c : ℕ) × (s .head ≡ some c)
+Stands d s n p (inside l saved) = (s .head ≡ some p) × (rights d p ≡ l) × Stacked d (s .pushes) n (jump d (suc l) p) saved
 
 -- one instruction of a way
-module _ (d : List ℕ) (sequence : List Instr) (js : List ℕ) (s : State) {c c′ : Cursor} (at : s .head ≡ some c) where
+module _ (d : List ℕ) (sequence : List Instr) (js : List ℕ) (s : State) {c c′ : ℕ} (at : s .head ≡ some c) where
   run-down : down d c ≡ some c′ → run d (Do Down ∷ sequence) js s ≡ run d sequence js (headed s c′)
   unfolding run step stepFrom stepAt given
   run-down e = rw (at, e)
@@ -97,51 +98,65 @@ pub record Onto (d : List ℕ) (a p q : ℕ) : Type 0 where
   pub spans : jump d a q ≡ jump d 1 p
   pub steps : (b : ℕ) → a ≡ suc b → (q ≡ suc p) × (arity (getD d p 0) ≡ a)
 
-down-is : (d : List ℕ) (c : Cursor) (a : ℕ) → arity (getD d (c .at) 0) ≡ suc a → down d c ≡ some (record { at = suc (c .at); left = a })
-unfolding down cursor
-down-is d c a e = rw e
+down-is : (d : List ℕ) (p a : ℕ) → arity (getD d p 0) ≡ suc a → down d p ≡ some (suc p)
+unfolding down onto
+down-is d p a e = rw e
+
+right-is : (d : List ℕ) (p l : ℕ) → rights d p ≡ suc l → right d p ≡ some (jump d 1 p)
+unfolding right onto
+right-is d p l e = rw e
 
 lands : {d : List ℕ} {p q : ℕ} → Onto d 0 p q → q ≡ jump d 1 p
 lands {d} {p} {q} o = sym (jump-zero d q) ∙ o .spans
 
-kept : (s : State) (c : Cursor) → Keeps s (headed s c)
+kept : (s : State) (c : ℕ) → Keeps s (headed s c)
 kept s c = record { chosen = refl; puts = refl; pushes = refl }
 
-module _ (d : List ℕ) (s : State) (p q n : ℕ) where
+module _ (d : List ℕ) (D : Clause d) (s : State) (p q n : ℕ) (h : p < length d) where
   pub move : (a l : ℕ) (saved : List Saved) → Onto d a p q → n < slots → length (s .pushes) ≡ slots → Stands d s n p (inside l saved)
       → Moved d s q (way a l saved n)
-  unfolding Stands way right cursor
-  move (suc a) (suc l) saved o h g st =
-      let c : Cursor = record { at = jump d 1 p; left = l } in
+  unfolding Stands way
+  move (suc a) (suc l) saved o room g st =
+      let r = jump d 1 p in
       let (is-next, is-arity) = o .steps a refl in
       record {
-        state = headed (pushing s n c) (record { at = suc p; left = a });
-        moves = λ sequence js. run-push d (Do Down ∷ sequence) js s (st .0) n h refl ∙ run-down d sequence js (pushing s n c) (st .0) (down-is d _ a is-arity);
-        stands =
-            (rw is-next, (omega arith, rw (o .spans) (getD-set-same (s .pushes) n (some c) none (omega arith)), rw (o .spans) (stacked-push d (s .pushes) n _ saved (some c) (rw jump-suc at (st .1)))));
-        keeps = record { chosen = refl; puts = refl; pushes = length-set (s .pushes) n (some c) };
+        state = headed (pushing s n r) (suc p);
+        moves =
+            λ sequence js. run-push d (Do Down ∷ sequence) js s (st .0) n room (right-is d p l (st .1))
+            ∙ run-down d sequence js (pushing s n r) (st .0) (down-is d p a is-arity);
+        stands = (
+          rw is-next,
+          rw is-next (rights-down d D p a h is-arity),
+          (
+            omega arith,
+            rw (o .spans) (getD-set-same (s .pushes) n (some r) none (omega arith)),
+            rw (o .spans) (rights-right d D p l h (st .1)),
+            rw (o .spans) (stacked-push d (s .pushes) n _ saved (some r) (rw jump-suc at (st .2))),
+          ),
+        );
+        keeps = record { chosen = refl; puts = refl; pushes = length-set (s .pushes) n (some r) };
       }
-  move (suc a) zero saved o h g st =
+  move (suc a) zero saved o room g st =
       let (is-next, is-arity) = o .steps a refl in
       record {
-        state = headed s (record { at = suc p; left = a });
-        moves = λ sequence js. run-down d sequence js s (st .0) (down-is d _ a is-arity);
-        stands = (rw is-next, rw (o .spans) (st .1));
+        state = headed s (suc p);
+        moves = λ sequence js. run-down d sequence js s (st .0) (down-is d p a is-arity);
+        stands = (rw is-next, rw is-next (rights-down d D p a h is-arity), rw (o .spans) (st .2));
         keeps = kept s _;
       }
-  move zero (suc l) saved o h g st =
+  move zero (suc l) saved o room g st =
       record {
-        state = headed s (record { at = jump d 1 p; left = l });
-        moves = λ sequence js. run-right d sequence js s (st .0) refl;
-        stands = (rw (lands o), rw (lands o) (rw jump-suc at (st .1)));
+        state = headed s (jump d 1 p);
+        moves = λ sequence js. run-right d sequence js s (st .0) (right-is d p l (st .1));
+        stands = (rw (lands o), rw (lands o) (rights-right d D p l h (st .1)), rw (lands o) (rw jump-suc at (st .2)));
         keeps = kept s _;
       }
-  move zero zero (v ∷ saved) o h g st =
+  move zero zero (v ∷ saved) o room g st =
       record {
-        state = headed s (record { at = jump d 1 p; left = v .left });
-        moves = λ sequence js. run-pop d sequence js s (st .0) (v .slot) (omega arith) (st .1 .1);
-        stands = (rw (lands o), rw (lands o) (st .1 .2));
+        state = headed s (jump d 1 p);
+        moves = λ sequence js. run-pop d sequence js s (st .0) (v .slot) (omega arith) (st .2 .1);
+        stands = (rw (lands o), rw (lands o) (st .2 .2), rw (lands o) (st .2 .3));
         keeps = kept s _;
       }
-  move zero zero [] o h g st =
+  move zero zero [] o room g st =
       record { state = s; moves = λ sequence js. refl; stands = (_, st .0); keeps = record { chosen = refl; puts = refl; pushes = refl } }

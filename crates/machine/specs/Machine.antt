@@ -2,51 +2,46 @@
 use mathlib.Core.Bool.{Bool, true, false}
 use mathlib.Core.Option.{Option, none, some}
 use mathlib.Core.List.{List, [], _∷_, _++_}
-use Prim.Native.Nat.{ℕ, zero, suc, _+_}
-use lib.ListN.{length, getD, drop, set, replicate}
+use Prim.Native.Nat.{ℕ, zero, suc}
+use lib.ListN.{length, getD, set, replicate}
 use lib.Dec.{ltb, eqb}
 use Rattle.clause.specs.Word.{arity}
-use Rattle.clause.specs.Positions.{jump}
-use Rattle.clause.specs.Clause.{skip, termAt, startOf, maxLiterals}
+use Rattle.clause.specs.Positions.{jump, rights}
+use Rattle.clause.specs.Clause.{termAt, startOf, maxLiterals}
 use Rattle.clause.specs.Lists.{alike}
 use Rattle.machine.specs.Instr.{Step, Down, Right, Put, Push, Pop, Check, Compare, Instr, First, Do, Success}
-use Rattle.clause.specs.declared.Cursor.{Cursor}
 
 -- how many put and how many pushed positions there are
 abbrev pub slots : ℕ
 slots = 64
 
--- the first of `count` siblings, at a position
-unfoldable pub cursor : (at count : ℕ) → Option Cursor
-cursor at zero = none
-cursor at (suc l) = some (record { at = at; left = l })
+-- a position, where there is a term to stand at
+unfoldable pub onto : (terms at : ℕ) → Option ℕ
+onto zero at = none
+onto (suc n) at = some at
 
 -- to the first argument
-unfoldable pub down : List ℕ → Cursor → Option Cursor
-down d c = cursor (suc (c .at)) (arity (getD d (c .at) 0))
+unfoldable pub down : List ℕ → ℕ → Option ℕ
+down d p = onto (arity (getD d p 0)) (suc p)
 
--- to the next argument of the same symbol
-unfoldable pub right : List ℕ → Cursor → Option Cursor
-right d c = cursor (jump d 1 (c .at)) (c .left)
+-- to the right sibling
+unfoldable pub right : List ℕ → ℕ → Option ℕ
+right d p = onto (rights d p) (jump d 1 p)
 
 -- the candidates so far, the head, and the put and pushed positions
 pub record State : Type 0 where
   pub chosen : List ℕ
-  pub head : Option Cursor
+  pub head : Option ℕ
   pub puts : List (Option ℕ)
-  pub pushes : List (Option Cursor)
+  pub pushes : List (Option ℕ)
 
--- no position put
-unfoldable pub noPuts : List (Option ℕ)
-noPuts = replicate slots none
-
--- no position pushed
-unfoldable pub noPushes : List (Option Cursor)
-noPushes = replicate slots none
+-- no position put or pushed
+unfoldable pub unfilled : List (Option ℕ)
+unfilled = replicate slots none
 
 -- the state before the first candidate
 abbrev pub initial : State
-initial = record { chosen = []; head = none; puts = noPuts; pushes = noPushes }
+initial = record { chosen = []; head = none; puts = unfilled; pushes = unfilled }
 
 -- what a step comes to: the next state, a mismatch, or a step that cannot be taken
 pub data Outcome (S : Type 0) : Type 0 where
@@ -60,21 +55,21 @@ bind fails f = fails
 bind stuck f = stuck
 
 -- a state with another head
-abbrev pub headed : State → Cursor → State
-headed s c = record { chosen = s .chosen; head = some c; puts = s .puts; pushes = s .pushes }
+abbrev pub headed : State → ℕ → State
+headed s p = record { chosen = s .chosen; head = some p; puts = s .puts; pushes = s .pushes }
 
 -- with position p for Put k
 abbrev pub putting : State → ℕ → ℕ → State
 putting s k p = record { chosen = s .chosen; head = s .head; puts = set (s .puts) k (some p); pushes = s .pushes }
 
--- with a position for Push n
-abbrev pub pushing : State → ℕ → Cursor → State
-pushing s n c = record { chosen = s .chosen; head = s .head; puts = s .puts; pushes = set (s .pushes) n (some c) }
+-- with position p for Push n
+abbrev pub pushing : State → ℕ → ℕ → State
+pushing s n p = record { chosen = s .chosen; head = s .head; puts = s .puts; pushes = set (s .pushes) n (some p) }
 
 -- go on with a position if there is one
-unfoldable pub given : Option Cursor → (Cursor → State) → Outcome State
+unfoldable pub given : Option ℕ → (ℕ → State) → Outcome State
 given none f = stuck
-given (some c) f = next (f c)
+given (some p) f = next (f p)
 
 -- go on if the test passes
 unfoldable pub require : Outcome State → Bool → Outcome State → Outcome State
@@ -95,20 +90,20 @@ compareTerms d s none q = stuck
 compareTerms d s (some p) none = stuck
 compareTerms d s (some p) (some q) = require fails (sameTerms d p q) (next s)
 
--- one step with the head at a position
-unfoldable pub stepAt : List ℕ → Step → State → Cursor → Outcome State
-stepAt d Down s c = given (down d c) (headed s)
-stepAt d Right s c = given (right d c) (headed s)
-stepAt d (Put k) s c = within k (next (putting s k (c .at)))
-stepAt d (Push n) s c = within n (given (right d c) (pushing s n))
-stepAt d (Pop n) s c = within n (given (getD (s .pushes) n none) (headed s))
-stepAt d (Check w) s c = require fails (eqb (getD d (c .at) 0) w) (next s)
-stepAt d (Compare m k) s c = within m (within k (compareTerms d s (getD (s .puts) m none) (getD (s .puts) k none)))
+-- one step with the head at position p
+unfoldable pub stepAt : List ℕ → Step → State → ℕ → Outcome State
+stepAt d Down s p = given (down d p) (headed s)
+stepAt d Right s p = given (right d p) (headed s)
+stepAt d (Put k) s p = within k (next (putting s k p))
+stepAt d (Push n) s p = within n (given (right d p) (pushing s n))
+stepAt d (Pop n) s p = within n (given (getD (s .pushes) n none) (headed s))
+stepAt d (Check w) s p = require fails (eqb (getD d p 0) w) (next s)
+stepAt d (Compare m k) s p = within m (within k (compareTerms d s (getD (s .puts) m none) (getD (s .puts) k none)))
 
 -- before a candidate no step can be taken
-unfoldable pub stepFrom : List ℕ → Step → State → Option Cursor → Outcome State
+unfoldable pub stepFrom : List ℕ → Step → State → Option ℕ → Outcome State
 stepFrom d x s none = stuck
-stepFrom d x s (some c) = stepAt d x s c
+stepFrom d x s (some p) = stepAt d x s p
 
 -- one step
 unfoldable pub step : List ℕ → Step → State → Outcome State
@@ -116,7 +111,7 @@ step d x s = stepFrom d x s (s .head)
 
 -- literal j as the next candidate
 abbrev pub starting : List ℕ → State → ℕ → State
-starting d s j = record { chosen = s .chosen ++ (j ∷ []); head = some (record { at = startOf d j; left = 0 }); puts = s .puts; pushes = s .pushes }
+starting d s j = record { chosen = s .chosen ++ (j ∷ []); head = some (startOf d j); puts = s .puts; pushes = s .pushes }
 
 -- First with literal j: a ninth cannot be taken. It never fails: that outcome, of a literal that is passed over uncounted, is there only for
 -- machines that do not take a literal twice
@@ -124,9 +119,9 @@ unfoldable pub enter : List ℕ → ℕ → State → Outcome State
 enter d j s = require stuck (ltb (length (s .chosen)) maxLiterals) (next (starting d s j))
 
 -- Success with the head, if there is one
-unfoldable pub finishFrom : State → Option Cursor → Outcome State
+unfoldable pub finishFrom : State → Option ℕ → Outcome State
 finishFrom s none = stuck
-finishFrom s (some c) = next s
+finishFrom s (some p) = next s
 
 -- Success, which cannot come before a candidate
 unfoldable pub finish : State → Outcome State
