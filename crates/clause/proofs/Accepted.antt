@@ -6,182 +6,22 @@ use mathlib.Core.List.{List, [], _∷_, _++_, flatten, append-assoc, append-nil}
 use Prim.Native.Nat.{ℕ, zero, suc, _+_, _≤_, _<_}
 use native.Mathlib.Omega.{arith}
 use native.Mathlib.Decide.{decLt}
-use lib.ListN.{length, getD, take, drop, replicate, length-append, take-append-drop}
+use lib.ListN.{length, getD, take, drop, take-append-drop}
 use lib.Seq.{drop-cons, length-take-le, take-take}
 use lib.Dec.{ltb}
-use borrow.Author.Tests.{ltb-true, ltb-false, lt-ltb, le-ltb}
+use borrow.Author.Tests.{ltb-true, ltb-false, le-ltb}
 use Rattle.clause.specs.Lists.{All, none, also}
-use Rattle.clause.specs.Word.{arity, Sort, symbol, variable, head, wrong, sort, kind, sortBy}
-use Rattle.clause.specs.Clause.{scanWord, scan, shape, Accepted, maxLiterals, maxWords, before, literals, term, Shaped, end, next-word, Inner, Inside}
+use Rattle.clause.specs.Word.{arity, Sort, symbol, variable, head, wrong, sort}
+use Rattle.clause.specs.Clause.{scanWord, scan, shape, Accepted, maxLiterals, maxWords, before, literals, term, Inner}
 use Rattle.clause.specs.Accepted.{IsLiteral, Literals, Fits, IsClause, Rules, Begins, Breaks, IsNinth, ClauseLaws}
-use Rattle.clause.proofs.Literals.{read, joined, shaped-zero, before-head, literals-head, before-inside, literals-inside}
+use Rattle.clause.proofs.Literals.{before-head, literals-head, before-inside, literals-inside}
 use Rattle.clause.proofs.Skip.{first-shaped}
 use Rattle.clause.proofs.Starts.{found}
 use Rattle.clause.specs.declared.Fault.the-variants.{BadLength, Bad, Ninth}
 use Rattle.clause.specs.declared.Shape.{Shape}
 use Rattle.clause.specs.declared.Shape.the-variants.{Faulty, Whole}
-
--- ---- one word of the reading
-
-scan-inside : (w : ℕ) (s : Sort) → sort w ≡ s → Inside s → (k lits at : ℕ) (xs : List ℕ) → scan (w ∷ xs) (suc k) lits at ≡ scan xs (arity w + k) lits (suc at)
-unfolding scan scanWord
-scan-inside w symbol e i k lits at xs = rw e
-scan-inside w variable e i k lits at xs = rw e
-scan-inside w head e i k lits at xs = absurd i
-scan-inside w wrong e i k lits at xs = absurd i
-
-scan-head : (w : ℕ) → sort w ≡ head → (lits at : ℕ) → lits < maxLiterals → (xs : List ℕ) → scan (w ∷ xs) 0 lits at ≡ scan xs (arity w) (suc lits) (suc at)
-unfolding scan scanWord
-scan-head w e lits at h xs = rw (e, lt-ltb lits maxLiterals h)
-
--- ---- whole literals are read
-
-scan-args : {k : ℕ} {args : List ℕ} → Shaped k args → Inner args → (lits at : ℕ) (rest : List ℕ)
-    → scan (args ++ rest) k lits at ≡ scan rest 0 lits (at + length args)
-scan-args end i lits at rest = ap (scan rest 0 lits) (omega arith)
-scan-args (next-word {w = w} {k = k} {ws = ws} h) (also j i) lits at rest =
-    scan-inside w (sort w) refl j k lits at (ws ++ rest) ∙ scan-args h i lits (suc at) rest ∙ ap (scan rest 0 lits) (omega arith)
-
-scan-literal : {l : List ℕ} → IsLiteral l → (lits at : ℕ) → lits < maxLiterals → (rest : List ℕ)
-    → scan (l ++ rest) 0 lits at ≡ scan rest 0 (suc lits) (at + length l)
-scan-literal L lits at h rest =
-    rw (L .parts)
-    (scan-head (L .top) (L .top-head) lits at h (L .args ++ rest) ∙ scan-args (L .args-shaped) (L .args-inner) (suc lits) (suc at) rest ∙ ap (scan rest 0 (suc lits)) (omega arith))
-
-scan-literals : {ls : List (List ℕ)} → All IsLiteral ls → (lits at : ℕ) → lits + length ls ≤ maxLiterals → (rest : List ℕ)
-    → scan (flatten ls ++ rest) 0 lits at ≡ scan rest 0 (lits + length ls) (at + length (flatten ls))
-unfolding flatten
-scan-literals none lits at h rest =
-    let e : at ≡ at + 0 = omega arith in
-    let f : lits ≡ lits + 0 = omega arith in
-    rw (← e, ← f)
-scan-literals (also {x = l} {xs = ls} L p) lits at h rest =
-    let e : at + length l + length (flatten ls) ≡ at + (length l + length (flatten ls)) = omega arith in
-    let f : suc lits + length ls ≡ lits + suc (length ls) = omega arith in
-    rw (append-assoc l (flatten ls) rest, length-append, ← e, ← f)
-    (scan-literal L lits at (omega arith) (flatten ls ++ rest) ∙ scan-literals p (suc lits) (at + length l) (omega arith) rest)
-
-literals-scan : (ws : List ℕ) (n : ℕ) → Literals ws n → n ≤ maxLiterals → (rest : List ℕ) → scan (ws ++ rest) 0 0 0 ≡ scan rest 0 n (length ws)
-literals-scan ws n L h rest =
-    let e : 0 + length (L .parts) ≡ n = omega (arith, L .count) in
-    let f : 0 + length (flatten (L .parts)) ≡ length ws = omega (arith, ap length (L .joined)) in
-    let g : scan (flatten (L .parts) ++ rest) 0 0 0 ≡ scan rest 0 n (length ws) = rw (← e, ← f) (scan-literals (L .each) 0 0 (omega (arith, L .count)) rest) in
-    rw (L .joined) at g
-
-whole-literals : (ws : List ℕ) (n : ℕ) → Literals ws n → n ≤ maxLiterals → scan ws 0 0 0 ≡ Whole n
-unfolding scan
-whole-literals ws n L h = rw (append-nil ws) at (literals-scan ws n L h [])
-
--- what is read whole is literals
-literals-whole : (ws : List ℕ) (n : ℕ) → scan ws 0 0 0 ≡ Whole n → Literals ws n × (n ≤ maxLiterals)
-literals-whole ws n e =
-    let r = read ws 0 0 0 n (omega arith) e in
-    (record { parts = literals ws; each = r .rest-literals; joined = ap (λ (l : List ℕ). l ++ flatten (literals ws)) (sym (shaped-zero (r .rest-shaped) refl)) ∙ joined ws; count = omega (arith, r .counted) }, r .few)
-
--- ---- where the reading stops
-
--- a variable
-filler : ℕ
-filler = 0x4000
-
-filled : (k lits at : ℕ) → scan (replicate k filler) k lits at ≡ Whole lits
-unfolding scan filler sort sortBy kind arity
-filled zero lits at = refl
-filled (suc k) lits at = let e : 0 + k ≡ k = omega arith in scan-inside filler variable refl tt k lits at (replicate k filler) ∙ rw e (filled k lits (suc at))
-
--- two shapes that are apart
-apart : {A : Type 0} → _≡_ {A = ℕ} 0 1 → A
-apart z = absurd (omega arith)
-
--- the reading stops i words on: the words before can be made whole, and not with the one there
-record Stops (ws : List ℕ) (need lits p q : ℕ) : Type 0 where
-  i : ℕ
-  place : q ≡ p + i
-  inside : i ≤ length ws
-  more : List ℕ
-  n : ℕ
-  completed : scan (take i ws ++ more) need lits p ≡ Whole n
-  broken : i < length ws → (more : List ℕ) (n : ℕ) → scan (take (suc i) ws ++ more) need lits p ≡ Whole n → ⊥
-
-stops-here : (w : ℕ) (ws : List ℕ) (need lits p q : ℕ) → ((xs : List ℕ) → scan (w ∷ xs) need lits p ≡ Faulty (Bad p)) → p ≡ q → Stops (w ∷ ws) need lits p q
-stops-here w ws need lits p q f e =
-    record { i = 0; place = omega arith; inside = omega arith; more = replicate need filler; n = lits; completed = filled need lits p; broken = λ h more n u. let v = f more in apart cc }
-
-stops-later : (w : ℕ) (ws : List ℕ) (need lits p q need′ lits′ : ℕ) → ((xs : List ℕ) → scan (w ∷ xs) need lits p ≡ scan xs need′ lits′ (suc p)) → Stops ws need′ lits′ (suc p) q
-    → Stops (w ∷ ws) need lits p q
-stops-later w ws need lits p q need′ lits′ f s =
-    record {
-      i = suc (s .i);
-      place = omega (arith, s .place);
-      inside = omega (arith, s .inside);
-      more = s .more;
-      n = s .n;
-      completed = f (take (s .i) ws ++ s .more) ∙ s .completed;
-      broken = λ h more n u. s .broken (omega arith) more n (sym (f (take (suc (s .i)) ws ++ more)) ∙ u);
-    }
-
-stops : (ws : List ℕ) (need lits p q : ℕ) → scan ws need lits p ≡ Faulty (Bad q) → Stops ws need lits p q
-unfolding scan scanWord
-stops [] zero lits p q e = apart cc
-stops [] (suc k) lits p q e =
-    let z : p ≡ q = cc in
-    record { i = 0; place = omega arith; inside = omega arith; more = replicate (suc k) filler; n = lits; completed = filled (suc k) lits p; broken = λ h. absurd (omega arith) }
-stops (w ∷ ws) need lits p q e = go (sort w) need refl e (stops ws)
-  where
-    go : (s : Sort) (need : ℕ) → sort w ≡ s → scanWord s (arity w) need lits p (scan ws) ≡ Faulty (Bad q)
-        → ((need lits p q : ℕ) → scan ws need lits p ≡ Faulty (Bad q) → Stops ws need lits p q) → Stops (w ∷ ws) need lits p q
-    go symbol zero u e ih = stops-here w ws 0 lits p q (λ xs. rw u) cc
-    go symbol (suc k) u e ih = stops-later w ws (suc k) lits p q (arity w + k) lits (scan-inside w symbol u tt k lits p) (ih (arity w + k) lits (suc p) q e)
-    go variable zero u e ih = stops-here w ws 0 lits p q (λ xs. rw u) cc
-    go variable (suc k) u e ih = stops-later w ws (suc k) lits p q (arity w + k) lits (scan-inside w variable u tt k lits p) (ih (arity w + k) lits (suc p) q e)
-    go wrong zero u e ih = stops-here w ws 0 lits p q (λ xs. rw u) cc
-    go wrong (suc k) u e ih = stops-here w ws (suc k) lits p q (λ xs. rw u) cc
-    go head (suc k) u e ih = stops-here w ws (suc k) lits p q (λ xs. rw u) cc
-    go head zero u e ih = room (ltb lits maxLiterals) refl e
-      where
-        room : (b : Bool) → ltb lits maxLiterals ≡ b → cond b (scan ws (arity w) (suc lits) (suc p)) (Faulty (Ninth p)) ≡ Faulty (Bad q) → Stops (w ∷ ws) 0 lits p q
-        room true v e′ = stops-later w ws 0 lits p q (arity w) (suc lits) (scan-head w u lits p (ltb-true lits maxLiterals v)) (ih (arity w) (suc lits) (suc p) q e′)
-        room false v e′ = apart cc
-
--- the reading meets a ninth head i words on: those before are whole
-record Meets (ws : List ℕ) (need lits p q : ℕ) : Type 0 where
-  i : ℕ
-  place : q ≡ p + i
-  inside : i < length ws
-  whole : scan (take i ws) need lits p ≡ Whole maxLiterals
-  top : sort (getD ws i 0) ≡ head
-
-meets-later : (w : ℕ) (ws : List ℕ) (need lits p q need′ lits′ : ℕ) → ((xs : List ℕ) → scan (w ∷ xs) need lits p ≡ scan xs need′ lits′ (suc p)) → Meets ws need′ lits′ (suc p) q
-    → Meets (w ∷ ws) need lits p q
-meets-later w ws need lits p q need′ lits′ f s =
-    record { i = suc (s .i); place = omega (arith, s .place); inside = omega (arith, s .inside); whole = f (take (s .i) ws) ∙ s .whole; top = s .top }
-
-meets : (ws : List ℕ) (need lits p q : ℕ) → lits ≤ maxLiterals → scan ws need lits p ≡ Faulty (Ninth q) → Meets ws need lits p q
-unfolding scan scanWord
-meets [] zero lits p q h e = apart cc
-meets [] (suc k) lits p q h e = apart cc
-meets (w ∷ ws) need lits p q h e = go (sort w) need refl e (meets ws)
-  where
-    go : (s : Sort) (need : ℕ) → sort w ≡ s → scanWord s (arity w) need lits p (scan ws) ≡ Faulty (Ninth q)
-        → ((need lits p q : ℕ) → lits ≤ maxLiterals → scan ws need lits p ≡ Faulty (Ninth q) → Meets ws need lits p q) → Meets (w ∷ ws) need lits p q
-    go symbol zero u e ih = apart cc
-    go symbol (suc k) u e ih = meets-later w ws (suc k) lits p q (arity w + k) lits (scan-inside w symbol u tt k lits p) (ih (arity w + k) lits (suc p) q h e)
-    go variable zero u e ih = apart cc
-    go variable (suc k) u e ih = meets-later w ws (suc k) lits p q (arity w + k) lits (scan-inside w variable u tt k lits p) (ih (arity w + k) lits (suc p) q h e)
-    go wrong zero u e ih = apart cc
-    go wrong (suc k) u e ih = apart cc
-    go head (suc k) u e ih = apart cc
-    go head zero u e ih = room (ltb lits maxLiterals) refl e
-      where
-        room : (b : Bool) → ltb lits maxLiterals ≡ b → cond b (scan ws (arity w) (suc lits) (suc p)) (Faulty (Ninth p)) ≡ Faulty (Ninth q) → Meets (w ∷ ws) 0 lits p q
-        room true v e′ =
-            meets-later w ws 0 lits p q (arity w) (suc lits) (scan-head w u lits p (ltb-true lits maxLiterals v)) (ih (arity w) (suc lits) (suc p) q (ltb-true lits maxLiterals v) e′)
-        room false v e′ =
-            let z : p ≡ q = cc in
-            let l : lits ≡ maxLiterals = omega (arith, ltb-false lits maxLiterals v) in
-            record { i = 0; place = omega arith; inside = omega arith; whole = ap Whole l; top = u }
-
--- ---- from the length on
+use Rattle.clause.proofs.Reading.{literals-scan, whole-literals, literals-whole}
+use Rattle.clause.proofs.Faults.{apart, Stops, stops, Meets, meets}
 
 -- the shape of 1 to 64 words is what the reading finds
 fits-shape : (ws : List ℕ) → Fits ws → shape ws ≡ scan ws 0 0 0
