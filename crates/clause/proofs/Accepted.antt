@@ -20,7 +20,7 @@ use Rattle.clause.proofs.Starts.{found}
 use Rattle.clause.specs.declared.Fault.the-variants.{BadLength, Bad, Ninth}
 use Rattle.clause.specs.declared.Shape.{Shape}
 use Rattle.clause.specs.declared.Shape.the-variants.{Faulty, Whole}
-use Rattle.clause.proofs.Reading.{literals-scan, whole-literals, literals-whole}
+use Rattle.clause.proofs.Whole.{literals-scan, whole-literals, literals-whole}
 use Rattle.clause.proofs.Faults.{apart, Stops, stops, Meets, meets}
 
 -- the shape of 1 to 64 words is what the reading finds

@@ -11,7 +11,7 @@ use Rattle.clause.specs.Word.{arity, Sort, symbol, variable, head, wrong
 use Rattle.clause.specs.Clause.{scanWord, scan, maxLiterals}
 use Rattle.clause.specs.declared.Fault.the-variants.{Bad, Ninth}
 use Rattle.clause.specs.declared.Shape.the-variants.{Faulty, Whole}
-use Rattle.clause.proofs.Reading.{scan-inside, scan-head}
+use Rattle.clause.proofs.Whole.{scan-inside, scan-head}
 
 -- a variable
 filler : ℕ
