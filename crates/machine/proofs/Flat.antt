@@ -19,7 +19,7 @@ use Rattle.machine.specs.Machine.{slots, State, Outcome, fails, putting,
 use Rattle.clause.proofs.Lists.{length-snoc}
 use Rattle.clause.proofs.Skip.{Enough}
 use Rattle.clause.proofs.Terms.{if-other, variable-arity}
-use Rattle.machine.proofs.Jump.{jump-zero, jump-word, enough-here, enough-word, enough-term}
+use Rattle.clause.proofs.Jump.{jump-zero, jump-word, enough-here, enough-word, enough-term}
 use Rattle.machine.proofs.Way.{need, after, need-way, Stands, Keeps, Moved, Onto, move}
 use Rattle.clause.specs.declared.Cursor.{Cursor}
 use Rattle.clause.specs.Positions.{jump}

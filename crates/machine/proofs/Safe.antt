@@ -2,7 +2,7 @@
 use mathlib.Core.Path.{_≡_, refl, sym, ap, _∙_, subst}
 use mathlib.Core.Option.{Option, none, some, Option·some-injective, Option·none-ne-some}
 use mathlib.Core.Bool.{Bool, true, false}
-use mathlib.Core.List.{List, []}
+use mathlib.Core.List.{List}
 use Prim.Native.Nat.{ℕ, zero, suc, _<_}
 use native.Mathlib.Decide.{ℕ-discrete, decLt}
 use native.Mathlib.Omega.{arith}
@@ -11,13 +11,12 @@ use lib.Seq.{getD-set-same, getD-set-other, set-out}
 use Rattle.clause.specs.Clause.{literals, startOf}
 use Rattle.machine.specs.Instr.{Step, Down, Right, Put, Push, Pop, Check, Compare}
 use Rattle.machine.specs.Machine.{cursor, down, right, State, initial, headed, pushing, given, Outcome, next, fails, stuck, require, compareTerms, stepAt, stepFrom, step, starting}
-use Rattle.clause.proofs.Lists.{all-get}
-use Rattle.clause.proofs.Skip.{Enough, shaped-enough, enough-fewer}
-use Rattle.clause.proofs.Literals.{literal-shaped, Clause}
-use Rattle.clause.proofs.Starts.{found}
+use Rattle.clause.proofs.Skip.{Enough, enough-fewer}
+use Rattle.clause.proofs.Literals.{Clause}
+use Rattle.clause.proofs.Siblings.{enough-start}
 use Rattle.machine.proofs.Outcomes.{fails≢next, stuck≢next}
 use Rattle.machine.proofs.Table.{noPuts-get, noPushes-get}
-use Rattle.machine.proofs.Jump.{enough-here, enough-word, enough-term}
+use Rattle.clause.proofs.Jump.{enough-here, enough-word, enough-term}
 use Rattle.clause.specs.declared.Cursor.{Cursor}
 
 -- at a cursor stand the term at hand and its right siblings
@@ -43,7 +42,7 @@ valid-right d c c′ h e = let (f, g) = cursor-some _ _ e in rw (← g) (enough-
 
 pub valid-start : (d : List ℕ) → Clause d → (j : ℕ) → j < length (literals d) → Valid d (record { at = startOf d j; left = 0 })
 unfolding Valid
-valid-start d D j h = let (r, f) = found d j h in rw f (shaped-enough (literal-shaped (all-get (literals d) (D .all) j [] h)) r)
+valid-start d D j h = enough-start d D j h
 
 -- every position that a state holds lies in the query
 pub record Safe (d : List ℕ) (s : State) : Type 0 where

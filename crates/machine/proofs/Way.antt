@@ -13,7 +13,7 @@ use Rattle.clause.specs.Word.{arity}
 use Rattle.machine.specs.Instr.{Push, Down, Right, Pop, Instr, Do}
 use Rattle.machine.specs.Compile.{Saved, Place, ended, inside, Way, way}
 use Rattle.machine.specs.Machine.{slots, cursor, down, right, State, headed, pushing, given, require, stepAt, stepFrom, step, run}
-use Rattle.machine.proofs.Jump.{jump-zero, jump-suc}
+use Rattle.clause.proofs.Jump.{jump-zero, jump-suc}
 use Rattle.clause.specs.declared.Cursor.{Cursor}
 use Rattle.clause.specs.Positions.{jump}
 
