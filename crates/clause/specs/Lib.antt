@@ -2,4 +2,5 @@ pub mod Lists
 pub mod Word
 pub mod Clause
 pub mod Positions
+pub mod Tables
 pub mod Accepted

@@ -1,5 +1,11 @@
 // Clauses: their words, their faults, the reading (document 01, "Clause words").
 
+mod equality;
+mod tables;
+
+pub use equality::same;
+pub use equality::same_terms;
+
 // What is wrong with a clause: its length (code 3), a word or the end that breaks the rules (4) or a ninth head (5), each with its position.
 pub enum Fault {
     BadLength,
@@ -17,4 +23,18 @@ pub enum Shape {
 pub struct Cursor {
     pub at: usize,
     pub left: usize,
+}
+
+// An accepted clause's tables: where each literal starts, where the term at each position ends and how many right siblings it has.
+pub struct Clause {
+    pub literals: usize,
+    pub starts: [u8; 8],
+    pub ends: [u8; 64],
+    pub siblings: [u8; 64],
+}
+
+impl Clause {
+    pub const WORDS: usize = 64;
+
+    pub const LITERALS: usize = 8;
 }
