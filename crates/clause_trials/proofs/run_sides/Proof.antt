@@ -12,25 +12,28 @@ sub-whole : tie.Need-sub-whole
 sub-whole c = search needs
 
 slice-aggregate-run : tie.Need-slice-aggregate-run
-slice-aggregate-run c = search needs
-
-slice-aggregate-run-2 : tie.Need-slice-aggregate-run-2
-slice-aggregate-run-2 c = simp length-take (omega arith)
+slice-aggregate-run c = simp length-take (omega arith)
 
 run-requires : tie.Need-run-requires
 run-requires c κs = search needs
 
-slice-aggregate-run-3 : tie.Need-slice-aggregate-run-3
-slice-aggregate-run-3 c = search needs
+write-all-requires : tie.Need-write-all-requires
+write-all-requires c κs = search needs
 
-slice-aggregate-run-4 : tie.Need-slice-aggregate-run-4
-slice-aggregate-run-4 c = simp length-take (omega arith)
+slice-aggregate-run-2 : tie.Need-slice-aggregate-run-2
+slice-aggregate-run-2 c = search needs
+
+slice-aggregate-run-3 : tie.Need-slice-aggregate-run-3
+slice-aggregate-run-3 c = simp length-take (omega arith)
 
 run-requires-2 : tie.Need-run-requires-2
 run-requires-2 c κs = search needs
 
-slice-aggregate-run-5 : tie.Need-slice-aggregate-run-5
-slice-aggregate-run-5 c = search needs
+write-all-requires-2 : tie.Need-write-all-requires-2
+write-all-requires-2 c κs = search needs
+
+slice-aggregate-run-4 : tie.Need-slice-aggregate-run-4
+slice-aggregate-run-4 c = search needs
 
 run-requires-3 : tie.Need-run-requires-3
 run-requires-3 c κs = search needs
@@ -45,11 +48,12 @@ run-sides-spec =
     returns
     sub-whole
     slice-aggregate-run
-    slice-aggregate-run-2
     run-requires
+    write-all-requires
+    slice-aggregate-run-2
     slice-aggregate-run-3
-    slice-aggregate-run-4
     run-requires-2
-    slice-aggregate-run-5
+    write-all-requires-2
+    slice-aggregate-run-4
     run-requires-3
     returns-2)
