@@ -1,10 +1,13 @@
 // Clauses: their words, their faults, the reading (document 01, "Clause words").
-
 mod equality;
+mod moves;
+mod reader;
 mod tables;
+mod word;
 
 pub use equality::same;
 pub use equality::same_terms;
+pub use reader::read;
 
 // What is wrong with a clause: its length (code 3), a word or the end that breaks the rules (4) or a ninth head (5), each with its position.
 pub enum Fault {
@@ -23,6 +26,18 @@ pub enum Shape {
 pub struct Cursor {
     pub at: usize,
     pub left: usize,
+}
+
+// Where a cursor gets to: another term, or nowhere.
+pub enum Move {
+    To(Cursor),
+    Nowhere,
+}
+
+// What reading past terms gives: the cursor after them, or the position of the word, or of the end, that breaks the rules.
+pub enum Passed {
+    At(Cursor),
+    Off(usize),
 }
 
 // An accepted clause's tables: where each literal starts, where the term at each position ends and how many right siblings it has.
