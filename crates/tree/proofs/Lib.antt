@@ -12,5 +12,6 @@ pub mod Held
 pub mod Changes
 pub mod Plain
 pub mod Hops
+pub mod WellLaid
 pub mod Laws
 pub mod ByWords
