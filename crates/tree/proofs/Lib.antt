@@ -14,3 +14,7 @@ pub mod Plain
 pub mod Hops
 pub mod Laws
 pub mod ByWords
+pub mod Locating
+pub mod Lowering
+pub mod Closing
+pub mod TakingOut

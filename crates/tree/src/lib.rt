@@ -1,6 +1,14 @@
 // The code tree in lent words: fresh, insertion, removal (document 01, "Tree words" and "Insertion, ceiling, removal").
 use clause::Fault;
 
+mod close;
+mod fields;
+mod removal;
+
+pub use fields::extent;
+pub use fields::key;
+pub use removal::remove_laid;
+
 // What is returned on refusal, by every call; a refused clause's fault, with its position, stands inside.
 // `codeOf` and `valuesOf` of specs/Refusal give document 01's code and values for each case.
 pub enum Refusal {
