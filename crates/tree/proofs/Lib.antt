@@ -1,7 +1,7 @@
 pub mod Keys
 pub mod Paths
 pub mod Insert
-pub mod Remove
+pub mod Delete
 pub mod Mirror
 pub mod Words
 pub mod Grow
@@ -12,6 +12,7 @@ pub mod Held
 pub mod Changes
 pub mod Plain
 pub mod Hops
+pub mod WellLaid
 pub mod Laws
 pub mod ByWords
 pub mod Locating

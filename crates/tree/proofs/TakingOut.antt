@@ -1,15 +1,15 @@
 -- Words taken out of a well-laid slice in place, and that this is removal on the words.
 use mathlib.Core.Path.{_≡_, refl, sym, ap, ap₂, subst, _∙_}
 use mathlib.Core.List.{List, [], _∷_, _++_, append-nil, append-assoc}
-use mathlib.Core.Bool.{true, cond, and-eq-true-iff}
+use mathlib.Core.Bool.{true, and-eq-true-iff}
 use mathlib.Core.Option.{Option, none, some}
 use Prim.Native.Nat.{ℕ, zero, suc, _+_, _-_, _*_, _/_, _^_, _≤_, _<_}
 use native.Mathlib.Numerals.{add-one}
-use native.Mathlib.Nat.{add-comm, zero-add, suc-add}
+use native.Mathlib.Nat.{add-comm}
 use native.Mathlib.Omega.{arith}
-use lib.Dec.{T, leb, ltb}
+use lib.Dec.{T, leb}
 use lib.ListN.{length, take, drop, getD, set, replicate, length-append, length-drop, take-append-drop, drop-of-length-le, replicate-append-replicate}
-use lib.Seq.{length-take-le, take-nil, drop-nil, take-all, take-at, drop-at, take-take, drop-drop}
+use lib.Seq.{length-take-le, take-all, take-at, drop-at, take-take, drop-drop}
 use borrow.Author.Tests.{leb-true, ltb-false, ne-eqb}
 use borrow.Rule.Slice.PartMut.{putMid}
 use Rattle.tree.specs.Keys.{inner}
@@ -21,6 +21,7 @@ use Rattle.tree.specs.ByWords.{removeByWords}
 use Rattle.tree.specs.declared.CallAnswer.the-variants.{Removed}
 use Rattle.tree.specs.declared.Refusal.the-variants.{NoSuchNumber}
 use Rattle.tree.proofs.Grow.{rows-under, Tests, tests, zeros-replicated}
+use Rattle.tree.proofs.RemoveWords.{cut-parts}
 use Rattle.tree.proofs.Locating.{Found, found}
 
 -- ---- the words before the place
@@ -29,12 +30,6 @@ pub length-lower : (ws : List ℕ) (d r : ℕ) → length (lower ws d r) ≡ len
 length-lower [] d r = refl
 length-lower (w ∷ ws) zero r = refl
 length-lower (w ∷ ws) (suc d) r = ap suc (length-lower ws d r)
-
--- cutting is lowering before the place, and dropping at it
-cut-parts : (ws : List ℕ) (d r : ℕ) → cut ws d r ≡ lower (take d ws) d r ++ drop (d + r) ws
-cut-parts [] d r = rw (take-nil {A = ℕ} d, drop-nil {A = ℕ} (d + r))
-cut-parts (w ∷ ws) zero r = rw (zero-add r)
-cut-parts (w ∷ ws) (suc d) r = rw (suc-add d r) (ap (cond (ltb (suc d) (extentOf w)) (w - r) w ∷_) (cut-parts ws d r))
 
 -- a word with a word below it is no Success, so its key is not small
 rows-high : (ws : List ℕ) → T (rows ws) → Lowerable ws (2 ^ 60)
@@ -51,17 +46,18 @@ lowerable-take (suc k) (w ∷ ws) r f (suc p) h = lowerable-take k ws r (λ q. f
 
 -- ---- the words from the place on
 
+swap-zeros : (a b : ℕ) → _++_ {A = ℕ} (replicate a 0) (replicate b 0) ≡ replicate b 0 ++ replicate a 0
+swap-zeros a b = replicate-append-replicate a b 0 ∙ ap (λ (k : ℕ). replicate k 0) (add-comm a b) ∙ sym (replicate-append-replicate b a 0)
+
 -- where only zeros follow, closing up the used words closes up all
 close-zeros : (ws : List ℕ) (used gone m : ℕ) → gone ≤ used → drop used ws ≡ replicate m 0 → closeUp ws used gone ≡ drop gone ws ++ replicate gone 0
 close-zeros ws used gone m h z =
     let end : gone + (used - gone) ≡ used = omega arith in
-    let kept : List ℕ = take (used - gone) (drop gone ws) in
-    let split : drop gone ws ≡ kept ++ replicate m 0 =
-    sym (take-append-drop (used - gone) (drop gone ws)) ∙ ap (kept ++_) (drop-drop (used - gone) gone ws ∙ ap (λ (k : ℕ). drop k ws) end ∙ z) in
-    let zeros : ℕ → List ℕ = λ k. replicate k 0 in
-    let swap : zeros gone ++ zeros m ≡ zeros m ++ zeros gone =
-    replicate-append-replicate gone m 0 ∙ ap zeros (add-comm gone m) ∙ sym (replicate-append-replicate m gone 0) in
-    ap (λ (l : List ℕ). kept ++ (replicate gone 0 ++ l)) z ∙ ap (kept ++_) swap ∙ sym (append-assoc kept (replicate m 0) (replicate gone 0)) ∙ ap (_++ replicate gone 0) (sym split)
+    let rest : drop (used - gone) (drop gone ws) ≡ replicate m 0 = drop-drop (used - gone) gone ws ∙ rw (end, z) in
+    go (take (used - gone) (drop gone ws)) (drop gone ws) (rw (← rest) (sym (take-append-drop (used - gone) (drop gone ws))))
+  where
+    go : (kept all : List ℕ) → all ≡ kept ++ replicate m 0 → kept ++ (replicate gone 0 ++ drop used ws) ≡ all ++ replicate gone 0
+    go kept all e = rw (e, z, append-assoc kept (replicate m 0) (replicate gone 0)) (ap (kept ++_) (swap-zeros gone m))
 
 -- lowering before the place and closing up from it on is cutting, with zeros after
 cut-closed : (ws : List ℕ) (place used gone m : ℕ) → place + gone ≤ used → drop used ws ≡ replicate m 0

@@ -1,17 +1,9 @@
 // The shift to the left: words taken out of a tail, and those after them closed up.
+use crate::freshen::clear;
 ghost use mathlib.Core.Path.{_≡_};
 ghost use Prim.Native.Nat.{_≤_};
-ghost use lib.ListN.{length, replicate};
+ghost use lib.ListN.{length};
 ghost use Rattle.tree.specs.Close.{closeUp};
-
-// All words become 0.
-fn zero(words: &mut [u64])
-    ensures { λ _. ⌜ now (words .exit) ≡ replicate (length (now (words .entry))) 0 ⌝ }
-{
-    for i in 0..words.len() {
-        words[i] = 0;
-    }
-}
 
 // Of the first `used` words the first `gone` go: the others move to the left, and zeros take the last places.
 pub(crate) fn close_up(words: &mut [u64], used: usize, gone: usize)
@@ -22,5 +14,5 @@ pub(crate) fn close_up(words: &mut [u64], used: usize, gone: usize)
     for i in 0..kept {
         words[i] = words[i + gone];
     }
-    zero(&mut words[kept..used]);
+    clear(&mut words[kept..used]);
 }

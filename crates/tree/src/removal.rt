@@ -1,15 +1,18 @@
 // Removal by number on the words of a tree, in place (document 01, "Insertion, ceiling, removal").
 use crate::CallAnswer;
 use crate::Refusal;
+use crate::Tree;
 use crate::close::close_up;
 use crate::fields::extent;
 use crate::fields::key;
+use crate::laid::well_laid;
 ghost use mathlib.Core.Path.{_≡_};
 ghost use mathlib.Core.Bool.{true};
 ghost use lib.ListN.{length};
 ghost use Rattle.tree.specs.Laid.{sized, wellLaid};
 ghost use Rattle.tree.specs.Cut.{locate, lower};
 ghost use Rattle.tree.specs.Close.{spanOf, Lowerable, Removable, takenOut};
+ghost use Rattle.tree.specs.Calls.{removal};
 ghost use Rattle.tree.specs.ByWords.{removeByWords};
 
 // The words that go, from the first to the last of them.
@@ -90,4 +93,17 @@ pub fn remove_laid(tree: &mut [u64], number: u32) -> CallAnswer
     let place = run.place;
     take_out(tree, place, run.last + 1 - place);
     CallAnswer::Removed
+}
+
+// The removal of a number from a slice of any words.
+pub fn remove(tree: &mut [u64], number: u32) -> CallAnswer
+    ensures { λ r. ⌜ record { answer = r; slice = now (tree .exit) } ≡ removal (now (tree .entry)) number ⌝ }
+{
+    if !Tree::sized(tree.len()) {
+        return CallAnswer::Refused(Refusal::BadSlice);
+    }
+    if !well_laid(tree) {
+        return CallAnswer::Refused(Refusal::Broken);
+    }
+    remove_laid(tree, number)
 }

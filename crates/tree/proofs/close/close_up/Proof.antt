@@ -55,20 +55,20 @@ loop-again c =
           ∙ left-set s k i (omega arith),
     )
 
-mul-zero : tie.Need-mul-zero Inv-loop μ-loop
-mul-zero c = search needs
+mul-clear : tie.Need-mul-clear Inv-loop μ-loop
+mul-clear c = search needs
 
-sub-zero : tie.Need-sub-zero Inv-loop μ-loop
-sub-zero c = search needs
+sub-clear : tie.Need-sub-clear Inv-loop μ-loop
+sub-clear c = search needs
 
-part-zero-start : tie.Need-part-zero-start Inv-loop μ-loop
-part-zero-start c = search needs
+part-clear-start : tie.Need-part-clear-start Inv-loop μ-loop
+part-clear-start c = search needs
 
-part-zero-end : tie.Need-part-zero-end Inv-loop μ-loop
-part-zero-end c = search needs
+part-clear-end : tie.Need-part-clear-end Inv-loop μ-loop
+part-clear-end c = search needs
 
-zero-requires : tie.Need-zero-requires Inv-loop μ-loop
-zero-requires c κs = search needs
+clear-requires : tie.Need-clear-requires Inv-loop μ-loop
+clear-requires c κs = search needs
 
 same-length : tie.Need-same-length Inv-loop μ-loop
 same-length c = c .before .words .given .1 ∙ c .before .before .before .before .before .loop .inv .0
@@ -77,7 +77,7 @@ returns : tie.Need-returns Inv-loop μ-loop
 returns c =
     let l = c .before .before .before .before .before in
     let b = l .before .before in
-    left-zeros (b .args .words .now) (l .loop .words) _ (b .args .used) (b .args .gone) (l .loop .i) (b .pre .0) (b .pre .1) (omega arith) (l .loop .inv .2) (c .before .before .zero .ensures)
+    left-zeros (b .args .words .now) (l .loop .words) _ (b .args .used) (b .args .gone) (l .loop .i) (b .pre .0) (b .pre .1) (omega arith) (l .loop .inv .2) (c .before .before .clear .ensures)
 
 pub close-up-spec : {M : Type 1} → statement M
 close-up-spec =
@@ -95,10 +95,10 @@ close-up-spec =
     add-i
     loop-less
     loop-again
-    mul-zero
-    sub-zero
-    part-zero-start
-    part-zero-end
-    zero-requires
+    mul-clear
+    sub-clear
+    part-clear-start
+    part-clear-end
+    clear-requires
     same-length
     returns)

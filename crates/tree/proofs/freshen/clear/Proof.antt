@@ -1,14 +1,14 @@
--- `zero` meets its contract: the words passed are 0, the others as they were.
+-- Every word is 0 after the pass: those before i already, those from i on are as they were.
 use mathlib.Core.Path.{_≡_, refl, ap, _∙_}
 use mathlib.Core.List.{List, _++_, append-nil}
 use Prim.Native.Nat.{ℕ, _-_, _≤_}
 use native.Mathlib.Omega.{arith}
-use lib.ListN.{set, length-set, length, drop, replicate}
+use lib.ListN.{length, drop, set, replicate, length-set}
 use lib.Seq.{drop-length}
-use borrow.Author.Needs.{needs}
 use borrow.Author.Fill.{fill-more}
-use Rattle.tree.proofs.close.zero.Statement.{statement}
-use Rattle.tree.proofs.close.zero.Tie as tie
+use borrow.Author.Needs.{needs}
+use Rattle.tree.proofs.freshen.clear.Statement.{statement}
+use Rattle.tree.proofs.freshen.clear.Tie as tie
 
 abbrev Inv-loop : tie.InvT-loop
 Inv-loop words₀ i₀ i-end words i = (length words ≡ length words₀) × (i-end ≡ length words₀) × (i ≤ length words₀) × (words ≡ replicate i 0 ++ drop i words₀)
@@ -45,8 +45,8 @@ returns c =
     let e : c .before .loop .i ≡ length (c .before .before .args .words .now) = omega arith in
     c .before .loop .inv .3 ∙ rw (e, drop-length, append-nil)
 
-pub zero-spec : {M : Type 1} → statement M
-zero-spec =
+pub clear-spec : {M : Type 1} → statement M
+clear-spec =
     tie.close
     (tie.spec
     Inv-loop
