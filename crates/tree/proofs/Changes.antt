@@ -19,7 +19,7 @@ use Rattle.tree.specs.Laid.{maxKept}
 use Rattle.tree.specs.Changes.{refuse, change, insertInto, removeFrom, numbered, varied, refuses}
 use Rattle.clause.proofs.Tests.{or-cases, T-true, T-false}
 use Rattle.clause.proofs.Lists.{alike-refl, alike-same}
-use Rattle.tree.proofs.Remove.{find-none, find-some}
+use Rattle.tree.proofs.Delete.{find-none, find-some}
 use Rattle.tree.proofs.InsertWords.{ins-leaves}
 use Rattle.tree.proofs.RemoveWords.{closes, del-leaves}
 use Rattle.tree.proofs.Held.{Holding, holding}

@@ -1,7 +1,7 @@
 pub mod Keys
 pub mod Paths
 pub mod Insert
-pub mod Remove
+pub mod Delete
 pub mod Mirror
 pub mod Words
 pub mod Grow
@@ -15,3 +15,7 @@ pub mod Hops
 pub mod WellLaid
 pub mod Laws
 pub mod ByWords
+pub mod Locating
+pub mod Lowering
+pub mod Closing
+pub mod TakingOut

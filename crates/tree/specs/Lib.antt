@@ -4,6 +4,7 @@ pub mod Entries
 pub mod Laid
 pub mod Merge
 pub mod Cut
+pub mod Close
 pub mod Beginnings
 pub mod Refusal
 pub mod Changes

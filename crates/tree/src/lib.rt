@@ -5,15 +5,19 @@ ghost use lib.Dec.{leb};
 ghost use Rattle.tree.specs.Laid.{leastWords, mostWords, usedOf, keptOf};
 use clause::Fault;
 
+mod close;
 mod fields;
 mod freshen;
 mod laid;
+mod removal;
 
 pub use fields::extent;
 pub use fields::key;
 pub use freshen::clear;
 pub use freshen::fresh;
 pub use laid::well_laid;
+pub use removal::remove;
+pub use removal::remove_laid;
 
 // What is returned on refusal, by every call; a refused clause's fault, with its position, stands inside.
 // `codeOf` and `valuesOf` of specs/Refusal give document 01's code and values for each case.
