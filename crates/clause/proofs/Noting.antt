@@ -2,33 +2,16 @@
 use mathlib.Core.Path.{_≡_, refl, ap, _∙_}
 use mathlib.Core.Bool.{true, false}
 use mathlib.Core.List.{List, [], _∷_, _++_, map, append-nil, map-append}
-use Prim.Native.Nat.{ℕ, zero, suc, _+_, _/_, _%_, _<_, _≤_}
+use Prim.Native.Nat.{ℕ, suc, _+_, _<_, _≤_}
 use native.Mathlib.Numerals.{add-one}
-use native.Mathlib.Decide.{decLe}
 use native.Mathlib.Omega.{arith}
-use lib.Dec.{leb}
-use borrow.Author.Tests.{le-leb, lt-leb}
 use lib.ListN.{length, getD, take, set, replicate}
 use lib.Seq.{take-suc, take-all, length-take-le}
-use Rattle.clause.specs.Word.{arity, kind, sortBy, Sort, symbol, variable, head, wrong, sort, ifHead}
+use Rattle.clause.specs.Word.{Sort, symbol, variable, head, wrong, sort, ifHead}
 use Rattle.clause.specs.Clause.{maxLiterals, starts}
 use Rattle.clause.specs.Tables.{padded}
 use Rattle.clause.proofs.Lists.{length-snoc}
 use Rattle.clause.proofs.Padded.{padded-none, padded-snoc}
-
--- a head is a word of kind 2 or 3
-pub head-test : (w : ℕ) → w < 65536 → leb 32768 w ≡ ifHead (sort w) true false
-unfolding sort sortBy kind
-head-test w h = go (decLe 32768 w) (kind w) (arity w) (omega arith)
-  where
-    go : Dec (32768 ≤ w) → (k a : ℕ) → k ≡ w / 0x4000 % 4 → leb 32768 w ≡ ifHead (sortBy k a) true false
-    go (yes g) zero a e = absurd (omega arith)
-    go (yes g) (suc zero) a e = absurd (omega arith)
-    go (yes g) (suc (suc k)) a e = le-leb 32768 w g
-    go (no g) zero a e = lt-leb 32768 w (omega arith)
-    go (no g) (suc zero) zero e = lt-leb 32768 w (omega arith)
-    go (no g) (suc zero) (suc a) e = lt-leb 32768 w (omega arith)
-    go (no g) (suc (suc k)) a e = absurd (omega arith)
 
 -- a test for a head, put to use
 if-head : (s : Sort) (a b : List ℕ) → ifHead s true false ≡ true → ifHead s a b ≡ a

@@ -1,12 +1,12 @@
 // The tables of a clause, each in one pass over its words.
 
 use crate::Clause;
+use crate::word::is_head;
 ghost use mathlib.Core.Path.{_≡_};
 ghost use mathlib.Core.List.{[]};
-ghost use mathlib.Core.Bool.{true, false};
 ghost use Prim.Native.Nat.{ℕ, _<_, _≤_};
 ghost use lib.ListN.{length, getD, set, replicate};
-ghost use Rattle.clause.specs.Word.{arity, sort, ifHead};
+ghost use Rattle.clause.specs.Word.{arity};
 ghost use Rattle.clause.specs.Clause.{maxLiterals, maxWords, starts};
 ghost use Rattle.clause.specs.Positions.{jump, ends, siblings, pushDue};
 ghost use Rattle.clause.specs.Tables.{padded, tablesOf, clauseOf};
@@ -16,13 +16,6 @@ fn arguments(w: u16) -> u8
     ensures { λ r. ⌜ r ≡ arity w ⌝ }
 {
     (w / 2048 % 8) as u8
-}
-
-// Whether a word is a head.
-fn is_head(w: u16) -> bool
-    ensures { λ r. ⌜ r ≡ ifHead (sort w) true false ⌝ }
-{
-    w >= 32768
 }
 
 // Notes where the next literal starts, if the table has room.
