@@ -24,37 +24,37 @@ element-copy-out-p-end : tie.Need-element-copy-out-p-end
 element-copy-out-p-end c = search needs
 
 cast-p-end : tie.Need-cast-p-end
-cast-p-end c = omega (arith, p-ends (c .before .before) .high, c .before .before .pre .0)
+cast-p-end c = let x = c .before .before in omega (arith, p-ends x .high, q-ends x .high, x .pre .0)
 
 element-copy-out-q-end : tie.Need-element-copy-out-q-end
 element-copy-out-q-end c = search needs
 
 cast-q-end : tie.Need-cast-q-end
-cast-q-end c = omega (arith, q-ends (c .before .before .before) .high, c .before .before .before .pre .0)
+cast-q-end c = let x = c .before .before .before in omega (arith, p-ends x .high, q-ends x .high, x .pre .0)
 
 mul-same : tie.Need-mul-same
 mul-same c = search needs
 
 sub-same : tie.Need-sub-same
-sub-same c = p-ends (c .before .before .before) .low
+sub-same c = let x = c .before .before .before in omega (arith, p-ends x .low, q-ends x .low)
 
 part-same-start : tie.Need-part-same-start
-part-same-start c = p-ends (c .before .before .before) .low
+part-same-start c = let x = c .before .before .before in omega (arith, p-ends x .low, q-ends x .low)
 
 part-same-end : tie.Need-part-same-end
-part-same-end c = p-ends (c .before .before .before) .high
+part-same-end c = let x = c .before .before .before in omega (arith, p-ends x .high, q-ends x .high)
 
 mul-same-2 : tie.Need-mul-same-2
 mul-same-2 c = search needs
 
 sub-same-2 : tie.Need-sub-same-2
-sub-same-2 c = q-ends (c .before .before .before .before) .low
+sub-same-2 c = let x = c .before .before .before .before in omega (arith, p-ends x .low, q-ends x .low)
 
 part-same-start-2 : tie.Need-part-same-start-2
-part-same-start-2 c = q-ends (c .before .before .before .before) .low
+part-same-start-2 c = let x = c .before .before .before .before in omega (arith, p-ends x .low, q-ends x .low)
 
 part-same-end-2 : tie.Need-part-same-end-2
-part-same-end-2 c = q-ends (c .before .before .before .before) .high
+part-same-end-2 c = let x = c .before .before .before .before in omega (arith, p-ends x .high, q-ends x .high)
 
 same-requires : tie.Need-same-requires
 same-requires c κs = search needs

@@ -33,7 +33,7 @@ arguments-requires c κs = search needs
 hop-requires : tie.Need-hop-requires Inv-loop μ-loop
 hop-requires c κs =
     let x = c .before .before .before .before in
-    (x .before .before .pre, x .loop .inv .0, ending-at _ _ (x .loop .inv .1))
+    (x .before .before .pre, omega arith, ending-at _ _ (x .loop .inv .1))
 
 cast-table : tie.Need-cast-table Inv-loop μ-loop
 cast-table c =

@@ -1,6 +1,6 @@
 -- `clause::tables::hop` meets its contract: the terms left from where it stands lead to where all of them lead. Assumes nothing.
 use mathlib.Core.Path.{_≡_, refl, sym, _∙_}
-use Prim.Native.Nat.{_≤_}
+use Prim.Native.Nat.{_<_, _≤_}
 use native.Mathlib.Omega.{arith}
 use lib.ListN.{length}
 use borrow.Author.Needs.{needs}
@@ -44,10 +44,11 @@ loop-again : tie.Need-loop-again Inv-loop μ-loop
 loop-again c =
     let x = c .before .before .before in
     let d = x .before .args .words .now in
-    let e = x .before .pre .2 (x .loop .at) (x .loop .inv .0) (c .before .if1 .left) in (
+    let e = x .before .pre .2 (x .loop .at) (x .loop .inv .0) (c .before .if1 .left) in
+    let h : 0 < x .loop .left = omega arith in (
       omega (arith, e, jump-from d 1 (x .loop .at)),
       omega (arith, e, jump-le d 1 (x .loop .at) (x .loop .inv .1)),
-      x .loop .inv .2 ∙ jump-turn d (x .loop .left) (x .loop .at) (c .before .before .loop-test .taken) ∙ rw e,
+      x .loop .inv .2 ∙ jump-turn d (x .loop .left) (x .loop .at) h ∙ rw e,
     )
 
 returns-2 : tie.Need-returns-2 Inv-loop μ-loop
