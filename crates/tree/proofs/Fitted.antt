@@ -46,7 +46,9 @@ module _ (L N : List ℕ) (p r j : ℕ) (inside : p ≤ length L) (new : length 
       let lp : length (take p Y) ≡ p = length-take-le p Y (simp length-append (omega arith)) in
       let m : length xs + j ≡ length Y = simp (length-append, lp, length-drop, length-replicate) (omega arith) in
       rw (moves, stays, ahead)
-      (sym (append-assoc (take p Y) (N ++ drop p L) (replicate j 0)) ∙ sym (take-zeros xs j r (length Y) m) ∙ ap (take (length Y)) (append-assoc (take p Y) (N ++ drop p L) (replicate (j + r) 0) ∙ ap (take p Y ++_) (append-assoc N (drop p L) (replicate (j + r) 0))))
+      (sym (append-assoc (take p Y) (N ++ drop p L) (replicate j 0)) ∙ sym (take-zeros xs j r (length Y) m)
+      ∙ ap (take (length Y))
+      (append-assoc (take p Y) (N ++ drop p L) (replicate (j + r) 0) ∙ ap (take p Y ++_) (append-assoc N (drop p L) (replicate (j + r) 0))))
 
   -- the same in the whole slice X: the part from p + 1 up to t comes back as Q, and the header is set
   pub fitted : (h v t : ℕ) (X Q : List ℕ) → t ≡ length L + 1 + r → X ≡ h ∷ Y

@@ -14,7 +14,9 @@ use Rattle.tree.specs.Keys.{inner, nextKey}
 use Rattle.tree.specs.Forest.{success}
 use Rattle.tree.specs.Laid.{row, rows}
 use Rattle.tree.specs.Merge.{Spot, seek, hold}
-use Rattle.tree.specs.Inserting.{Rows}
+use Rattle.tree.specs.Inserting.{Rows, Placed, holderOf}
+use Rattle.tree.specs.declared.insertion.Holder.{Holder}
+use Rattle.tree.specs.declared.insertion.Holder.the-variants.{Nobody}
 use Rattle.tree.proofs.Keys.{Tri, less, same, more, tri}
 use Rattle.tree.proofs.Grow.{rows-drop}
 use Rattle.tree.proofs.Hops.{keyAt, extentAt, Steady, steady, seek-stop, seek-dive, seek-hop, seek-found, seek-done, hold-stop, hold-dive, hold-hop, hold-done}
@@ -72,11 +74,14 @@ module _ {W cs : List ℕ} {p t k : ℕ} (s : Seeking W cs p t k) where
       here = drop-cons cs k 0 m
 
       -- the next key comes before the word at p
-      pub seeking-stop : getD cs k 0 < keyAt W p → seek W 0 (length W) 0 cs ≡ spotAt cs p k
+      seeking-stop : getD cs k 0 < keyAt W p → seek W 0 (length W) 0 cs ≡ spotAt cs p k
       seeking-stop u = s .seeks ∙ rw here (seek-stop W p t (s .room) l (getD cs k 0) (drop (suc k) cs) u)
 
-      pub holding-stop : getD cs k 0 < keyAt W p → hold W 0 (length W) cs ≡ none
+      holding-stop : getD cs k 0 < keyAt W p → hold W 0 (length W) cs ≡ none
       holding-stop u = s .holds ∙ rw here (hold-stop W p t (s .room) l (getD cs k 0) (drop (suc k) cs) u)
+
+      pub stop-placed : getD cs k 0 < keyAt W p → Placed W cs (record { at = p; shared = k; holder = Nobody })
+      stop-placed u = record { within = omega (arith, s .room); shares = s .keys; spot = seeking-stop u; holder = holding-stop u }
 
       -- it is the key of that word
       pub seeking-dive : (x : ℕ) → x ≡ extentAt W p → getD cs k 0 ≡ keyAt W p → Seeking W cs (p + 1) (p + x) (k + 1)
@@ -113,7 +118,7 @@ module _ {W cs : List ℕ} {p t k : ℕ} (s : Seeking W cs p t k) where
           })
 
   -- the row is at its end, or all keys have a word
-  pub seeking-end : (t ≤ p) ⊎ (length cs ≤ k) → seek W 0 (length W) 0 cs ≡ spotAt cs p k
+  seeking-end : (t ≤ p) ⊎ (length cs ≤ k) → seek W 0 (length W) 0 cs ≡ spotAt cs p k
   seeking-end (inl l) = seeking-done l
   seeking-end (inr n) = go (tri p t)
     where
@@ -122,6 +127,9 @@ module _ {W cs : List ℕ} {p t k : ℕ} (s : Seeking W cs p t k) where
       go (same e) = seeking-done (omega arith)
       go (more l) = seeking-done (omega arith)
 
-  pub holding-end : (t ≤ p) ⊎ (length cs ≤ k) → hold W 0 (length W) cs ≡ hold (drop p W) 0 (t - p) []
+  holding-end : (t ≤ p) ⊎ (length cs ≤ k) → hold W 0 (length W) cs ≡ hold (drop p W) 0 (t - p) []
   holding-end (inl l) = s .holds ∙ hold-done W p t l (drop k cs) ∙ sym (hold-done W p t l [])
   holding-end (inr n) = s .holds ∙ ap (hold (drop p W) 0 (t - p)) (all-found n)
+
+  pub end-placed : (t ≤ p) ⊎ (length cs ≤ k) → (h : Holder) → holderOf h ≡ hold (drop p W) 0 (t - p) [] → Placed W cs (record { at = p; shared = k; holder = h })
+  end-placed o h e = record { within = omega (arith, s .order, s .room); shares = s .keys; spot = seeking-end o; holder = holding-end o ∙ sym e }

@@ -1,6 +1,7 @@
 -- A well-laid slice taken apart: its header, its used words, the zeros after them. A walk over the used words goes as it does in the whole slice.
 use mathlib.Core.Path.{_≡_, refl, sym, ap, ap₂, _∙_}
 use mathlib.Core.Bool.{true, and-eq-true-iff}
+use mathlib.Core.Option.{none}
 use mathlib.Core.List.{List, [], _∷_, _++_, append-nil, append-assoc}
 use Prim.Native.Nat.{ℕ, suc, _+_, _-_, _^_, _≤_, _<_}
 use native.Mathlib.Omega.{arith}
@@ -8,15 +9,18 @@ use lib.Dec.{leb}
 use lib.ListN.{length, getD, take, drop, replicate}
 use lib.Seq.{drop-cons, take-at, drop-at}
 use borrow.Author.Tests.{leb-true}
-use Rattle.tree.specs.Forest.{Forest, empty, node, size, word, encode, layout}
+use Rattle.tree.specs.Keys.{inner}
+use Rattle.tree.specs.Forest.{Forest, empty, node, size, word, encode, layout, find}
 use Rattle.tree.specs.Laid.{sized, usedOf, wellLaid, region, row, rows, decode}
 use Rattle.tree.specs.Laws.{Stands}
 use Rattle.tree.specs.Merge.{seek, hold, lift}
+use Rattle.tree.specs.Cut.{locate}
 use Rattle.tree.specs.Inserting.{Rows}
 use Rattle.tree.proofs.Keys.{Tri, less, same, more, tri}
 use Rattle.tree.proofs.Words.{first-key, first-below, first-right, length-encode, header-layout, region-layout, row-whole, rows-whole}
 use Rattle.tree.proofs.Grow.{laid-decode}
 use Rattle.tree.proofs.InsertWords.{seek-end, seek-before, seek-inside, seek-after, lift-skip, lift-less, lift-same, lift-more}
+use Rattle.tree.proofs.RemoveWords.{locate-none}
 use Rattle.tree.proofs.Held.{hold-encode}
 
 -- ---- what stands after the words of a forest is of no account
@@ -74,7 +78,8 @@ lift-tail (c ∷ cs) (node i B R) r xs ws h =
         lift-inside c i r cs B R (xs ++ ws) (omega arith) u ∙ ap ((word i (suc (size B)) + r) ∷_) (rw (append-assoc (encode R) xs ws) at p)
         ∙ ap (_++ ws) (sym (lift-inside c i r cs B R xs (omega arith) u))
     go (more u) p q =
-        lift-after c i r cs B R (xs ++ ws) (omega arith) u ∙ ap (word i (suc (size B)) ∷_) (ap (encode B ++_) q ∙ sym (append-assoc (encode B) (lift (encode R ++ xs) r 0 (size R) (c ∷ cs)) ws))
+        lift-after c i r cs B R (xs ++ ws) (omega arith) u ∙ ap (word i (suc (size B)) ∷_) (ap (encode B ++_) q
+        ∙ sym (append-assoc (encode B) (lift (encode R ++ xs) r 0 (size R) (c ∷ cs)) ws))
         ∙ ap (_++ ws) (sym (lift-after c i r cs B R xs (omega arith) u))
 
 -- ---- the slice
@@ -153,6 +158,13 @@ module _ (T : List ℕ) (s : sized T ≡ true) (w : wellLaid T ≡ true) where
         many = long ∙ sym used;
         rows = record { top = rw (ap₂ (λ (l : List ℕ) (k : ℕ). row l 0 0 k) whole long ∙ row-whole F small (stands .formed)) tt; inside = rw (whole, rows-whole F small (stands .formed)) tt };
         seeks = λ cs. ap₂ (λ (k : ℕ) (l : List ℕ). seek l 0 k 0 cs) used tail ∙ seek-tail cs F 0 Z [] small ∙ ap₂ (λ (k : ℕ) (l : List ℕ). seek l 0 k 0 cs) (sym long) bare;
-        holds = λ cs. ap₂ (λ (k : ℕ) (l : List ℕ). hold l 0 k cs) used tail ∙ hold-encode cs F Z small ∙ sym (hold-encode cs F [] small) ∙ ap₂ (λ (k : ℕ) (l : List ℕ). hold l 0 k cs) (sym long) bare;
-        lifts = λ r cs. ap₂ (λ (k : ℕ) (l : List ℕ). lift l r 0 k cs) used tail ∙ lift-tail cs F r [] Z small ∙ ap₂ _++_ (ap₂ (λ (k : ℕ) (l : List ℕ). lift l r 0 k cs) (sym long) bare) zeros;
+        holds = λ cs. ap₂ (λ (k : ℕ) (l : List ℕ). hold l 0 k cs) used tail
+            ∙ hold-encode cs F Z small ∙ sym (hold-encode cs F [] small) ∙ ap₂ (λ (k : ℕ) (l : List ℕ). hold l 0 k cs) (sym long) bare;
+        lifts = λ r cs. ap₂ (λ (k : ℕ) (l : List ℕ). lift l r 0 k cs) used tail
+            ∙ lift-tail cs F r [] Z small ∙ ap₂ _++_ (ap₂ (λ (k : ℕ) (l : List ℕ). lift l r 0 k cs) (sym long) bare) zeros;
       }
+
+  -- a number that the forest does not have stands nowhere in the used words
+  pub number-free : (n : ℕ) → n < inner → find n (decode T) ≡ none → locate (region T) n 0 0 0 ≡ none
+  unfolding F
+  number-free n l e = ap (λ (l : List ℕ). locate l n 0 0 0) whole ∙ locate-none n F l (stands .formed) small e

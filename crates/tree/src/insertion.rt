@@ -124,7 +124,8 @@ fn write_chain(words: &mut [u64], keys: &[u64], number: u32)
 // The caller's words have as many at the end that may go.
 fn put_in(words: &mut [u64], keys: &[u64], number: u32)
     requires { ⌜ Writable (now keys) × (length (now keys) + 1 ≤ length (now words)) ⌝ }
-    ensures { λ _. ⌜ now (words .exit) ≡ newWords (now (keys .entry)) number ++ take (length (now (words .entry)) - (length (now (keys .entry)) + 1)) (now (words .entry)) ⌝ }
+    ensures { λ _. ⌜ now (words .exit)
+        ≡ newWords (now (keys .entry)) number ++ take (length (now (words .entry)) - (length (now (keys .entry)) + 1)) (now (words .entry)) ⌝ }
 {
     let new = keys.len() + 1;
     open_up(words, new);
@@ -136,7 +137,8 @@ fn put_in(words: &mut [u64], keys: &[u64], number: u32)
 fn insert_at(tree: &mut [u64], keys: &[u64], number: u32, at: usize, shared: usize) -> CallAnswer
     requires { ⌜ Ready (now tree) (now keys) × InsertHere (now tree) (now keys) at shared ⌝ }
     ensures { λ r. ⌜ record { answer = r; slice = now (tree .exit) }
-        ≡ insertAt (getD (now (tree .entry)) 0 0) (drop 1 (now (tree .entry))) (record { number = number; keys = now (keys .entry) }) (record { place = at; left = drop shared (now (keys .entry)) }) ⌝ }
+        ≡ insertAt (getD (now (tree .entry)) 0 0) (drop 1 (now (tree .entry)))
+        (record { number = number; keys = now (keys .entry) }) (record { place = at; left = drop shared (now (keys .entry)) }) ⌝ }
 {
     let header = tree[0];
     let end = (header / 4294967296) as usize + 1;

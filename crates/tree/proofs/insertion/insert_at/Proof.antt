@@ -21,10 +21,13 @@ add-new : tie.Need-add-new
 add-new c = search needs
 
 add-if1 : tie.Need-add-if1
-add-if1 c = omega (arith, ready-parts (c .before .before .before .pre .0) .room, ready-parts (c .before .before .before .pre .0) .short, c .before .before .before .pre .0 .few)
+add-if1 c =
+    let s = c .before .before .before in
+    let P = ready-parts (s .pre .0) in
+    omega (arith, P .room, P .short, s .pre .0 .few)
 
 returns : tie.Need-returns
-returns c = let a = c .before .before .before .before .args in insert-cramped (a .tree .now) (ready-parts (c .before .before .before .before .pre .0)) (a .number) (a .at) (a .shared) (a .keys .now) (c .if1 .taken)
+returns c = let s = c .before .before .before .before in insert-cramped (s .args .number) (s .pre .0) (s .pre .1) (c .if1 .taken)
 
 sub-raise : tie.Need-sub-raise
 sub-raise c = search needs
@@ -36,22 +39,37 @@ part-raise-end : tie.Need-part-raise-end
 part-raise-end c = search needs
 
 raise-requires : tie.Need-raise-requires
-raise-requires c κs = (rw (ready-parts (c .before .before .before .before .before .pre .0) .part) (ready-parts (c .before .before .before .before .before .pre .0) .rows), omega (arith, c .before .before .before .before .before .pre .0 .few))
+raise-requires c κs =
+    let s = c .before .before .before .before .before in
+    let P = ready-parts (s .pre .0) in
+    (rw (P .part) (P .rows), omega (arith, s .pre .0 .few))
 
 add-from : tie.Need-add-from
-add-from c = omega (arith, ready-parts (c .before .before .before .before .before .before .before .before .pre .0) .room, ready-parts (c .before .before .before .before .before .before .before .before .pre .0) .many, ready-parts (c .before .before .before .before .before .before .before .before .pre .0) .short, c .before .before .before .before .before .before .before .before .pre .1 .within)
+add-from c =
+    let s = c .before .before .before .before .before .before .before .before in
+    let P = ready-parts (s .pre .0) in
+    omega (arith, P .room, P .many, P .short, s .pre .1 .within)
 
 add-to : tie.Need-add-to
 add-to c = search needs
 
 mul-put-in : tie.Need-mul-put-in
-mul-put-in c = omega (arith, ready-parts (c .before .before .before .before .before .before .before .before .pre .0) .room, ready-parts (c .before .before .before .before .before .before .before .before .pre .0) .many, ready-parts (c .before .before .before .before .before .before .before .before .pre .0) .short, c .before .before .before .before .before .before .before .before .pre .1 .within)
+mul-put-in c =
+    let s = c .before .before .before .before .before .before .before .before in
+    let P = ready-parts (s .pre .0) in
+    omega (arith, P .room, P .many, P .short, s .pre .1 .within)
 
 sub-put-in : tie.Need-sub-put-in
-sub-put-in c = omega (arith, ready-parts (c .before .before .before .before .before .before .before .before .pre .0) .room, ready-parts (c .before .before .before .before .before .before .before .before .pre .0) .many, ready-parts (c .before .before .before .before .before .before .before .before .pre .0) .short, c .before .before .before .before .before .before .before .before .pre .1 .within)
+sub-put-in c =
+    let s = c .before .before .before .before .before .before .before .before in
+    let P = ready-parts (s .pre .0) in
+    omega (arith, P .room, P .many, P .short, s .pre .1 .within)
 
 part-put-in-start : tie.Need-part-put-in-start
-part-put-in-start c = omega (arith, ready-parts (c .before .before .before .before .before .before .before .before .pre .0) .room, ready-parts (c .before .before .before .before .before .before .before .before .pre .0) .many, ready-parts (c .before .before .before .before .before .before .before .before .pre .0) .short, c .before .before .before .before .before .before .before .before .pre .1 .within)
+part-put-in-start c =
+    let s = c .before .before .before .before .before .before .before .before in
+    let P = ready-parts (s .pre .0) in
+    omega (arith, P .room, P .many, P .short, s .pre .1 .within)
 
 part-put-in-end : tie.Need-part-put-in-end
 part-put-in-end c = search needs
@@ -71,11 +89,9 @@ part-put-in-end-2 c = search needs
 put-in-requires : tie.Need-put-in-requires
 put-in-requires c κs =
     let s = c .before .before .before .before .before .before .before .before .before .before in
-    let a = s .args in
-    let P = ready-parts (s .pre .0) in (
-      tail-writable (a .keys .now) (a .shared) (s .pre .1 .shares) (s .pre .0 .body) (s .pre .0 .few),
-      insert-room (a .tree .now) P (a .number) (a .at) (a .shared) (a .keys .now) (s .pre .1 .within) (s .pre .1 .shares) (c .before .before .before .before .before .before .if1 .left) (c .before .before .before .before .raise .last .0)
-          (c .before .before .before .tree .given .0 ∙ ap length (P .part)),
+    let long = c .before .before .before .tree .given .0 ∙ ap length (ready-parts (s .pre .0) .part) in (
+      tail-writable (s .args .keys .now) (s .args .shared) (s .pre .1 .shares) (s .pre .0 .body) (s .pre .0 .few),
+      insert-room (s .args .number) (s .pre .0) (s .pre .1) (c .before .before .before .before .before .before .if1 .left) (c .before .before .before .before .raise .last .0) long,
     )
 
 mul-tree : tie.Need-mul-tree
@@ -85,7 +101,10 @@ add-tree : tie.Need-add-tree
 add-tree c = search needs
 
 add-tree-2 : tie.Need-add-tree-2
-add-tree-2 c = omega (arith, ready-parts (c .before .before .before .before .before .before .before .before .before .before .before .before .before .pre .0) .short, c .before .before .before .before .before .before .before .before .before .if1 .left)
+add-tree-2 c =
+    let s = c .before .before .before .before .before .before .before .before .before .before .before .before .before in
+    let room = c .before .before .before .before .before .before .before .before .before .if1 .left in
+    omega (arith, ready-parts (s .pre .0) .short)
 
 slice-write-tree : tie.Need-slice-write-tree
 slice-write-tree c = search needs
@@ -96,10 +115,11 @@ same-length c = simp length-set (c .before .tree2 .given .1 ∙ c .before .befor
 returns-2 : tie.Need-returns-2
 returns-2 c =
     let s = c .before .before .before .before .before .before .before .before .before .before .before .before .before in
-    let a = s .args in
+    let a = c .before .before .before .before .before .before .before .raise in
     let P = ready-parts (s .pre .0) in
-    insert-kept (a .tree .now) P (a .number) (a .at) (a .shared) (a .keys .now) (s .pre .1 .within) (s .pre .1 .shares) (c .before .before .before .before .before .before .before .before .before .if1 .left) (c .before .before .before .before .before .before .before .raise .last .0)
-    (c .before .before .put-in .last .0) (c .before .before .before .before .before .before .tree .given .0 ∙ ap length (P .part)) (rw (P .part) at (c .before .before .before .before .before .before .before .raise .ensures)) (c .before .before .put-in .ensures)
+    let long = c .before .before .before .before .before .before .tree .given .0 ∙ ap length (P .part) in
+    let room = c .before .before .before .before .before .before .before .before .before .if1 .left in
+    insert-kept (s .args .number) (s .pre .0) (s .pre .1) room (a .last .0) long _ (rw (P .part) at (a .ensures)) (c .before .before .put-in .ensures)
 
 pub insert-at-spec : {M : Type 1} → statement M
 insert-at-spec =

@@ -1,7 +1,7 @@
 -- `insertion::insert_laid` meets its contract.
 use mathlib.Core.Path.{sym, _∙_}
 use Rattle.tree.proofs.Scanning.{is-none}
-use Rattle.tree.proofs.InsertCases.{ready-parts, insert-taken}
+use Rattle.tree.proofs.InsertCases.{insert-taken}
 use borrow.Author.Needs.{needs}
 use Rattle.tree.proofs.insertion.insert_laid.Statement.{statement}
 use Rattle.tree.proofs.insertion.insert_laid.Tie as tie
@@ -13,7 +13,7 @@ same-length : tie.Need-same-length
 same-length c = search needs
 
 returns : tie.Need-returns
-returns c = let a = c .before .before .before .before .before .args in insert-taken (a .tree .now) (ready-parts (c .before .before .before .before .before .pre)) (record { number = a .number; keys = a .keys .now }) (sym (c .if1 .taken) ∙ c .before .taken .ensures)
+returns c = let s = c .before .before .before .before .before in insert-taken (s .pre) (s .args .number) (sym (c .if1 .taken) ∙ c .before .taken .ensures)
 
 insert-new-requires : tie.Need-insert-new-requires
 insert-new-requires c κs = (c .before .before .before .before .before .before .pre, is-none _ (sym (c .before .before .taken .ensures) ∙ c .before .if1 .left))

@@ -1,7 +1,6 @@
 -- `insertion::insert_new` meets its contract.
 use mathlib.Core.Path.{ap, _∙_}
 use native.Mathlib.Omega.{arith}
-use Rattle.tree.specs.Entries.{Entry}
 use Rattle.tree.specs.Inserting.{holderOf}
 use Rattle.tree.proofs.InsertCases.{ready-parts, in-region, insert-held, insert-full, insert-there}
 use borrow.Author.Needs.{needs}
@@ -38,16 +37,14 @@ same-length c = search needs
 returns : tie.Need-returns
 returns c =
     let s = c .before .before .before .before .before .before .before .before .before in
-    let e : Entry = record { number = s .args .number; keys = s .args .keys .now } in
-    let P = ready-parts (s .pre .0) in
-    let Q = in-region P (c .before .before .before .place-of .ensures) in
-    insert-full (s .args .tree .now) P e (s .pre .1) (Q .holder ∙ ap holderOf (c .before .enum-told .given .1)) (c .if1 .taken)
+    let q = in-region (s .pre .0) (c .before .before .before .place-of .ensures) in
+    insert-full (s .pre .0) (s .args .number) (s .pre .1) (q .holder ∙ ap holderOf (c .before .enum-told .given .1)) (c .if1 .taken)
 
 insert-at-requires : tie.Need-insert-at-requires
 insert-at-requires c κs =
     let s = c .before .before .before .before .before .before .before .before .before .before in
-    let Q = in-region (ready-parts (s .pre .0)) (c .before .before .before .before .place-of .ensures) in
-    (s .pre .0, record { within = Q .within; shares = Q .shares; spot = Q .spot })
+    let q = in-region (s .pre .0) (c .before .before .before .before .place-of .ensures) in
+    (s .pre .0, record { within = q .within; shares = q .shares; spot = q .spot })
 
 same-length-2 : tie.Need-same-length-2
 same-length-2 c = search needs
@@ -55,10 +52,8 @@ same-length-2 c = search needs
 returns-2 : tie.Need-returns-2
 returns-2 c =
     let s = c .before .before .before .before .before .before .before .before .before in
-    let e : Entry = record { number = s .args .number; keys = s .args .keys .now } in
-    let P = ready-parts (s .pre .0) in
-    let Q = in-region P (c .before .before .before .place-of .ensures) in
-    insert-held (s .args .tree .now) P e (s .pre .1) (c .before .holder .given .0 .0) (Q .holder ∙ ap holderOf (c .before .holder .given .1))
+    let q = in-region (s .pre .0) (c .before .before .before .place-of .ensures) in
+    insert-held (s .pre .0) (s .args .number) (s .pre .1) (c .before .holder .given .0 .0) (q .holder ∙ ap holderOf (c .before .holder .given .1))
 
 same-length-3 : tie.Need-same-length-3
 same-length-3 c = search needs
@@ -66,11 +61,10 @@ same-length-3 c = search needs
 returns-3 : tie.Need-returns-3
 returns-3 c =
     let s = c .before .before .before .before .before .before .before .before .before .before .before .before .before in
-    let e : Entry = record { number = s .args .number; keys = s .args .keys .now } in
-    let P = ready-parts (s .pre .0) in
-    let Q = in-region P (c .before .before .before .before .before .before .before .place-of .ensures) in
+    let q = in-region (s .pre .0) (c .before .before .before .before .before .before .before .place-of .ensures) in
+    let new = q .holder ∙ ap holderOf (c .before .before .before .before .before .enum-told .given .1) in
     c .before .before .insert-at .ensures
-    ∙ insert-there (s .args .tree .now) P e (s .pre .1) (Q .holder ∙ ap holderOf (c .before .before .before .before .before .enum-told .given .1)) _ (c .before .before .before .before .if1 .left) (Q .spot)
+    ∙ insert-there (s .pre .0) (s .args .number) (s .pre .1) new _ (c .before .before .before .before .if1 .left) (q .spot)
 
 pub insert-new-spec : {M : Type 1} → statement M
 insert-new-spec =

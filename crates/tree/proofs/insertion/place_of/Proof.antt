@@ -1,14 +1,12 @@
 -- `insertion::place_of` meets its contract: the keys from `shared` on are looked for in the row from `at` up to `end`.
-use mathlib.Core.Path.{sym, _∙_}
 use mathlib.Core.Logic.{_⊎_, inl, inr, ⊎-elim}
-use Prim.Native.Nat.{_-_, _≤_, _<_}
+use Prim.Native.Nat.{_-_, _≤_}
 use native.Mathlib.Omega.{arith}
 use lib.Arith.{lt-of-le-ne}
-use lib.ListN.{length, getD}
+use lib.ListN.{length}
 use borrow.Author.Needs.{needs}
 use borrow.Author.Tests.{ltb-true, ltb-false}
-use Rattle.tree.proofs.Hops.{keyAt}
-use Rattle.tree.proofs.Seeking.{Seeking, seeking-start, firm-some, firm-fits, seeking-stop, holding-stop, seeking-dive, seeking-hop, seeking-end, holding-end}
+use Rattle.tree.proofs.Seeking.{Seeking, seeking-start, firm-some, firm-fits, stop-placed, seeking-dive, seeking-hop, end-placed}
 use Rattle.tree.proofs.insertion.place_of.Statement.{statement}
 use Rattle.tree.proofs.insertion.place_of.Tie as tie
 
@@ -37,18 +35,15 @@ shared-slice-read-wanted : tie.Need-shared-slice-read-wanted Inv-loop μ-loop
 shared-slice-read-wanted c = search needs
 
 returns : tie.Need-returns Inv-loop μ-loop
-returns c =
-    let s = c .before .before .before .before .before .before .loop .inv in
-    let l : c .before .before .before .before .before .before .loop .at < c .before .before .before .before .before .before .loop .end = omega arith in
-    let m : c .before .before .before .before .before .before .loop .shared < length (c .before .before .before .before .before .before .before .before .before .args .keys .now) = omega (arith, ltb-true) in
-    let u : getD (c .before .before .before .before .before .before .before .before .before .args .keys .now) (c .before .before .before .before .before .before .loop .shared) 0 < keyAt (c .before .before .before .before .before .before .before .before .before .args .words .now) (c .before .before .before .before .before .before .loop .at) = omega arith in
-    record { within = omega (arith, s .order, s .room); shares = s .keys; spot = seeking-stop s l m u; holder = holding-stop s l m u }
+returns c = stop-placed (c .before .before .before .before .before .before .loop .inv) (omega arith) (omega (arith, ltb-true)) (omega arith)
 
 extent-requires : tie.Need-extent-requires Inv-loop μ-loop
 extent-requires c κs = search needs
 
 add-end : tie.Need-add-end Inv-loop μ-loop
-add-end c = omega (arith, c .extent .ensures, firm-fits (c .before .before .before .before .before .before .before .before .loop .inv) (omega arith), c .before .before .before .before .before .before .before .before .loop .inv .room)
+add-end c =
+    let s = c .before .before .before .before .before .before .before .before .loop .inv in
+    omega (arith, c .extent .ensures, firm-fits s (omega arith), s .room)
 
 add-at : tie.Need-add-at Inv-loop μ-loop
 add-at c = search needs
@@ -60,19 +55,27 @@ loop-less : tie.Need-loop-less Inv-loop μ-loop
 loop-less c = search needs
 
 loop-again : tie.Need-loop-again Inv-loop μ-loop
-loop-again c = seeking-dive (c .before .before .before .before .before .before .before .before .loop .inv) (omega arith) (omega (arith, ltb-true)) _ (c .extent .ensures) (omega arith)
+loop-again c =
+    let s = c .before .before .before .before .before .before .before .before .loop .inv in
+    seeking-dive s (omega arith) (omega (arith, ltb-true)) _ (c .extent .ensures) (omega arith)
 
 extent-requires-2 : tie.Need-extent-requires-2 Inv-loop μ-loop
 extent-requires-2 c κs = search needs
 
 add-at-2 : tie.Need-add-at-2 Inv-loop μ-loop
-add-at-2 c = omega (arith, c .extent2 .ensures, firm-fits (c .before .before .before .before .before .before .before .before .loop .inv) (omega arith), c .before .before .before .before .before .before .before .before .loop .inv .room)
+add-at-2 c =
+    let s = c .before .before .before .before .before .before .before .before .loop .inv in
+    omega (arith, c .extent2 .ensures, firm-fits s (omega arith), s .room)
 
 loop-less-2 : tie.Need-loop-less-2 Inv-loop μ-loop
-loop-less-2 c = omega (arith, c .extent2 .ensures, firm-some (c .before .before .before .before .before .before .before .before .loop .inv) (omega arith), firm-fits (c .before .before .before .before .before .before .before .before .loop .inv) (omega arith), c .before .before .before .before .before .before .before .before .loop .inv .room)
+loop-less-2 c =
+    let s = c .before .before .before .before .before .before .before .before .loop .inv in
+    omega (arith, c .extent2 .ensures, firm-some s (omega arith), firm-fits s (omega arith), s .room)
 
 loop-again-2 : tie.Need-loop-again-2 Inv-loop μ-loop
-loop-again-2 c = seeking-hop (c .before .before .before .before .before .before .before .before .loop .inv) (omega arith) (omega (arith, ltb-true)) _ (c .extent2 .ensures) (lt-of-le-ne (omega arith) (λ e. c .before .if3 .left (sym (omega (arith)))))
+loop-again-2 c =
+    let s = c .before .before .before .before .before .before .before .before .loop .inv in
+    seeking-hop s (omega arith) (omega (arith, ltb-true)) _ (c .extent2 .ensures) (lt-of-le-ne (omega arith) (λ e. c .before .if3 .left (omega arith)))
 
 first-success-requires : tie.Need-first-success-requires Inv-loop μ-loop
 first-success-requires c κs = c .before .loop .inv .room
@@ -80,10 +83,9 @@ first-success-requires c κs = c .before .loop .inv .room
 returns-2 : tie.Need-returns-2 Inv-loop μ-loop
 returns-2 c =
     let l = c .before .before .loop in
-    let s = l .inv in
     let o : (l .end ≤ l .at) ⊎ (length (c .before .before .before .before .before .args .keys .now) ≤ l .shared) =
     ⊎-elim (λ w. inr (omega (arith, ltb-false))) (λ w. inl (omega arith)) (c .before .loop-test .came) in
-    record { within = omega (arith, s .order, s .room); shares = s .keys; spot = seeking-end s o; holder = holding-end s o ∙ sym (c .first-success .ensures) }
+    end-placed (l .inv) o _ (c .first-success .ensures)
 
 pub place-of-spec : {M : Type 1} → statement M
 place-of-spec =

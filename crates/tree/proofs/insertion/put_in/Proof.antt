@@ -32,7 +32,8 @@ returns c =
     let s = c .before .before .before .before .before .before .before .before .before .before .args .words .now in
     let r = length (c .before .before .before .before .before .before .before .before .before .before .args .keys .now) + 1 in
     let h : r ≤ length s = omega (arith, c .before .before .before .before .before .before .before .before .before .before .pre .1) in
-    ap₂ _++_ (c .before .before .write-chain .ensures) (ap (drop r) (c .before .before .before .before .before .before .open-up .ensures) ∙ drop-at (take r s) (take (length s - r) s) r (length-take-le r s h))
+    ap₂ _++_ (c .before .before .write-chain .ensures)
+    (ap (drop r) (c .before .before .before .before .before .before .open-up .ensures) ∙ drop-at (take r s) (take (length s - r) s) r (length-take-le r s h))
 
 pub put-in-spec : {M : Type 1} → statement M
 put-in-spec =

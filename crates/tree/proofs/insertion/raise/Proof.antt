@@ -1,5 +1,4 @@
 -- `insertion::raise` meets its contract: the words before `at` are raised, those from there on are as they were.
-use mathlib.Core.Path.{sym}
 use mathlib.Core.Logic.{inl, inr}
 use Prim.Native.Nat.{_-_}
 use native.Mathlib.Omega.{arith}
@@ -39,10 +38,12 @@ same-length : tie.Need-same-length Inv-loop μ-loop
 same-length c = search needs
 
 returns : tie.Need-returns Inv-loop μ-loop
-returns c = raising-stop (c .before .before .before .before .before .before .loop .inv) (omega arith) (omega (arith, ltb-true)) (omega arith)
+returns c = let s = c .before .before .before .before .before .before .loop .inv in raising-stop s (omega arith) (omega (arith, ltb-true)) (omega arith)
 
 add-words : tie.Need-add-words Inv-loop μ-loop
-add-words c = omega (arith, lift-small (c .before .before .before .before .before .before .before .loop .inv) (omega arith) (c .before .before .before .before .before .before .before .before .before .before .pre .1))
+add-words c =
+    let s = c .before .before .before .before .before .before .before .loop .inv in
+    omega (arith, lift-small s (omega arith) (c .before .before .before .before .before .before .before .before .before .before .pre .1))
 
 mul-words : tie.Need-mul-words Inv-loop μ-loop
 mul-words c = search needs
@@ -54,7 +55,9 @@ extent-requires : tie.Need-extent-requires Inv-loop μ-loop
 extent-requires c κs = search needs
 
 add-end : tie.Need-add-end Inv-loop μ-loop
-add-end c = omega (arith, c .extent .ensures, lift-fits (c .before .before .before .before .before .before .before .before .loop .inv) (omega arith), c .before .before .before .before .before .before .before .before .loop .inv .room)
+add-end c =
+    let s = c .before .before .before .before .before .before .before .before .loop .inv in
+    omega (arith, c .extent .ensures, lift-fits s (omega arith), s .room)
 
 add-at : tie.Need-add-at Inv-loop μ-loop
 add-at c = search needs
@@ -66,19 +69,27 @@ loop-less : tie.Need-loop-less Inv-loop μ-loop
 loop-less c = search needs
 
 loop-again : tie.Need-loop-again Inv-loop μ-loop
-loop-again c = raising-dive (c .before .before .before .before .before .before .before .before .loop .inv) (omega arith) (omega (arith, ltb-true)) _ (c .extent .ensures) (omega arith)
+loop-again c =
+    let s = c .before .before .before .before .before .before .before .before .loop .inv in
+    raising-dive s (omega arith) (omega (arith, ltb-true)) _ (c .extent .ensures) (omega arith)
 
 extent-requires-2 : tie.Need-extent-requires-2 Inv-loop μ-loop
 extent-requires-2 c κs = search needs
 
 add-at-2 : tie.Need-add-at-2 Inv-loop μ-loop
-add-at-2 c = omega (arith, c .extent2 .ensures, lift-fits (c .before .before .before .before .before .before .before .before .loop .inv) (omega arith), c .before .before .before .before .before .before .before .before .loop .inv .room)
+add-at-2 c =
+    let s = c .before .before .before .before .before .before .before .before .loop .inv in
+    omega (arith, c .extent2 .ensures, lift-fits s (omega arith), s .room)
 
 loop-less-2 : tie.Need-loop-less-2 Inv-loop μ-loop
-loop-less-2 c = omega (arith, c .extent2 .ensures, lift-some (c .before .before .before .before .before .before .before .before .loop .inv) (omega arith), lift-fits (c .before .before .before .before .before .before .before .before .loop .inv) (omega arith), c .before .before .before .before .before .before .before .before .loop .inv .room, c .before .before .before .before .before .before .before .before .loop .inv .long)
+loop-less-2 c =
+    let s = c .before .before .before .before .before .before .before .before .loop .inv in
+    omega (arith, c .extent2 .ensures, lift-some s (omega arith), lift-fits s (omega arith), s .room, s .long)
 
 loop-again-2 : tie.Need-loop-again-2 Inv-loop μ-loop
-loop-again-2 c = raising-hop (c .before .before .before .before .before .before .before .before .loop .inv) (omega arith) (omega (arith, ltb-true)) _ (c .extent2 .ensures) (lt-of-le-ne (omega arith) (λ e. c .before .if3 .left (sym (omega arith))))
+loop-again-2 c =
+    let s = c .before .before .before .before .before .before .before .before .loop .inv in
+    raising-hop s (omega arith) (omega (arith, ltb-true)) _ (c .extent2 .ensures) (lt-of-le-ne (omega arith) (λ e. c .before .if3 .left (omega arith)))
 
 same-length-2 : tie.Need-same-length-2 Inv-loop μ-loop
 same-length-2 c = search needs

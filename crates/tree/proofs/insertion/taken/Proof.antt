@@ -29,7 +29,9 @@ has-number-requires : tie.Need-has-number-requires
 has-number-requires c κs = search needs
 
 returns : tie.Need-returns
-returns c = c .has-number .ensures ∙ ap (λ (l : List ℕ). isSome (locate l (c .before .before .before .before .args .number) 0 0 0)) (parts _ (c .before .before .before .before .pre .0) (c .before .before .before .before .pre .1) .part)
+returns c =
+    let s = c .before .before .before .before in
+    c .has-number .ensures ∙ ap (λ (l : List ℕ). isSome (locate l (s .args .number) 0 0 0)) (parts _ (s .pre .0) (s .pre .1) .part)
 
 pub taken-spec : {M : Type 1} → statement M
 taken-spec =

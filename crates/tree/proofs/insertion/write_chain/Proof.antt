@@ -59,7 +59,8 @@ loop-again c =
       simp length-set (l .inv .0),
       refl,
       omega arith,
-      ap₂ (λ (s : List ℕ) (w : ℕ). set s (l .i) w) (l .inv .3) (sym (new-key (a .keys .now) (a .number) (l .i) (omega arith))) ∙ over-set N (a .words .now) (l .i) m (omega (arith, c .before .before .before .pre .1)),
+      ap₂ (λ (s : List ℕ) (w : ℕ). set s (l .i) w) (l .inv .3) (sym (new-key (a .keys .now) (a .number) (l .i) (omega arith)))
+          ∙ over-set N (a .words .now) (l .i) m (omega (arith, c .before .before .before .pre .1)),
     )
 
 mul-words-4 : tie.Need-mul-words-4 Inv-loop μ-loop
