@@ -41,6 +41,11 @@ unfoldable pub shape : List ℕ → Shape
 shape [] = Faulty BadLength
 shape (w ∷ ws) = cond (ltb maxWords (length (w ∷ ws))) (Faulty BadLength) (scan (w ∷ ws) 0 0 0)
 
+-- the fault of a shape that has one
+abbrev pub faultOf : Shape → Fault
+faultOf (Faulty f) = f
+faultOf (Whole n) = BadLength
+
 -- an accepted clause
 abbrev pub Accepted : List ℕ → Type 0
 Accepted ws = (n : ℕ) × (shape ws ≡ Whole n)

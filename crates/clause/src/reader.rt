@@ -1,7 +1,7 @@
 // The reading of a clause, literal by literal.
 ghost use mathlib.Core.Path.{_≡_};
 ghost use lib.ListN.{drop};
-ghost use Rattle.clause.specs.Clause.{scan, shape};
+ghost use Rattle.clause.specs.Clause.{scan, shape, faultOf};
 ghost use Rattle.clause.specs.Cursor.{passArguments, passLiteral};
 use crate::Clause;
 use crate::Cursor;
@@ -76,5 +76,17 @@ fn arguments(words: &[u16], first: Cursor) -> Passed
             return passed;
         };
         here = sibling;
+    }
+}
+
+impl Shape {
+    // The fault, of a shape that has one.
+    pub fn fault(self) -> Fault
+        ensures { λ r. ⌜ r ≡ faultOf self ⌝ }
+    {
+        match self {
+            Shape::Faulty(fault) => fault,
+            Shape::Whole(_) => Fault::BadLength,
+        }
     }
 }

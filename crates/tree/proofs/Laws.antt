@@ -17,7 +17,7 @@ use Rattle.tree.specs.Entries.{Entry}
 use Rattle.tree.specs.Laws.{Slices, under, pathsOf, firstWith, Paths, TreeLaws}
 use Rattle.clause.proofs.Tests.{T-true}
 use Rattle.tree.proofs.Paths.{same-paths}
-use Rattle.tree.proofs.Insert.{ins-formed, ins-paths}
+use Rattle.tree.proofs.InsertForest.{ins-formed, ins-paths}
 use Rattle.tree.proofs.Delete.{find-none, find-some, del-formed, del-paths}
 use Rattle.tree.proofs.Held.{has-number, Holding, holding}
 use Rattle.tree.proofs.Count.{book-size}

@@ -1,6 +1,6 @@
 pub mod Keys
 pub mod Paths
-pub mod Insert
+pub mod InsertForest
 pub mod Delete
 pub mod Mirror
 pub mod Words
@@ -11,6 +11,7 @@ pub mod Count
 pub mod Held
 pub mod Changes
 pub mod Plain
+pub mod Compiles
 pub mod Hops
 pub mod WellLaid
 pub mod Seeking

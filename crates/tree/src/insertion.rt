@@ -1,9 +1,15 @@
 // Insertion of a sequence of keys into the words of a tree, in place (document 01, "Insertion, ceiling, removal").
 use crate::CallAnswer;
 use crate::Refusal;
+use crate::Tree;
 use crate::fields::extent;
 use crate::fields::key;
+use crate::laid::well_laid;
 use crate::moves::open_up;
+use clause::Shape;
+use clause::read;
+use machine::Sequence;
+use machine::compile::compile;
 ghost use mathlib.Core.Path.{_≡_};
 ghost use mathlib.Core.Bool.{true};
 ghost use mathlib.Core.List.{[], _++_};
@@ -13,6 +19,8 @@ ghost use lib.ListN.{length, take, drop, getD};
 ghost use Rattle.tree.specs.Laid.{sized, wellLaid, region};
 ghost use Rattle.tree.specs.Merge.{hold, lift, newWords};
 ghost use Rattle.tree.specs.Cut.{locate};
+ghost use Rattle.clause.specs.Clause.{Accepted};
+ghost use Rattle.tree.specs.Calls.{insertion};
 ghost use Rattle.tree.specs.ByWords.{insertAt, insertByWords};
 ghost use Rattle.tree.specs.Inserting.{holderOf, Rows, Placed, Ready, Writable, InsertHere, isSome};
 
@@ -205,4 +213,31 @@ pub fn insert_laid(tree: &mut [u64], keys: &[u64], number: u32) -> CallAnswer
         return CallAnswer::Refused(Refusal::NumberTaken);
     }
     insert_new(tree, keys, number)
+}
+
+// Inserts an accepted clause under a number: the caller has read it, and holds the slice well laid.
+pub fn insert_read(tree: &mut [u64], words: &[u16], number: u32) -> CallAnswer
+    requires { ⌜ (sized (now tree) ≡ true) × (wellLaid (now tree) ≡ true) × Accepted (now words) ⌝ }
+    ensures { λ r. ⌜ record { answer = r; slice = now (tree .exit) } ≡ insertion (now (tree .entry)) (now (words .entry)) number ⌝ }
+{
+    let mut keys = [0u64; Sequence::KEYS];
+    let count = compile(words, &mut keys);
+    insert_laid(tree, &keys[..count], number)
+}
+
+// Inserts a clause under a number into a slice of any words.
+pub fn insert(tree: &mut [u64], words: &[u16], number: u32) -> CallAnswer
+    ensures { λ r. ⌜ record { answer = r; slice = now (tree .exit) } ≡ insertion (now (tree .entry)) (now (words .entry)) number ⌝ }
+{
+    if !Tree::sized(tree.len()) {
+        return CallAnswer::Refused(Refusal::BadSlice);
+    }
+    let shape = read(words);
+    let Shape::Whole(_) = shape else {
+        return CallAnswer::Refused(Refusal::BadClause(shape.fault()));
+    };
+    if !well_laid(tree) {
+        return CallAnswer::Refused(Refusal::Broken);
+    }
+    insert_read(tree, words, number)
 }
