@@ -5,3 +5,5 @@ pub mod Reach
 pub mod Agreement
 pub mod Trials
 pub mod Laws
+pub mod Encoding
+pub mod Believable

@@ -1,7 +1,9 @@
 pub mod Book
 pub mod Table
 pub mod Refusals
+pub mod Encoding
 pub mod Claims
 pub mod Trials
 pub mod Readings
 pub mod Laws
+pub mod Believable

@@ -1,19 +1,58 @@
-// The definitions are in specs/, their laws in proofs/.
-ghost use Rattle.clause.specs.Lists.{Hold};
-ghost use Rattle.clause.specs.Accepted.{ClauseLaws};
-ghost use Rattle.machine.specs.Matching.{Matching};
-ghost use Rattle.tree.specs.Laws.{TreeLaws};
-ghost use Rattle.walk.specs.Ceiling.{FullBudget};
-ghost use Rattle.walk.specs.Laws.{WalkLaws};
-ghost use Rattle.book.specs.Laws.{BookLaws};
-ghost use Rattle.book.specs.Trials.{trials};
-ghost use Rattle.book.specs.Readings.{readings};
+// Lists of calls on a slice, with the claims about them (document 01, "Lists of calls").
+ghost use mathlib.Core.Path.{_≡_};
+ghost use Prim.Native.Nat.{_+_, _≤_, min};
+ghost use lib.ListN.{length, getD};
+ghost use Rattle.book.specs.Book.{sliceOf};
+ghost use Rattle.book.specs.Encoding.{whole, callsOf, Ran};
+ghost use Rattle.book.specs.Believable.{Believable};
 ghost use Rattle.book.specs.Claims.{Demand1, Reach, Demand2, Demand3};
 
-// The least length of a witness. The contract carries the claims, so that this crate is not proved without them: the functions of the calls will
-// take that over, and then this one goes.
-pub fn witness_words() -> usize
-    ensures { λ r. ⌜ ClauseLaws × Matching × TreeLaws × WalkLaws × FullBudget × BookLaws × Hold trials × Hold readings × Demand1 × Reach × Demand2 × Demand3 ⌝ }
+// The number of a call, upper half first. The caller has seen that its two words are there.
+fn number_at(calls: &[u16], at: usize) -> u32
+    requires { ⌜ at + 2 ≤ length (now calls) ⌝ }
+    ensures { λ r. ⌜ r ≡ whole (getD (now (calls .entry)) at 0) (getD (now (calls .entry)) (at + 1) 0) ⌝ }
 {
-    72
+    calls[at] as u32 * 65536 + calls[at + 1] as u32
+}
+
+// Where a clause of `count` words ends, which begins at a position: no further than the words do.
+fn clause_end(words: usize, from: usize, count: usize) -> usize
+    requires { ⌜ from ≤ words ⌝ }
+    ensures { λ r. ⌜ r ≡ min (from + count) words ⌝ }
+{
+    if count < words - from {
+        return from + count;
+    }
+    words
+}
+
+// Runs the call that begins at a position, and gives where the next one begins. The caller has seen that its first three words are there.
+fn run_one(tree: &mut [u64], calls: &[u16], at: usize) -> usize
+    requires { ⌜ at + 3 ≤ length (now calls) ⌝ }
+    ensures { λ r. ⌜ Ran (now (tree .entry)) (now (calls .entry)) at r (now (tree .exit)) ⌝ }
+{
+    let from = at + 3;
+    let number = number_at(calls, at + 1);
+    let kind = calls[at];
+    if kind == 0 {
+        tree::remove(tree, number);
+        return from;
+    }
+    let end = clause_end(calls.len(), from, (kind - 1) as usize);
+    tree::insert(tree, &calls[from..end], number);
+    end
+}
+
+// Makes an empty tree of a slice and runs the calls that words stand for, each on the slice as the call before left it.
+// The contract carries the claims, so that nothing is proved without them.
+pub fn run(tree: &mut [u64], calls: &[u16])
+    ensures slice { λ _. ⌜ now (tree .exit) ≡ sliceOf (now (tree .entry)) (callsOf (now (calls .entry))) ⌝ }
+    ensures definitions { λ _. ⌜ Believable ⌝ }
+    ensures demands { λ _. ⌜ Demand1 × Reach × Demand2 × Demand3 ⌝ }
+{
+    tree::fresh(tree);
+    let mut at = 0;
+    while at + 3 <= calls.len() {
+        at = run_one(tree, calls, at);
+    }
 }

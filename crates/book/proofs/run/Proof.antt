@@ -1,0 +1,71 @@
+-- `run` meets its contract: the calls still to come, on the slice as it is, give what all of them give; and the claims are proved.
+use mathlib.Core.Path.{_≡_, refl, sym, ap, _∙_}
+use mathlib.Core.List.{[]}
+use Prim.Native.Nat.{_+_, _-_, _≤_}
+use native.Mathlib.Omega.{arith}
+use lib.ListN.{length, drop, length-drop}
+use Rattle.book.specs.Book.{after}
+use Rattle.book.specs.Encoding.{callsOf}
+use Rattle.book.proofs.Encoding.{calls-short, ran-after}
+use Rattle.book.proofs.Believable.{believable}
+use Rattle.book.proofs.Refusals.{demand1}
+use Rattle.book.proofs.Reach.{reach, demand2}
+use Rattle.book.proofs.Agreement.{demand3}
+use borrow.Author.Needs.{needs}
+use Rattle.book.proofs.run.Statement.{statement}
+use Rattle.book.proofs.run.Tie as tie
+
+abbrev Inv-loop : tie.InvT-loop
+Inv-loop tree₀ calls at₀ tree at = (length tree ≡ length tree₀) × (at ≤ length calls) × (after tree₀ (callsOf calls) ≡ after tree (callsOf (drop at calls)))
+
+abbrev μ-loop : tie.MeasureT-loop
+μ-loop tree₀ calls at₀ tree at = length calls - at
+
+fresh-requires : tie.Need-fresh-requires Inv-loop μ-loop
+fresh-requires c κs = search needs
+
+loop-holds : tie.Need-loop-holds Inv-loop μ-loop
+loop-holds c = (refl, omega arith, refl)
+
+add-loop : tie.Need-add-loop Inv-loop μ-loop
+add-loop c = search needs
+
+run-one-requires : tie.Need-run-one-requires Inv-loop μ-loop
+run-one-requires c κs = search needs
+
+loop-less : tie.Need-loop-less Inv-loop μ-loop
+loop-less c = let r = c .before .before .run-one .ensures in omega (arith, r .further, r .inside)
+
+loop-again : tie.Need-loop-again Inv-loop μ-loop
+loop-again c =
+    let r = c .before .before .run-one .ensures in
+    let i = c .before .before .before .before .before .loop .inv in
+    (search needs, r .inside, i .2 ∙ ran-after r)
+
+same-length : tie.Need-same-length Inv-loop μ-loop
+same-length c = search needs
+
+returns : tie.Need-returns Inv-loop μ-loop
+returns c =
+    let l = c .before in
+    let f = l .before .before .before in
+    let s = f .before .before .before .before in
+    let none-left : callsOf (drop (l .loop .at) (s .args .calls .now)) ≡ [] = calls-short _ _ (simp length-drop (omega (arith, c .loop-test .left))) in (
+      sym (ap (λ T. after T (callsOf (s .args .calls .now))) (sym (ap (λ y. y .slice) (f .fresh .ensures))) ∙ l .loop .inv .2 ∙ rw none-left),
+      (believable, (demand1, reach, demand2, demand3)),
+    )
+
+pub run-spec : {M : Type 1} → statement M
+run-spec =
+    tie.close
+    (tie.spec
+    Inv-loop
+    μ-loop
+    fresh-requires
+    loop-holds
+    add-loop
+    run-one-requires
+    loop-less
+    loop-again
+    same-length
+    returns)

@@ -1,0 +1,21 @@
+-- What is claimed of the definitions themselves, gathered: each crate's laws, document 01's starred rows, the readings.
+use Rattle.clause.specs.Lists.{Hold}
+use Rattle.clause.specs.Accepted.{ClauseLaws}
+use Rattle.machine.specs.Matching.{Matching}
+use Rattle.tree.specs.Laws.{TreeLaws}
+use Rattle.walk.specs.Ceiling.{FullBudget}
+use Rattle.walk.specs.Laws.{WalkLaws}
+use Rattle.book.specs.Laws.{BookLaws}
+use Rattle.book.specs.Trials.{trials}
+use Rattle.book.specs.Readings.{readings}
+
+-- the claim
+pub record Believable : Type 0 where
+  pub clauses : ClauseLaws
+  pub matching : Matching
+  pub trees : TreeLaws
+  pub walks : WalkLaws
+  pub budget : FullBudget
+  pub books : BookLaws
+  pub rows : Hold trials
+  pub readings-taken : Hold readings
