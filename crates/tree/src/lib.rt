@@ -15,7 +15,6 @@ mod removal;
 
 pub use fields::extent;
 pub use fields::key;
-pub use freshen::clear;
 pub use freshen::fresh;
 pub use insertion::Holder;
 pub use insertion::Place;
@@ -59,9 +58,9 @@ pub struct Tree {
 }
 
 impl Tree {
-    // The fewest and the most words of a tree's slice.
+    // The fewest words of a tree's slice.
     pub const LEAST: usize = 2;
-
+    // The most words of a tree's slice.
     pub const WORDS: usize = 65536;
     // The most clauses that a tree keeps.
     pub const CLAUSES: usize = 1024;
