@@ -86,6 +86,7 @@ module _ (W : List ℕ) (p : ℕ) (h : p < length W) where
 
 -- ---- the whole slice
 
+-- the tests in another order
 order : (a b c d e f : Bool) → (a && b && c && d && e && f) ≡ (a && (f && (b && ((c && e) && d))))
 order false b c d e f = refl
 order true false c d e f = sym (and-false f)
@@ -101,13 +102,15 @@ unfolding wellLaid
 laid-none [] h = refl
 laid-none (w ∷ ws) h = absurd (omega arith)
 
--- the tests in the order of the code, u and k being the used words and the kept clauses: the words, after those of the header
+-- the tests in the order of the code, u being the used words and k the kept clauses: those of the words
 abbrev pub wordsBy : List ℕ → (u k : ℕ) → Bool
 wordsBy S u k =
     row (take (u + 1 - 1) (drop 1 S)) 0 0 u
     && ((rows (take (u + 1 - 1) (drop 1 S)) && eqb (successes (take (u + 1 - 1) (drop 1 S))) k) && zeros (take (length S - (u + 1)) (drop (u + 1) S)))
 
-pub laid-parts : (S : List ℕ) (u k : ℕ) → (length S ≡ 0 → ⊥) → u ≡ usedOf (getD S 0 0) → k ≡ keptOf (getD S 0 0) → wellLaid S ≡ (leb u (length S - 1) && (leb k maxKept && wordsBy S u k))
+-- and before them those of the header
+pub laid-parts : (S : List ℕ) (u k : ℕ) → (length S ≡ 0 → ⊥) → u ≡ usedOf (getD S 0 0) → k ≡ keptOf (getD S 0 0)
+    → wellLaid S ≡ (leb u (length S - 1) && (leb k maxKept && wordsBy S u k))
 unfolding wellLaid
 laid-parts [] u k h p q = absurd (h refl)
 laid-parts (w ∷ ws) u k h p q =

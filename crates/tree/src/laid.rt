@@ -1,4 +1,4 @@
-// Whether a slice is well laid: one pass over the words, with no stack.
+// Whether a slice is well laid: one pass over the words from left to right, with no stack.
 ghost use mathlib.Core.Path.{_≡_};
 ghost use mathlib.Core.Bool.{_&&_};
 ghost use Prim.Native.Nat.{_-_};
@@ -75,8 +75,8 @@ fn row(words: &[u64], count: usize) -> bool
 }
 
 // Whether each word is sound, what is below it is a row, and `kept` of the words are Success.
-// Linear on any words of which the topmost are a row: up to the first fault each word lies within the words below the one that has it as a child,
-// so that no other row looks at it.
+// Linear, whatever the words are, after the topmost are found to be a row: the pass stops at the first row that fails, up to which the extents nest,
+// so that no word is a child of two. Each is looked at once for itself and once as a child.
 fn rows(words: &[u64], kept: usize) -> bool
     ensures { λ r. ⌜ r ≡ (laid.rows (now (words .entry)) && eqb (successes (now (words .entry))) kept) ⌝ }
 {
@@ -102,17 +102,17 @@ fn rows(words: &[u64], kept: usize) -> bool
 fn zeros(words: &[u64]) -> bool
     ensures { λ r. ⌜ r ≡ laid.zeros (now (words .entry)) ⌝ }
 {
-    let mut at = 0;
-    while at < words.len() {
-        if words[at] != 0 {
+    let mut i = 0;
+    while i < words.len() {
+        if words[i] != 0 {
             return false;
         }
-        at += 1;
+        i += 1;
     }
     true
 }
 
-// Whether a slice is well laid.
+// Whether a slice, of any length, is well laid: its header, the topmost words, all used words, the words after them.
 pub fn well_laid(tree: &[u64]) -> bool
     ensures { λ r. ⌜ r ≡ laid.wellLaid (now (tree .entry)) ⌝ }
 {

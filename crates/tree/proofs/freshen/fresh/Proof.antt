@@ -1,6 +1,6 @@
 -- The length decides; then every word is 0, or every word is as it was.
-use Rattle.tree.specs.Calls.{fresh}
 use borrow.Author.Needs.{needs}
+use Rattle.tree.specs.Calls.{fresh}
 use Rattle.tree.proofs.freshen.fresh.Statement.{statement}
 use Rattle.tree.proofs.freshen.fresh.Tie as tie
 

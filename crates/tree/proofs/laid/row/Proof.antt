@@ -4,10 +4,10 @@ use Prim.Native.Nat.{_-_, _≤_}
 use native.Mathlib.Nat.{sub-zero}
 use native.Mathlib.Omega.{arith}
 use lib.ListN.{length, drop}
+use borrow.Author.Needs.{needs}
 use Rattle.tree.specs.Laid.{row}
 use Rattle.tree.proofs.Hops.{row-hop, row-low, row-none, row-wide, row-done}
 use Rattle.tree.proofs.WellLaid.{row-short}
-use borrow.Author.Needs.{needs}
 use Rattle.tree.proofs.laid.row.Statement.{statement}
 use Rattle.tree.proofs.laid.row.Tie as tie
 
@@ -38,12 +38,14 @@ key-requires c κs = search needs
 returns-2 : tie.Need-returns-2 Inv-loop μ-loop
 returns-2 c =
     let s = c .before .before .before .before .before in
-    sym (s .loop .inv .2 ∙ row-low (s .before .before .before .args .words .now) (s .loop .at) (s .before .before .before .args .count) (s .loop .inv .1) (c .before .before .before .before .loop-test .taken) (s .loop .least) (omega arith))
+    let a = s .before .before .before .args in
+    sym (s .loop .inv .2 ∙ row-low (a .words .now) (s .loop .at) (a .count) (s .loop .inv .1) (c .before .before .before .before .loop-test .taken) (s .loop .least) (omega arith))
 
 returns-3 : tie.Need-returns-3 Inv-loop μ-loop
 returns-3 c =
     let s = c .before .before .before .before .before .before in
-    sym (s .loop .inv .2 ∙ row-none (s .before .before .before .args .words .now) (s .loop .at) (s .before .before .before .args .count) (s .loop .inv .1) (c .before .before .before .before .before .loop-test .taken) (s .loop .least) (omega arith))
+    let a = s .before .before .before .args in
+    sym (s .loop .inv .2 ∙ row-none (a .words .now) (s .loop .at) (a .count) (s .loop .inv .1) (c .before .before .before .before .before .loop-test .taken) (s .loop .least) (omega arith))
 
 sub-if4 : tie.Need-sub-if4 Inv-loop μ-loop
 sub-if4 c = search needs
@@ -51,7 +53,8 @@ sub-if4 c = search needs
 returns-4 : tie.Need-returns-4 Inv-loop μ-loop
 returns-4 c =
     let s = c .before .before .before .before .before .before .before in
-    sym (s .loop .inv .2 ∙ row-wide (s .before .before .before .args .words .now) (s .loop .at) (s .before .before .before .args .count) (s .loop .inv .1) (c .before .before .before .before .before .before .loop-test .taken) (s .loop .least) (omega arith))
+    let a = s .before .before .before .args in
+    sym (s .loop .inv .2 ∙ row-wide (a .words .now) (s .loop .at) (a .count) (s .loop .inv .1) (c .before .before .before .before .before .before .loop-test .taken) (s .loop .least) (omega arith))
 
 next-key-requires : tie.Need-next-key-requires Inv-loop μ-loop
 next-key-requires c κs = search needs
@@ -65,14 +68,16 @@ loop-less c = search needs
 loop-again : tie.Need-loop-again Inv-loop μ-loop
 loop-again c =
     let s = c .before .before .before .before .before .before .before .before in
-    let W = s .before .before .before .args .words .now in
-    let hop = row-hop W (s .loop .at) (s .before .before .before .args .count) (s .loop .inv .1) (c .before .before .before .before .before .before .before .loop-test .taken) (s .loop .least) (omega arith) (omega arith) (omega arith) in
+    let a = s .before .before .before .args in
+    let l = c .before .before .before .before .before .before .before .loop-test .taken in
+    let hop = row-hop (a .words .now) (s .loop .at) (a .count) (s .loop .inv .1) l (s .loop .least) (omega arith) (omega arith) (omega arith) in
     (search needs, s .loop .inv .1, s .loop .inv .2 ∙ rw (c .before .before .before .before .before .extent .ensures, c .next-key .ensures) hop)
 
 returns-5 : tie.Need-returns-5 Inv-loop μ-loop
 returns-5 c =
     let s = c .before in
-    sym (s .loop .inv .2 ∙ row-done (s .before .before .before .args .words .now) (s .loop .at) (s .before .before .before .args .count) (omega arith) (s .loop .least))
+    let a = s .before .before .before .args in
+    sym (s .loop .inv .2 ∙ row-done (a .words .now) (s .loop .at) (a .count) (omega arith) (s .loop .least))
 
 pub row-spec : {M : Type 1} → statement M
 row-spec =

@@ -1,15 +1,16 @@
-use borrow.Author.Needs.{needs}
 -- The rest of the words and the Success words found so far decide.
 use mathlib.Core.Path.{_≡_, sym, _∙_}
+use mathlib.Core.List.{List}
 use mathlib.Core.Bool.{_&&_}
-use Prim.Native.Nat.{_+_, _-_, _≤_}
+use mathlib.Core.Logic.{⊎-elim}
+use Prim.Native.Nat.{ℕ, _+_, _-_, _≤_}
 use native.Mathlib.Nat.{add-zero, zero-add, add-assoc}
 use native.Mathlib.Omega.{arith}
+use borrow.Author.Needs.{needs}
 use borrow.Author.Tests.{not-true, not-false}
 use lib.Dec.{eqb}
 use lib.ListN.{length, drop}
 use lib.Seq.{drop-length}
-use mathlib.Core.Logic.{⊎-elim}
 use Rattle.tree.specs.Forest.{leaf?}
 use Rattle.tree.specs.Laid.{row, rows, successes}
 use Rattle.tree.proofs.Hops.{keyAt, extentAt}
@@ -36,16 +37,21 @@ abbrev μ-loop : tie.MeasureT-loop
 abbrev rs : lts.Claims
 rs = (key-reads.Asked, key-reads.Learnt, sound-reads.Asked, sound-reads.Learnt, below-reads.Asked, below-reads.Learnt, row-reads.Asked, row-reads.Learnt)
 
--- what the test of the row below tells
+-- the words, and the state of the loop, where a row is tested
+abbrev wordsAt : lts.At-loop rs reads.Pre reads.Post Inv-loop μ-loop → List ℕ
+wordsAt s = s .before .before .args .words .now
+
+-- what the test of the row below a word tells
 tested : (c : lts.After-row rs reads.Pre reads.Post Inv-loop μ-loop)
-    → c .row .result ≡ row (drop (c .before .before .before .before .before .before .before .before .before .loop .at + 1) (c .before .before .before .before .before .before .before .before .before .before .before .args .words .now)) 0 0 (extentAt (c .before .before .before .before .before .before .before .before .before .before .before .args .words .now) (c .before .before .before .before .before .before .before .before .before .loop .at) - 1)
+    → let s = c .before .before .before .before .before .before .before .before .before in c .row .result ≡ row (drop (s .loop .at + 1) (wordsAt s)) 0 0 (extentAt (wordsAt s) (s .loop .at) - 1)
 tested c = c .row .ensures ∙ rw (tail-part, c .before .below .ensures)
 
--- the Success words found with the word at hand
+-- the Success words found, the word at hand among them
 counted : (c : lts.Joined1 rs reads.Pre reads.Post Inv-loop μ-loop)
-    → c .if1 .found ≡ c .before .before .before .before .loop .found + leaf? (keyAt (c .before .before .before .before .before .before .args .words .now) (c .before .before .before .before .loop .at))
+    → let s = c .before .before .before .before in c .if1 .found ≡ s .loop .found + leaf? (keyAt (wordsAt s) (s .loop .at))
 counted c =
-    let k = keyAt (c .before .before .before .before .before .before .args .words .now) (c .before .before .before .before .loop .at) in
+    let s = c .before .before .before .before in
+    let k = keyAt (wordsAt s) (s .loop .at) in
     ⊎-elim (λ w. omega (arith, leaf-number k (omega arith))) (λ w. omega (arith, leaf-inner k (omega arith))) (c .if1 .came)
 
 loop-holds : tie.Need-loop-holds Inv-loop μ-loop
@@ -72,8 +78,8 @@ sound-requires c κs = search needs
 returns : tie.Need-returns Inv-loop μ-loop
 returns c =
     let s = c .before .before .before .before .before .before in
-    let W = s .before .before .args .words .now in
-    sym (s .loop .inv .2 ∙ rw (rows-unsound W (s .loop .at) (c .before .before .before .before .before .loop-test .taken) (sym (c .before .sound .ensures) ∙ not-true _ (c .if2 .taken))))
+    let l = c .before .before .before .before .before .loop-test .taken in
+    sym (s .loop .inv .2 ∙ rw (rows-unsound (wordsAt s) (s .loop .at) l (sym (c .before .sound .ensures) ∙ not-true _ (c .if2 .taken))))
 
 mul-row : tie.Need-mul-row Inv-loop μ-loop
 mul-row c = search needs
@@ -96,8 +102,8 @@ row-requires c κs = search needs
 returns-2 : tie.Need-returns-2 Inv-loop μ-loop
 returns-2 c =
     let s = c .before .before .before .before .before .before .before .before .before .before in
-    let W = s .before .before .args .words .now in
-    sym (s .loop .inv .2 ∙ rw (rows-astray W (s .loop .at) (c .before .before .before .before .before .before .before .before .before .loop-test .taken) (sym (tested (c .before)) ∙ not-true _ (c .if3 .taken))))
+    let l = c .before .before .before .before .before .before .before .before .before .loop-test .taken in
+    sym (s .loop .inv .2 ∙ rw (rows-astray (wordsAt s) (s .loop .at) l (sym (tested (c .before)) ∙ not-true _ (c .if3 .taken))))
 
 loop-less : tie.Need-loop-less Inv-loop μ-loop
 loop-less c = search needs
@@ -105,18 +111,20 @@ loop-less c = search needs
 loop-again : tie.Need-loop-again Inv-loop μ-loop
 loop-again c =
     let s = c .before .before .before .before .before .before .before .before .before .before in
-    let W = s .before .before .args .words .now in
-    let at = s .loop .at in
     let l = c .before .before .before .before .before .before .before .before .before .loop-test .taken in
     let n = counted (c .before .before .before .before .before .before) in
-    (search needs, omega (arith, leaf?-le (keyAt W at)), s .loop .inv .2 ∙ rw (rows-step W at l (sym (c .before .before .before .before .before .sound .ensures) ∙ not-false _ (c .before .before .before .before .if2 .left)) (sym (tested (c .before)) ∙ not-false _ (c .if3 .left)), successes-step W at l, n, add-assoc))
+    let good = sym (c .before .before .before .before .before .sound .ensures) ∙ not-false _ (c .before .before .before .before .if2 .left) in
+    let tiled = sym (tested (c .before)) ∙ not-false _ (c .if3 .left) in (
+      search needs,
+      omega (arith, leaf?-le (keyAt (wordsAt s) (s .loop .at))),
+      s .loop .inv .2 ∙ rw (rows-step (wordsAt s) (s .loop .at) l good tiled, successes-step (wordsAt s) (s .loop .at) l, n, add-assoc),
+    )
 
 returns-3 : tie.Need-returns-3 Inv-loop μ-loop
 returns-3 c =
     let s = c .before in
-    let W = s .before .before .args .words .now in
-    let e : s .loop .at ≡ length W = omega arith in
-    sym (s .loop .inv .2 ∙ rw (e, drop-length W, add-zero (s .loop .found)))
+    let e : s .loop .at ≡ length (wordsAt s) = omega arith in
+    sym (s .loop .inv .2 ∙ rw (e, drop-length (wordsAt s), add-zero (s .loop .found)))
 
 pub rows-spec : {M : Type 1} → statement M
 rows-spec =

@@ -3,10 +3,10 @@ use mathlib.Core.Path.{sym, _∙_}
 use Prim.Native.Nat.{_*_, _^_, _≤_, _<_}
 use native.Mathlib.Omega.{arith}
 use borrow.Author.Tests.{lt-ltb, le-ltb, le-leb, lt-leb}
+use borrow.Author.Needs.{needs}
 use Rattle.tree.specs.Keys.{inner, lawful}
 use Rattle.tree.specs.Laid.{keyOf}
 use Rattle.tree.proofs.WellLaid.{sound-success, sound-alone, sound-inner}
-use borrow.Author.Needs.{needs}
 use Rattle.tree.proofs.laid.sound.Statement.{statement}
 use Rattle.tree.proofs.laid.sound.Tie as tie
 

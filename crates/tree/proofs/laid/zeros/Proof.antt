@@ -4,17 +4,17 @@ use Prim.Native.Nat.{_-_, _≤_}
 use native.Mathlib.Omega.{arith}
 use lib.ListN.{length, drop}
 use lib.Seq.{drop-length}
+use borrow.Author.Needs.{needs}
 use Rattle.tree.specs.Laid.{zeros}
 use Rattle.tree.proofs.WellLaid.{zeros-step, zeros-stop}
-use borrow.Author.Needs.{needs}
 use Rattle.tree.proofs.laid.zeros.Statement.{statement}
 use Rattle.tree.proofs.laid.zeros.Tie as tie
 
 abbrev Inv-loop : tie.InvT-loop
-Inv-loop words at₀ at = (at ≤ length words) × (zeros words ≡ zeros (drop at words))
+Inv-loop words i₀ i = (i ≤ length words) × (zeros words ≡ zeros (drop i words))
 
 abbrev μ-loop : tie.MeasureT-loop
-μ-loop words at₀ at = length words - at
+μ-loop words i₀ i = length words - i
 
 loop-holds : tie.Need-loop-holds Inv-loop μ-loop
 loop-holds c = (search needs, refl)
@@ -28,10 +28,10 @@ shared-slice-read-if1 c = search needs
 returns : tie.Need-returns Inv-loop μ-loop
 returns c =
     let s = c .before .before .before in
-    sym (s .loop .inv .1 ∙ zeros-stop (s .before .args .words .now) (s .loop .at) (c .before .before .loop-test .taken) (c .if1 .taken))
+    sym (s .loop .inv .1 ∙ zeros-stop (s .before .args .words .now) (s .loop .i) (c .before .before .loop-test .taken) (c .if1 .taken))
 
-add-at : tie.Need-add-at Inv-loop μ-loop
-add-at c = search needs
+add-i : tie.Need-add-i Inv-loop μ-loop
+add-i c = search needs
 
 loop-less : tie.Need-loop-less Inv-loop μ-loop
 loop-less c = search needs
@@ -39,12 +39,12 @@ loop-less c = search needs
 loop-again : tie.Need-loop-again Inv-loop μ-loop
 loop-again c =
     let s = c .before .before .before in
-    (search needs, s .loop .inv .1 ∙ zeros-step (s .before .args .words .now) (s .loop .at) (c .before .before .loop-test .taken) (c .if1 .left))
+    (search needs, s .loop .inv .1 ∙ zeros-step (s .before .args .words .now) (s .loop .i) (c .before .before .loop-test .taken) (c .if1 .left))
 
 returns-2 : tie.Need-returns-2 Inv-loop μ-loop
 returns-2 c =
     let W = c .before .before .args .words .now in
-    let e : c .before .loop .at ≡ length W = omega arith in
+    let e : c .before .loop .i ≡ length W = omega arith in
     sym (c .before .loop .inv .1 ∙ rw (e, drop-length W))
 
 pub zeros-spec : {M : Type 1} → statement M
@@ -57,7 +57,7 @@ zeros-spec =
     mul-if1
     shared-slice-read-if1
     returns
-    add-at
+    add-i
     loop-less
     loop-again
     returns-2)
