@@ -150,10 +150,10 @@ pub hit-order : (t : List ℕ) (n : ℕ) (s : Span) → n < inner → wellLaid t
 hit-order [] n s l w e = let z : _≡_ {A = ℕ} 0 1 = cc in absurd (omega arith)
 hit-order (h ∷ ws) n s l w e = let f : Hit h ws n s = hit h ws n s l w e in (f .order, f .inside)
 
--- what is found in a well-laid slice can be taken out
-pub removable : (t : List ℕ) (n : ℕ) (s : Span) → length t ≤ 65_536 → n < inner → wellLaid t ≡ true → some s ≡ scan t n → Removable t (s .place) (s .last + 1 - s .place)
-removable [] n s u l w e = let z : _≡_ {A = ℕ} 0 1 = cc in absurd (omega arith)
-removable (h ∷ ws) n s u l w e =
+-- what is found in a well-laid slice can be taken out, and so can fewer words
+pub removable : (t : List ℕ) (n : ℕ) (s : Span) (gone : ℕ) → gone ≤ s .last + 1 - s .place → length t ≤ 65_536 → n < inner → wellLaid t ≡ true → some s ≡ scan t n → Removable t (s .place) gone
+removable [] n s gone q u l w e = let z : _≡_ {A = ℕ} 0 1 = cc in absurd (omega arith)
+removable (h ∷ ws) n s gone q u l w e =
     let f : Hit h ws n s = hit h ws n s l w e in
     let same : take (s .place) (take (usedOf h) ws) ≡ take (s .place) ws = take-take (s .place) (usedOf h) ws (omega (arith, f .order, f .inside)) in
     let high : Lowerable (take (s .place) ws) (2 ^ 60) =

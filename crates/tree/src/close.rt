@@ -6,6 +6,7 @@ ghost use lib.ListN.{length};
 ghost use Rattle.tree.specs.Close.{closeUp};
 
 // Of the first `used` words the first `gone` go: the others move to the left, and zeros take the last places.
+// The caller's words are at least so many.
 pub(crate) fn close_up(words: &mut [u64], used: usize, gone: usize)
     requires { ⌜ (gone ≤ used) × (used ≤ length (now words)) ⌝ }
     ensures { λ _. ⌜ now (words .exit) ≡ closeUp (now (words .entry)) used gone ⌝ }

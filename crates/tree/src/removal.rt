@@ -37,8 +37,8 @@ pub(crate) fn locate(words: &[u64], number: u32) -> Located
     let mut at: usize = 0;
     while at < words.len() {
         let w = words[at];
-        let below = extent(w);
-        if above != below + 1 {
+        let here = extent(w);
+        if above != here + 1 {
             from = at;
         }
         if key(w) == wanted {
@@ -47,13 +47,13 @@ pub(crate) fn locate(words: &[u64], number: u32) -> Located
                 last: at,
             });
         }
-        above = below;
+        above = here;
         at += 1;
     }
     Located::Nowhere
 }
 
-// The extents that reach past these words lowered by `gone`.
+// The extents that reach past these words lowered by `gone`. The caller's words can be.
 fn lower(words: &mut [u64], gone: u64)
     requires { ⌜ Lowerable (now words) gone ⌝ }
     ensures { λ _. ⌜ now (words .exit) ≡ lower (now (words .entry)) (length (now (words .entry))) gone ⌝ }
@@ -67,6 +67,7 @@ fn lower(words: &mut [u64], gone: u64)
 }
 
 // `gone` words at `place` taken out: the extents above them lowered, the tail closed up, the header lowered.
+// The caller has found them among the used words of a well-laid slice.
 fn take_out(tree: &mut [u64], place: usize, gone: usize)
     requires { ⌜ Removable (now tree) place gone ⌝ }
     ensures { λ _. ⌜ now (tree .exit) ≡ takenOut (now (tree .entry)) place gone ⌝ }
@@ -79,7 +80,7 @@ fn take_out(tree: &mut [u64], place: usize, gone: usize)
     tree[0] = header - (gone as u64 * 4294967296 + 1);
 }
 
-// The removal of a number from a well-laid slice.
+// The removal of a number from a slice that the caller holds well laid.
 pub fn remove_laid(tree: &mut [u64], number: u32) -> CallAnswer
     requires { ⌜ (sized (now tree) ≡ true) × (wellLaid (now tree) ≡ true) ⌝ }
     ensures { λ r. ⌜ record { answer = r; slice = now (tree .exit) } ≡ removeByWords (now (tree .entry)) number ⌝ }

@@ -2,6 +2,7 @@
 use mathlib.Core.Path.{_≡_, refl, sym, _∙_}
 use mathlib.Core.Logic.{⊎-elim}
 use Prim.Native.Nat.{_-_, _≤_}
+use native.Mathlib.Omega.{arith}
 use lib.ListN.{length, drop, getD}
 use borrow.Author.Needs.{needs}
 use Rattle.tree.specs.Cut.{begin, locate}
@@ -23,10 +24,12 @@ abbrev μ-loop : tie.MeasureT-loop
 top : (c : lts.Joined1 (extent-reads.Asked, extent-reads.Learnt, key-reads.Asked, key-reads.Learnt) reads.Pre reads.Post Inv-loop μ-loop)
     → let l = c .before .before .before .before in c .if1 .from ≡ begin (getD (l .before .before .args .words .now) (l .loop .at) 0) (l .loop .at) (l .loop .from) (l .loop .above)
 top c =
-    let below = c .before .extent .ensures in
+    let l = c .before .before .before .before in
+    let w = getD (l .before .before .args .words .now) (l .loop .at) 0 in
+    let here = c .before .extent .ensures in
     ⊎-elim
-    (λ w. w .1 ∙ begin-new _ _ _ _ (λ e. w .0 .taken (rw below e)))
-    (λ w. w .1 ∙ begin-on _ _ _ _ (rw below at (w .0 .left)))
+    (λ t. t .1 ∙ begin-new w (l .loop .at) (l .loop .from) (l .loop .above) (λ e. omega (arith, here, t .0 .taken)))
+    (λ t. t .1 ∙ begin-on w (l .loop .at) (l .loop .from) (l .loop .above) (omega (arith, here, t .0 .left)))
     (c .if1 .came)
 
 loop-holds : tie.Need-loop-holds Inv-loop μ-loop

@@ -34,9 +34,9 @@ sub-if1 c = search needs
 sub-words : tie.Need-sub-words Inv-loop μ-loop
 sub-words c =
     let l = c .before .before .before .before in
-    let W = l .before .before .args .words .now in
-    let same = lowering-word W _ _ (l .loop .at) (l .loop .inv .1) (omega arith) in
-    rw same (l .before .before .pre (l .loop .at) (omega (arith, ap extentOf same)))
+    let s = l .before .before in
+    let same = lowering-word (s .args .words .now) (s .args .gone) (l .loop .words) (l .loop .at) (l .loop .inv .1) (omega arith) in
+    omega (arith, same, s .pre (l .loop .at) (omega (arith, ap extentOf same)))
 
 mul-words : tie.Need-mul-words Inv-loop μ-loop
 mul-words c = search needs

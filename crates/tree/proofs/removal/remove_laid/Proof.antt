@@ -70,7 +70,7 @@ take-out-requires : tie.Need-take-out-requires
 take-out-requires c κs =
     let l = c .before .before .before in
     let s = l .before .before .before .before .before .before .before in
-    removable (s .args .tree .now) (s .args .number) _ (sized-high (s .args .tree .now) (s .pre .0)) (omega arith) (s .pre .1) (run l)
+    removable (s .args .tree .now) (s .args .number) (record { place = l .located .given .0 .0 .place; last = l .located .given .0 .0 .last }) _ (omega arith) (sized-high (s .args .tree .now) (s .pre .0)) (omega arith) (s .pre .1) (run l)
 
 same-length-2 : tie.Need-same-length-2
 same-length-2 c = search needs
