@@ -1,5 +1,5 @@
 -- The pass over a clause's words that counts right siblings, with the numbers of arguments still to come held in an array.
-use mathlib.Core.Path.{_≡_, refl, sym, ap, _∙_}
+use mathlib.Core.Path.{_≡_, refl, sym, _∙_}
 use mathlib.Core.List.{List, [], _∷_}
 use Prim.Native.Nat.{ℕ, zero, suc, _+_, _-_, _<_, _≤_}
 use native.Mathlib.Numerals.{add-one, unary-clauses}
@@ -126,7 +126,7 @@ module _ (d : List ℕ) (p : ℕ) {table due : List ℕ} {depth : ℕ} (C : Coun
         few = omega (arith, push-few more, C .few);
         room = simp length-set (C .room);
         holds = rw (n, held-push (set due below rights) more mid m, q, C .holds, a, add-one, take-suc d p 0 h, due-append);
-        counts = rw (add-one, take-suc (siblings d []) p 0 k, ← v, C .counts) (ap (λ (i : ℕ). set (padded maxWords (take p (siblings d []))) i rights) (sym t) ∙ padded-snoc maxWords (take p (siblings d [])) rights);
+        counts = rw (add-one, take-suc (siblings d []) p 0 k, ← v, C .counts) (rw t at (padded-snoc maxWords (take p (siblings d [])) rights));
       }
 
 -- all is counted at the end
