@@ -159,5 +159,5 @@ unfolding sequence
 sequence-few c = omega (arith, from-length c ended [] 0 0)
 
 -- at most 320 instructions for a clause
-pub sequence-length : (c : List ℕ) → Clause c → length (sequence c) ≤ 320
+pub sequence-length : (c : List ℕ) → Clause c → length (sequence c) ≤ maxKeys
 sequence-length c C = omega (arith, sequence-few c, C .fits)

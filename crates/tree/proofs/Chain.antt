@@ -6,6 +6,7 @@ use native.Mathlib.Numerals.{add-one}
 use native.Mathlib.Omega.{arith}
 use lib.ListN.{length, getD, take, drop, set, length-drop, drop-of-length-le}
 use lib.Seq.{take-suc, drop-cons, set-at, append-snoc, length-take-le, take-all}
+use Rattle.machine.specs.Compiled.{maxKeys}
 use Rattle.tree.specs.Forest.{size, encode, chain, Body}
 use Rattle.tree.specs.Merge.{newWords}
 use Rattle.tree.specs.Inserting.{Writable}
@@ -26,7 +27,7 @@ body-drop (suc k) [] b = b
 body-drop (suc k) (c ∷ cs) b = body-drop k cs (b .rest)
 
 -- the last keys, lent as a part
-pub tail-writable : (cs : List ℕ) (k : ℕ) → k ≤ length cs → Body cs → length cs ≤ 320 → Writable (take (length cs - k) (drop k cs))
+pub tail-writable : (cs : List ℕ) (k : ℕ) → k ≤ length cs → Body cs → length cs ≤ maxKeys → Writable (take (length cs - k) (drop k cs))
 tail-writable cs k h b f =
     rw (take-all (length cs - k) (drop k cs) (omega (arith, length-drop k cs))) (record { body = body-drop k cs b; few = omega (arith, length-drop k cs) })
 

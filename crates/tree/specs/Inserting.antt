@@ -6,6 +6,7 @@ use mathlib.Core.List.{List}
 use Prim.Native.Nat.{ℕ, _≤_}
 use lib.Dec.{T}
 use lib.ListN.{length, drop}
+use Rattle.machine.specs.Compiled.{maxKeys}
 use Rattle.tree.specs.Forest.{Body}
 use Rattle.tree.specs.Laid.{sized, row, rows, wellLaid, region}
 use Rattle.tree.specs.Merge.{seek, hold}
@@ -38,14 +39,14 @@ pub record Placed (words keys : List ℕ) (r : Place) : Type 0 where
 -- keys of a sequence, or the last of them
 pub record Writable (keys : List ℕ) : Type 0 where
   pub body : Body keys
-  pub few : length keys ≤ 320
+  pub few : length keys ≤ maxKeys
 
 -- a well-laid slice, and keys to insert
 pub record Ready (tree keys : List ℕ) : Type 0 where
   pub size : sized tree ≡ true
   pub laid : wellLaid tree ≡ true
   pub body : Body keys
-  pub few : length keys ≤ 320
+  pub few : length keys ≤ maxKeys
 
 -- the place that the keys lead to in a slice
 pub record InsertHere (tree keys : List ℕ) (at shared : ℕ) : Type 0 where

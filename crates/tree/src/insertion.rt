@@ -174,7 +174,7 @@ pub fn insert_new(tree: &mut [u64], keys: &[u64], number: u32) -> CallAnswer
     match holder {
         Holder::Clause(held) => CallAnswer::Refused(Refusal::Held(held)),
         Holder::Nobody => {
-            if header % 4294967296 >= 1024 {
+            if header % 4294967296 >= Tree::CLAUSES as u64 {
                 return CallAnswer::Refused(Refusal::ListFull);
             }
             insert_at(tree, keys, number, place.at, place.shared)
