@@ -5,6 +5,12 @@ mod word;
 
 pub use reader::read;
 
+mod equality;
+mod tables;
+
+pub use equality::same;
+pub use equality::same_terms;
+
 // What is wrong with a clause: its length (code 3), a word or the end that breaks the rules (4) or a ninth head (5), each with its position.
 pub enum Fault {
     BadLength,
