@@ -35,11 +35,11 @@ fn run_one(tree: &mut [u64], calls: &[u16], at: usize) -> usize
     let number = number_at(calls, at + 1);
     let kind = calls[at];
     if kind == 0 {
-        tree::remove(tree, number);
+        removal::remove(tree, number);
         return from;
     }
     let end = clause_end(calls.len(), from, (kind - 1) as usize);
-    tree::insert(tree, &calls[from..end], number);
+    insertion::insert(tree, &calls[from..end], number);
     end
 }
 
@@ -50,7 +50,7 @@ pub fn run(tree: &mut [u64], calls: &[u16])
     ensures definitions { λ _. ⌜ Believable ⌝ }
     ensures demands { λ _. ⌜ Demand1 × Reach × Demand2 × Demand3 ⌝ }
 {
-    tree::fresh(tree);
+    laid::fresh(tree);
     let mut at = 0;
     while at + 3 <= calls.len() {
         at = run_one(tree, calls, at);

@@ -4,11 +4,9 @@ pub mod Entries
 pub mod Laid
 pub mod Merge
 pub mod Cut
-pub mod Close
 pub mod Beginnings
 pub mod Refusal
 pub mod Changes
 pub mod Calls
 pub mod ByWords
-pub mod Inserting
 pub mod Laws

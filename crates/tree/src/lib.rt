@@ -5,27 +5,10 @@ ghost use lib.Dec.{leb};
 ghost use Rattle.tree.specs.Laid.{leastWords, mostWords, usedOf, keptOf};
 use clause::Fault;
 
-mod close;
 mod fields;
-mod freshen;
-mod insertion;
-mod laid;
-mod moves;
-mod removal;
 
 pub use fields::extent;
 pub use fields::key;
-pub use freshen::fresh;
-pub use insertion::Holder;
-pub use insertion::Place;
-pub use insertion::insert;
-pub use insertion::insert_laid;
-pub use insertion::insert_new;
-pub use insertion::insert_read;
-pub use insertion::taken;
-pub use laid::well_laid;
-pub use removal::remove;
-pub use removal::remove_laid;
 
 // What is returned on refusal, by every call; a refused clause's fault, with its position, stands inside.
 // `codeOf` and `valuesOf` of specs/Refusal give document 01's code and values for each case.

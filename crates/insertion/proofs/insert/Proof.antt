@@ -1,0 +1,82 @@
+-- `insert` meets its contract: the tests in their order, and then the insertion of an accepted clause into a well-laid slice.
+use mathlib.Core.Path.{sym, _∙_}
+use borrow.Author.Tests.{not-true, not-false}
+use Rattle.tree.specs.Calls.{insertion}
+use borrow.Author.Needs.{needs}
+use Rattle.insertion.proofs.insert.Statement.{statement}
+use Rattle.insertion.proofs.insert.Tie as tie
+
+sized-requires : tie.Need-sized-requires
+sized-requires c κs = search needs
+
+returns : tie.Need-returns
+unfolding insertion
+returns c = rw (← c .before .sized .ensures, not-true (c .before .sized .result) (c .if1 .taken))
+
+read-requires : tie.Need-read-requires
+read-requires c κs = search needs
+
+enum-told : tie.Need-enum-told
+enum-told c = search needs
+
+enum-told-2 : tie.Need-enum-told-2
+enum-told-2 c = search needs
+
+fault-requires : tie.Need-fault-requires
+fault-requires c κs = search needs
+
+-- the clause has a fault
+returns-2 : tie.Need-returns-2
+unfolding insertion
+returns-2 c =
+    let r = c .before .before .before in
+    let z = r .before in
+    rw (← z .before .sized .ensures, not-false (z .before .sized .result) (z .if1 .left), ← r .read .ensures, c .before .enum-told2 .given .1, c .fault .ensures, c .before .enum-told2 .given .1)
+
+well-laid-requires : tie.Need-well-laid-requires
+well-laid-requires c κs = search needs
+
+same-length : tie.Need-same-length
+same-length c = search needs
+
+-- the slice is not well laid
+returns-3 : tie.Need-returns-3
+unfolding insertion
+returns-3 c =
+    let l = c .before in
+    let t = l .before .before in
+    let r = t .before .before in
+    let z = r .before in
+    rw (← z .before .sized .ensures, not-false (z .before .sized .result) (z .if1 .left), ← r .read .ensures, t .enum-told .given .1, ← l .well-laid .ensures, not-true (l .well-laid .result) (c .if2 .taken))
+
+insert-read-requires : tie.Need-insert-read-requires
+insert-read-requires c κs =
+    let l = c .before .before in
+    let t = l .before .before in
+    let r = t .before .before in
+    let z = r .before in
+    (sym (z .before .sized .ensures) ∙ not-false _ (z .if1 .left), sym (l .well-laid .ensures) ∙ not-false _ (c .before .if2 .left), (_, sym (r .read .ensures) ∙ t .enum-told .given .1))
+
+same-length-2 : tie.Need-same-length-2
+same-length-2 c = search needs
+
+returns-4 : tie.Need-returns-4
+returns-4 c = search needs
+
+pub insert-spec : {M : Type 1} → statement M
+insert-spec =
+    tie.close
+    (tie.spec
+    sized-requires
+    returns
+    read-requires
+    enum-told
+    enum-told-2
+    fault-requires
+    returns-2
+    well-laid-requires
+    same-length
+    returns-3
+    insert-read-requires
+    same-length-2
+    returns-4)

@@ -1,0 +1,4 @@
+pub mod Closing
+pub mod Locating
+pub mod Lowering
+pub mod TakingOut
