@@ -82,7 +82,7 @@ module _ (d puts poss : List ℕ) (e : length puts ≡ length poss) where
       get-agree puts poss e (λ k i. rw (lt-ltb (first (getD puts k 0) puts) (length puts) (omega (arith, first-le puts k i))) (h k (omega arith) i))
 
 -- a first put stays the first
-first-append : (v : ℕ) (us vs : List ℕ) → first v us < length us → first v (us ++ vs) ≡ first v us
+pub first-append : (v : ℕ) (us vs : List ℕ) → first v us < length us → first v (us ++ vs) ≡ first v us
 unfolding first
 first-append v [] vs h = absurd (omega arith)
 first-append v (u ∷ us) vs h = go (eqb u v) h (first-append v us vs)

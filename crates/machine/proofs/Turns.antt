@@ -1,61 +1,23 @@
 -- What compiling one word comes to: the keys to come are the word's own and those after it.
 use mathlib.Core.Path.{_≡_, refl, sym, ap, ap₂, _∙_}
 use mathlib.Core.Bool.{Bool, true, false, cond}
-use mathlib.Core.List.{List, [], _∷_, _++_, map, flatMap, map-append, append-assoc, append-nil}
-use Prim.Native.Nat.{ℕ, zero, suc, _+_, _≤_, _<_}
+use mathlib.Core.List.{List, [], _∷_, _++_, map, map-append, append-assoc, append-nil}
+use Prim.Native.Nat.{ℕ, suc, _+_, _≤_, _<_}
 use native.Mathlib.Nat.{zero-add}
 use native.Mathlib.Omega.{arith}
 use native.Mathlib.Numerals.{add-one}
 use lib.ListN.{length, getD, take, drop, length-map, length-append, length-set, drop-of-length-le}
 use lib.Seq.{drop-cons, length-take-le, sets-eq}
-use Rattle.clause.specs.Lists.{numbersBelow}
 use Rattle.clause.specs.Clause.{maxWords}
 use Rattle.clause.specs.Word.{arity}
-use Rattle.clause.proofs.Lists.{getD-map-lt}
-use Rattle.machine.specs.Instr.{Step, Compare, Do, key}
-use Rattle.machine.specs.Compile.{Place, ended, inside, Way, way, wayFrom, first, repeats, compares, opening, begun, closing, act, putsAfter, sequenceFrom, sequence, keys}
+use Rattle.machine.specs.Instr.{Do, key}
+use Rattle.machine.specs.Compile.{Place, ended, inside, Way, way, wayFrom, opening, begun, closing, act, putsAfter, sequenceFrom, sequence, keys}
 use Rattle.machine.specs.Compiled.{maxKeys, Compiled}
-use Rattle.machine.specs.Compiling.{firstsOf, repeatsBy, rowKeys, compareKeys, savedIn, placeOf, openingKeys, opened, stepKeys, toCome, Stored, Acted, Went, Ready, Advanced}
+use Rattle.machine.specs.Compiling.{firstsOf, compareKeys, savedIn, placeOf, openingKeys, opened, stepKeys, toCome, Stored, Acted, Went, Ready, Advanced}
 use Rattle.machine.specs.declared.Spot.{Spot}
 use Rattle.machine.proofs.Stores.{stored-none, stored-append, stored-length}
-use Rattle.machine.proofs.Length.{flatMap-numbersBelow, sequence-few}
-
--- ---- a literal's Compares, by the numbers of the first puts
-
-steps-append : (xs ys : List Step) → stepKeys (xs ++ ys) ≡ stepKeys xs ++ stepKeys ys
-steps-append xs ys = rw (map-append Do xs ys) (map-append key (map Do xs) (map Do ys))
-
-below-keys : (f : ℕ → List Step) (g : ℕ → List ℕ) (n : ℕ) → ((k : ℕ) → k < n → stepKeys (f k) ≡ g k)
-    → stepKeys (flatMap f (numbersBelow n)) ≡ flatMap g (numbersBelow n)
-unfolding numbersBelow flatMap
-below-keys f g zero h = refl
-below-keys f g (suc n) h =
-    ap stepKeys (flatMap-numbersBelow f n)
-    ∙ steps-append (flatMap f (numbersBelow n)) (f n)
-    ∙ ap₂ _++_ (below-keys f g n (λ k l. h k (omega arith))) (h n (omega arith))
-    ∙ sym (flatMap-numbersBelow g n)
-
-module _ (puts : List ℕ) (from : ℕ) where
-  repeats-by : (m k : ℕ) → k < length puts → repeats puts from m k ≡ repeatsBy (firstsOf puts) from m k
-  unfolding repeats repeatsBy
-  repeats-by m k h = rw (getD-map-lt (λ v. first v puts) puts k 0 0 h)
-
-  one-key : (m k : ℕ) → k < length puts
-      → stepKeys (cond (repeats puts from m k) (Compare m k ∷ []) []) ≡ cond (repeatsBy (firstsOf puts) from m k) (key (Do (Compare m k)) ∷ []) []
-  one-key m k h = rw (repeats-by m k h) (go (repeatsBy (firstsOf puts) from m k))
-    where
-      go : (b : Bool) → stepKeys (cond b (Compare m k ∷ []) []) ≡ cond b (key (Do (Compare m k)) ∷ []) []
-      go true = refl
-      go false = refl
-
-  row-keys : (m : ℕ)
-      → stepKeys (flatMap (λ k. cond (repeats puts from m k) (Compare m k ∷ []) []) (numbersBelow (length puts))) ≡ rowKeys (firstsOf puts) from m
-  unfolding rowKeys
-  row-keys m = rw (length-map puts (λ v. first v puts)) (below-keys _ _ (length puts) (λ k j. one-key m k j))
-
-  pub compare-keys : stepKeys (compares puts from) ≡ compareKeys (firstsOf puts) from
-  unfolding compares compareKeys
-  compare-keys = rw (length-map puts (λ v. first v puts)) (below-keys _ _ (length puts) (λ m i. row-keys m))
+use Rattle.machine.proofs.Rows.{compare-keys}
+use Rattle.machine.proofs.Length.{sequence-few}
 
 -- ---- the keys of a word
 
@@ -121,20 +83,22 @@ opens s e = rw e (go (s .inside) (s .left) (s .depth) (s .pushed) (s .count) (s 
 abbrev pub endedAt : Spot → (end : ℕ) → Spot
 endedAt r e = record { inside = r .inside; left = r .left; depth = r .depth; pushed = r .pushed; count = r .count; from = r .from; written = e }
 
-module _ (words : List ℕ) (i : ℕ) (s : Spot) (variables firsts saved keys : List ℕ) (R : Ready words i s variables firsts saved keys) (h : i < length words)
-    (o : Spot) (eo : o ≡ opened s) where
-  abbrev word : ℕ
-  word = getD words i 0
+-- word i, and the variables put before it
+abbrev pub wordAt : (words : List ℕ) (i : ℕ) → ℕ
+wordAt words i = getD words i 0
 
-  abbrev puts : List ℕ
-  puts = take (s .count) variables
+abbrev pub putsOf : Spot → (variables : List ℕ) → List ℕ
+putsOf s variables = take (s .count) variables
 
-  split : toCome words i s variables saved ≡ allKeys (drop (i + 1) words) s o saved puts word
+module _ {words : List ℕ} {i : ℕ} {s : Spot} {variables firsts saved keys : List ℕ} (R : Ready words i s variables firsts saved keys) (h : i < length words)
+    {o : Spot} (eo : o ≡ opened s) where
+  split : toCome words i s variables saved ≡ allKeys (drop (i + 1) words) s o saved (putsOf s variables) (wordAt words i)
   unfolding toCome
-  split = rw (add-one, drop-cons words i 0 h, eo) (keys-spot word (drop (suc i) words) s saved puts (length-take-le (s .count) variables (omega arith)))
+  split = rw (add-one, drop-cons words i 0 h, eo) (keys-spot (wordAt words i) (drop (suc i) words) s saved (putsOf s variables) (length-take-le (s .count) variables (omega arith)))
 
   -- there is room for all of them
-  pub word-room : s .written + (length (openingKeys (s .inside)) + (1 + (length (stepKeys (wayAt o saved word .steps)) + length (closingKeys o saved puts word)))) ≤ length keys
+  word-room : s .written + (length (openingKeys (s .inside)) + (1 + (length (stepKeys (wayAt o saved (wordAt words i) .steps))
+      + length (closingKeys o saved (putsOf s variables) (wordAt words i))))) ≤ length keys
   word-room = omega (arith, R .room, simp length-append at (ap length split))
 
   -- what the word's functions ask
@@ -153,9 +117,9 @@ module _ (words : List ℕ) (i : ℕ) (s : Spot) (variables firsts saved keys : 
       )
 
   pub onward-asks : {keys₁ keys₂ variables′ firsts′ : List ℕ} {count : ℕ} → Stored (openingKeys (s .inside)) keys (s .written) keys₁ (o .written)
-      → Acted word (o .count) variables count variables′ firsts′ keys₁ (o .written) keys₂
-      → (o .inside ≡ true) × (arity word < 8) × (o .left < 8) × (o .depth ≤ o .pushed) × (o .pushed < 64) × (length saved ≡ 64)
-      × (o .written + 1 + length (stepKeys (wayAt o saved word .steps)) ≤ length keys₂)
+      → Acted (wordAt words i) (o .count) variables count variables′ firsts′ keys₁ (o .written) keys₂
+      → (o .inside ≡ true) × (arity (wordAt words i) < 8) × (o .left < 8) × (o .depth ≤ o .pushed) × (o .pushed < 64) × (length saved ≡ 64)
+      × (o .written + 1 + length (stepKeys (wayAt o saved (wordAt words i) .steps)) ≤ length keys₂)
   unfolding arity
   onward-asks {keys₁} {keys₂} so ac =
       let p = opens s eo in
@@ -172,32 +136,34 @@ module _ (words : List ℕ) (i : ℕ) (s : Spot) (variables firsts saved keys : 
   -- First, the instruction and the way are written
   module _ {keys₁ keys₂ keys₃ variables′ firsts′ saved′ : List ℕ} {count : ℕ} {r : Spot}
       (so : Stored (openingKeys (s .inside)) keys (s .written) keys₁ (o .written))
-      (ac : Acted word (o .count) variables count variables′ firsts′ keys₁ (o .written) keys₂)
-      (we : Went (wayAt o saved word)
+      (ac : Acted (wordAt words i) (o .count) variables count variables′ firsts′ keys₁ (o .written) keys₂)
+      (we : Went (wayAt o saved (wordAt words i))
       (record { inside = o .inside; left = o .left; depth = o .depth; pushed = o .pushed; count = count; from = o .from; written = o .written + 1 }) r saved′ keys₂ keys₃)
     where
-      acts : Stored (key (Do (act puts word)) ∷ []) keys₁ (o .written) keys₂ (o .written + 1)
+      acts : Stored (key (Do (act (putsOf s variables) (wordAt words i))) ∷ []) keys₁ (o .written) keys₂ (o .written + 1)
       acts = let a : o .count ≡ s .count = opens s eo .count in record { after-is = rw a at (ac .stored); end-is = refl }
 
-      puts-after : take (r .count) variables′ ≡ putsAfter puts word
+      puts-after : take (r .count) variables′ ≡ putsAfter (putsOf s variables) (wordAt words i)
       puts-after =
           let a = opens s eo .count in
           let b = we .same-count in
           rw (b, ← a) (ac .puts)
 
-      -- the literal goes on, or ends with its Compares
-      pub closing-on : r .inside ≡ true → [] ≡ closingKeys o saved puts word
-      unfolding closingKeys closing
-      closing-on e =
-          let p : inside (r .left) (savedIn saved′ (r .depth)) ≡ wayAt o saved word .place = sym (ap (λ b. cond b (inside (r .left) (savedIn saved′ (r .depth))) ended) e) ∙ we .place in
-          ap (λ q. stepKeys (closing q (putsAfter puts word) (o .from))) p
+      place-when : {b : Bool} → r .inside ≡ b → placeOf r saved′ ≡ cond b (inside (r .left) (savedIn saved′ (r .depth))) ended
+      place-when e = ap (λ b. cond b (inside (r .left) (savedIn saved′ (r .depth))) ended) e
 
-      pub closing-out : r .inside ≡ false → compareKeys (take count firsts′) (r .from) ≡ closingKeys o saved puts word
+      -- the literal goes on, or ends with its Compares
+      pub closing-on : r .inside ≡ true → [] ≡ closingKeys o saved (putsOf s variables) (wordAt words i)
+      unfolding closingKeys closing
+      closing-on e = ap (λ q. stepKeys (closing q (putsAfter (putsOf s variables) (wordAt words i)) (o .from))) (sym (place-when e) ∙ we .place)
+
+      pub closing-out : r .inside ≡ false → compareKeys (take count firsts′) (r .from) ≡ closingKeys o saved (putsOf s variables) (wordAt words i)
       unfolding closingKeys closing
       closing-out e =
-          let p : ended ≡ wayAt o saved word .place = sym (ap (λ b. cond b (inside (r .left) (savedIn saved′ (r .depth))) ended) e) ∙ we .place in
-          let f : take count firsts′ ≡ firstsOf (putsAfter puts word) = ac .numbers ∙ ap firstsOf (rw (we .same-count) at puts-after) in
-          ap₂ compareKeys f (we .same-from) ∙ sym (compare-keys (putsAfter puts word) (o .from)) ∙ ap (λ q. stepKeys (closing q (putsAfter puts word) (o .from))) p
+          let f : take count firsts′ ≡ firstsOf (putsAfter (putsOf s variables) (wordAt words i)) = ac .numbers ∙ ap firstsOf (rw (we .same-count) at puts-after) in
+          ap₂ compareKeys f (we .same-from)
+          ∙ sym (compare-keys (putsAfter (putsOf s variables) (wordAt words i)) (o .from))
+          ∙ ap (λ q. stepKeys (closing q (putsAfter (putsOf s variables) (wordAt words i)) (o .from))) (sym (place-when e) ∙ we .place)
 
       -- what the Compares ask
       pub count-fits : length firsts′ ≡ length firsts → count ≤ length firsts′
@@ -224,15 +190,15 @@ module _ (words : List ℕ) (i : ℕ) (s : Spot) (variables firsts saved keys : 
             ),
           )
 
-      module _ {C keys₄ : List ℕ} {end : ℕ} (eC : C ≡ closingKeys o saved puts word) (sC : Stored C keys₃ (r .written) keys₄ end) where
-        rest-is : toCome words (i + 1) (endedAt r end) variables′ saved′ ≡ after (drop (i + 1) words) o saved puts word
+      module _ {C keys₄ : List ℕ} {end : ℕ} (eC : C ≡ closingKeys o saved (putsOf s variables) (wordAt words i)) (sC : Stored C keys₃ (r .written) keys₄ end) where
+        rest-is : toCome words (i + 1) (endedAt r end) variables′ saved′ ≡ after (drop (i + 1) words) o saved (putsOf s variables) (wordAt words i)
         unfolding toCome after
         rest-is = rw (we .place, puts-after, we .same-from, we .pushed)
 
         pub advanced : Advanced words i s variables saved keys (endedAt r end) variables′ saved′ keys₄
         advanced =
             record {
-              new = openingKeys (s .inside) ++ (key (Do (act puts word)) ∷ (stepKeys (wayAt o saved word .steps) ++ C));
+              new = openingKeys (s .inside) ++ (key (Do (act (putsOf s variables) (wordAt words i))) ∷ (stepKeys (wayAt o saved (wordAt words i) .steps) ++ C));
               comes = split ∙ rw (rest-is, ← eC) (simp append-assoc);
               stored = stored-append so (stored-append acts (stored-append (we .stored) sC));
             }

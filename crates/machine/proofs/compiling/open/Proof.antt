@@ -5,8 +5,8 @@ use lib.ListN.{length}
 use Rattle.machine.specs.Compiling.{openingKeys}
 use Rattle.machine.proofs.Spots.{open-on, open-new}
 use borrow.Author.Needs.{needs}
-use Rattle.machine.proofs.compile.open.Statement.{statement}
-use Rattle.machine.proofs.compile.open.Tie as tie
+use Rattle.machine.proofs.compiling.open.Statement.{statement}
+use Rattle.machine.proofs.compiling.open.Tie as tie
 
 returns : tie.Need-returns
 returns c = open-on (c .before .args .s) (c .before .args .keys .now) (c .if1 .taken)

@@ -4,8 +4,8 @@ use native.Mathlib.Omega.{arith}
 use lib.Seq.{length-take-le}
 use Rattle.machine.proofs.Puts.{acted-put, acted-check}
 use borrow.Author.Needs.{needs}
-use Rattle.machine.proofs.compile.act.Statement.{statement}
-use Rattle.machine.proofs.compile.act.Tie as tie
+use Rattle.machine.proofs.compiling.act.Statement.{statement}
+use Rattle.machine.proofs.compiling.act.Tie as tie
 
 slice-reshare-prefix-first-put : tie.Need-slice-reshare-prefix-first-put
 slice-reshare-prefix-first-put c = search needs
@@ -53,7 +53,8 @@ returns : tie.Need-returns
 returns c =
     let s = c .before .before .before .before .before .before in
     let a = s .args in
-    acted-put (a .w) (a .count) (c .first-put .result) (a .variables .now) (a .firsts .now) (a .keys .now) (a .written) (s .pre .0) (s .pre .1) (c .before .before .if1 .taken) (s .pre .4) (c .first-put .ensures)
+    acted-put (a .w) (a .count) (c .first-put .result) (a .variables .now) (a .firsts .now) (a .keys .now) (a .written) (s .pre .0) (s .pre .1)
+    (c .before .before .if1 .taken) (s .pre .4) (c .first-put .ensures)
 
 add-keys-2 : tie.Need-add-keys-2
 add-keys-2 c = search needs

@@ -5,10 +5,10 @@ use lib.ListN.{length, length-set}
 use Rattle.machine.specs.Compiling.{savedIn}
 use Rattle.machine.proofs.Spots.{push-two, down-one, right-one, pop-one, went-push, went-down, went-right, went-pop, went-out}
 use borrow.Author.Needs.{needs}
-use Rattle.machine.proofs.compile.onward.Statement.{statement}
-use Rattle.machine.proofs.compile.onward.Tie as tie
-use Rattle.machine.proofs.compile.onward.Reads as reads
-use Rattle.machine.proofs.compile.onward.Lts as lts
+use Rattle.machine.proofs.compiling.onward.Statement.{statement}
+use Rattle.machine.proofs.compiling.onward.Tie as tie
+use Rattle.machine.proofs.compiling.onward.Reads as reads
+use Rattle.machine.proofs.compiling.onward.Lts as lts
 
 sub-s : tie.Need-sub-s
 sub-s c = search needs
@@ -114,7 +114,8 @@ returns-3 : tie.Need-returns-3
 returns-3 c =
     let s = c .before .before in
     let a = s .args in
-    went-right (a .arity) (a .s) (a .saved .now) (a .keys .now) (s .pre .0) (s .pre .1) (s .pre .2) (s .pre .3) (omega (arith, c .before .if1 .left)) (c .if3 .taken)
+    went-right (a .arity) (a .s) (a .saved .now) (a .keys .now) (s .pre .0) (s .pre .1) (s .pre .2) (s .pre .3)
+    (omega (arith, c .before .if1 .left)) (c .if3 .taken)
 
 sub-top : tie.Need-sub-top
 sub-top c = search needs
@@ -149,13 +150,15 @@ returns-4 : tie.Need-returns-4
 returns-4 c =
     let s = c .before .before .before .before in
     let a = s .args in
-    went-pop (a .arity) (a .s) (a .saved .now) (a .keys .now) (s .pre .0) (s .pre .1) (s .pre .2) (s .pre .3) (omega (arith, c .before .before .before .if1 .left)) (omega (arith, c .before .before .if3 .left)) (c .before .if4 .taken)
+    went-pop (a .arity) (a .s) (a .saved .now) (a .keys .now) (s .pre .0) (s .pre .1) (s .pre .2) (s .pre .3)
+    (omega (arith, c .before .before .before .if1 .left)) (omega (arith, c .before .before .if3 .left)) (c .before .if4 .taken)
 
 returns-5 : tie.Need-returns-5
 returns-5 c =
     let s = c .before .before .before in
     let a = s .args in
-    went-out (a .arity) (a .s) (a .saved .now) (a .keys .now) (s .pre .0) (s .pre .1) (s .pre .2) (s .pre .3) (omega (arith, c .before .before .if1 .left)) (omega (arith, c .before .if3 .left)) (omega (arith, c .if4 .left))
+    went-out (a .arity) (a .s) (a .saved .now) (a .keys .now) (s .pre .0) (s .pre .1) (s .pre .2) (s .pre .3)
+    (omega (arith, c .before .before .if1 .left)) (omega (arith, c .before .if3 .left)) (omega (arith, c .if4 .left))
 
 pub onward-spec : {M : Type 1} → statement M
 onward-spec =

@@ -88,7 +88,9 @@ fn act(
     keys: &mut [u64],
     written: usize,
 ) -> usize
-    requires { ⌜ (count < length (now variables)) × (count < length (now firsts)) × (written < length (now keys)) × (count < 64) × (take count (now firsts) ≡ firstsOf (take count (now variables))) ⌝ }
+    requires { ⌜
+        (count < length (now variables)) × (count < length (now firsts)) × (written < length (now keys)) × (count < 64)
+        × (take count (now firsts) ≡ firstsOf (take count (now variables))) ⌝ }
     ensures { λ r. ⌜ Acted w count (now (variables .entry)) r (now (variables .exit)) (now (firsts .exit)) (now (keys .entry)) written (now (keys .exit)) ⌝ }
 {
     if w / 2048 == 8 {
@@ -104,7 +106,9 @@ fn act(
 
 // Writes the steps from a word with so many arguments to the next word of its literal.
 fn onward(arity: usize, mut s: Spot, saved: &mut [usize], keys: &mut [u64]) -> Spot
-    requires { ⌜ (s .inside ≡ true) × (arity < 8) × (s .left < 8) × (s .depth ≤ s .pushed) × (s .pushed < 64) × (length (now saved) ≡ 64) × (s .written + length (stepKeys (way arity (s .left) (savedIn (now saved) (s .depth)) (s .pushed) .steps)) ≤ length (now keys)) ⌝ }
+    requires { ⌜
+        (s .inside ≡ true) × (arity < 8) × (s .left < 8) × (s .depth ≤ s .pushed) × (s .pushed < 64) × (length (now saved) ≡ 64)
+        × (s .written + length (stepKeys (way arity (s .left) (savedIn (now saved) (s .depth)) (s .pushed) .steps)) ≤ length (now keys)) ⌝ }
     ensures { λ r. ⌜ Went (way arity (s .left) (savedIn (now (saved .entry)) (s .depth)) (s .pushed)) s r (now (saved .exit)) (now (keys .entry)) (now (keys .exit)) ⌝ }
 {
     let left = s.left;
@@ -155,7 +159,10 @@ fn compile_word(
     keys: &mut [u64],
 ) -> Spot
     requires { ⌜ (i < length (now words)) × Ready (now words) i s (now variables) (now firsts) (now saved) (now keys) ⌝ }
-    ensures { λ r. ⌜ Ready (now (words .entry)) (i + 1) r (now (variables .exit)) (now (firsts .exit)) (now (saved .exit)) (now (keys .exit)) × Advanced (now (words .entry)) i s (now (variables .entry)) (now (saved .entry)) (now (keys .entry)) r (now (variables .exit)) (now (saved .exit)) (now (keys .exit)) ⌝ }
+    ensures { λ r. ⌜
+        Ready (now (words .entry)) (i + 1) r (now (variables .exit)) (now (firsts .exit)) (now (saved .exit)) (now (keys .exit))
+        × Advanced (now (words .entry)) i s (now (variables .entry)) (now (saved .entry)) (now (keys .entry))
+        r (now (variables .exit)) (now (saved .exit)) (now (keys .exit)) ⌝ }
 {
     let w = words[i];
     let mut a = open(s, keys);
