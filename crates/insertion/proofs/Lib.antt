@@ -6,4 +6,4 @@ pub mod Scanning
 pub mod UsedWords
 pub mod Fitted
 pub mod InsertCases
-pub mod Compiles
+pub mod KeysOf

@@ -4,7 +4,7 @@ use clause::Shape;
 use clause::read;
 use laid::well_laid;
 use machine::Sequence;
-use machine::compile::compile;
+use machine::compile;
 use tree::CallAnswer;
 use tree::Refusal;
 use tree::Tree;

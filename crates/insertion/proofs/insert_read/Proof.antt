@@ -6,7 +6,8 @@ use lib.ListN.{getD}
 use lib.Seq.{length-take-le}
 use Rattle.clause.proofs.Literals.{accepted}
 use Rattle.tree.proofs.ByWords.{insertion-words}
-use Rattle.insertion.proofs.Compiles.{all-below, compiled-room, compiled-keys, keys-body, keys-few}
+use Rattle.insertion.proofs.KeysOf.{all-below, keys-body, keys-few}
+use Rattle.machine.proofs.Compiled.{compiled-fits, compiled-keys}
 use borrow.Author.Needs.{needs}
 use Rattle.insertion.proofs.insert_read.Statement.{statement}
 use Rattle.insertion.proofs.insert_read.Tie as tie
@@ -18,10 +19,10 @@ compile-requires : tie.Need-compile-requires
 compile-requires c κs = let s = c .before .before .before in (accepted (s .args .words .now) (s .pre .2) .fits, omega arith)
 
 array-share-prefix-keys : tie.Need-array-share-prefix-keys
-array-share-prefix-keys c = compiled-room (c .before .before .compile .ensures)
+array-share-prefix-keys c = compiled-fits (c .before .before .compile .ensures)
 
 slice-aggregate-insert-laid : tie.Need-slice-aggregate-insert-laid
-slice-aggregate-insert-laid c = sym (length-take-le _ _ (compiled-room (c .before .before .before .compile .ensures)))
+slice-aggregate-insert-laid c = sym (length-take-le _ _ (compiled-fits (c .before .before .before .compile .ensures)))
 
 insert-laid-requires : tie.Need-insert-laid-requires
 insert-laid-requires c κs =

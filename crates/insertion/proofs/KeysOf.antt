@@ -1,16 +1,13 @@
--- The keys that compiling leaves in lent words may be inserted.
-use mathlib.Core.Path.{_≡_}
-use mathlib.Core.List.{List, [], _∷_, map}
+-- The keys of an accepted clause may be inserted.
+use mathlib.Core.List.{List, [], _∷_}
 use Prim.Native.Nat.{ℕ, suc, _^_, _≤_, _<_}
-use native.Mathlib.Omega.{arith}
-use lib.ListN.{length, getD, take, length-append, length-map}
-use lib.Seq.{take-append-seam}
+use lib.ListN.{length, getD, length-map}
 use Rattle.clause.specs.Lists.{All, none, also}
 use Rattle.clause.specs.Clause.{Accepted}
 use Rattle.clause.proofs.Literals.{accepted}
 use Rattle.machine.specs.Instr.{key}
 use Rattle.machine.specs.Compile.{sequence, keys}
-use Rattle.machine.specs.Compiled.{Compiled, maxKeys}
+use Rattle.machine.specs.Compiled.{maxKeys}
 use Rattle.machine.proofs.Codes.{sequence-plain}
 use Rattle.machine.proofs.Length.{sequence-length}
 use Rattle.tree.specs.Forest.{Body}
@@ -20,13 +17,6 @@ use Rattle.tree.proofs.Plain.{plain-body}
 pub all-below : (n : ℕ) (l : List ℕ) → ((i : ℕ) → getD l i 0 < n) → All (λ w. w < n) l
 all-below n [] f = none
 all-below n (x ∷ l) f = also (f 0) (all-below n l (λ i. f (suc i)))
-
-module _ {c before after : List ℕ} {count : ℕ} (C : Compiled c before count after) where
-  pub compiled-room : count ≤ length after
-  compiled-room = rw (C .answer-is, C .after-is) (simp length-append (omega arith))
-
-  pub compiled-keys : take count after ≡ keys c
-  compiled-keys = rw (C .answer-is, C .after-is) (take-append-seam (keys c) _)
 
 module _ (c : List ℕ) (a : Accepted c) where
   pub keys-body : ((i : ℕ) → getD c i 0 < 2 ^ 16) → Body (keys c)
