@@ -98,22 +98,22 @@ found≢missed e = let z : _≡_ {A = ℕ} 0 1 = cc in omega arith
 module _ {a : Answer State} {before after : List ℕ} where
   pub walked-missed : {c : ℕ} → a ≡ notCovered c → after ≡ before → Walked a before after (record { end = Missed; count = c })
   unfolding outBy seen
-  walked-missed e b = record { comes = rw e; back = λ _. b }
+  walked-missed e b = record { comes = rw e; back = λ _. b; size = rw b }
 
-  pub walked-spent : (c : ℕ) → a ≡ spent → Walked a before after (record { end = Spent; count = c })
+  pub walked-spent : (c : ℕ) → a ≡ spent → length after ≡ length before → Walked a before after (record { end = Spent; count = c })
   unfolding outBy seen
-  walked-spent c e = record { comes = rw e; back = λ m. absurd (spent≢missed m) }
+  walked-spent c e l = record { comes = rw e; back = λ m. absurd (spent≢missed m); size = l }
 
-  pub walked-broken : (c : ℕ) → a ≡ broken → Walked a before after (record { end = Broken; count = c })
+  pub walked-broken : (c : ℕ) → a ≡ broken → length after ≡ length before → Walked a before after (record { end = Broken; count = c })
   unfolding outBy seen
-  walked-broken c e = record { comes = rw e; back = λ m. absurd (broken≢missed m) }
+  walked-broken c e l = record { comes = rw e; back = λ m. absurd (broken≢missed m); size = l }
 
-  pub walked-found : (h : ℕ) {n i c : ℕ} → i ≡ n → a ≡ covered n (stateOf h after) c → Walked a before after (record { end = Found i; count = c })
+  pub walked-found : (h : ℕ) {n i c : ℕ} → i ≡ n → a ≡ covered n (stateOf h after) c → length after ≡ length before → Walked a before after (record { end = Found i; count = c })
   unfolding outBy seen shown
-  walked-found h f e = record { comes = rw (f, e); back = λ m. absurd (found≢missed m) }
+  walked-found h f e l = record { comes = rw (f, e); back = λ m. absurd (found≢missed m); size = l }
 
-  pub walked-same : {m : List ℕ} {r : Finding} {x : Answer State} → (r .end ≡ Missed → ⊥) → a ≡ x → Walked x m after r → Walked a before after r
-  walked-same nm e w = record { comes = rw e (w .comes); back = λ m. absurd (nm m) }
+  pub walked-same : {m : List ℕ} {r : Finding} {x : Answer State} → (r .end ≡ Missed → ⊥) → a ≡ x → Walked x m after r → length m ≡ length before → Walked a before after r
+  walked-same nm e w l = record { comes = rw e (w .comes); back = λ m. absurd (nm m); size = w .size ∙ l }
 
 -- a walk that ends ends what follows it
 pub then-broken : {a : Answer State} (k : Part State) → a ≡ broken → andThen a k ≡ broken

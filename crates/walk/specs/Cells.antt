@@ -14,7 +14,12 @@ use Rattle.machine.proofs.Safe.{Safe}
 use Rattle.tree.specs.Laid.{keyOf}
 use Rattle.walk.specs.Walk.{Answer, covered, notCovered, spent, broken, Part, tries, upTo}
 use Rattle.walk.specs.Words.{extends, walkWords}
-use Rattle.walk.specs.Query.{machine, shown}
+use Rattle.walk.specs.Query.{machine, shown, Asked, unanswered, written}
+use Rattle.clause.specs.declared.Shape.{Shape}
+use Rattle.clause.specs.declared.Shape.the-variants.{Faulty, Whole}
+use Rattle.tree.specs.declared.Refusal.{Refusal}
+use Rattle.tree.specs.declared.Refusal.the-variants.{BadClause, Broken as Refused, Spent as SpentAll}
+use Rattle.walk.specs.declared.QueryAnswer.the-variants.{Covered, NotCovered}
 use Rattle.walk.specs.declared.Go.{Go}
 use Rattle.walk.specs.declared.Go.the-variants.{Fails, Stuck, Hit, Tries, Below}
 use Rattle.walk.specs.declared.Visit.{Visit}
@@ -164,6 +169,7 @@ outBy Spent c l = exhausted
 pub record Walked (a : Answer State) (before after : List ℕ) (r : Finding) : Type 0 where
   pub comes : outBy (r .end) (r .count) after ≡ seen a
   pub back : r .end ≡ Missed → after ≡ before
+  pub size : length after ≡ length before
 
 -- the walk below a node: from each candidate, or from the state itself
 unfoldable pub entered : List ℕ → (budget : ℕ) → Bool → (State → Part State) → State → Part State
@@ -174,3 +180,22 @@ entered d b false k s c = k s c
 unfoldable pub passesOf : Bool → ℕ → ℕ
 passesOf true n = n
 passesOf false n = 1
+
+-- entries that stand in a longer list from a place on, the other words as before
+pub record Laid (before : List ℕ) (from : ℕ) (entries : List ℕ) (n : ℕ) (after : List ℕ) : Type 0 where
+  pub size : length after ≡ length before
+  pub there : (i : ℕ) → i < n → getD after (from + i) 0 ≡ getD entries i 0
+  pub lower : (k : ℕ) → k < from → getD after k 0 ≡ getD before k 0
+  pub upper : (k : ℕ) → from + n ≤ k → getD after k 0 ≡ getD before k 0
+
+-- what a shape is refused with; a whole clause is not
+unfoldable pub refusalOf : Shape → Refusal
+refusalOf (Faulty f) = BadClause f
+refusalOf (Whole n) = Refused
+
+-- what is asked is told by what is seen of the walk
+unfoldable pub toldOut : (budget : ℕ) (witness : List ℕ) → Out → Asked
+toldOut b W (missed c) = record { answer = NotCovered c; witness = W }
+toldOut b W (found n os c) = record { answer = Covered n c; witness = written os W }
+toldOut b W exhausted = unanswered (SpentAll b) W
+toldOut b W damaged = unanswered Refused W

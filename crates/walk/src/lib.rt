@@ -1,10 +1,15 @@
 // The walk: query and ceiling (document 01, "The walk").
 use tree::Refusal;
 
+mod ask;
 mod cells;
+mod highest;
 mod row;
 mod step;
 mod walk;
+
+pub use ask::query;
+pub use highest::ceiling;
 
 // The answer to a query: covered, with the clause's number and the count; not covered, with the count; or a refusal.
 pub enum QueryAnswer {

@@ -301,19 +301,19 @@ walk-returns-2 : (t : ℕ) → walk-lts.Need-returns-2 (rs t) (walk-at t) walk.P
 walk-returns-2 t c = let a = c .before .before .before .before .before .before .before .args in
     let p = c .before .before .before .before .before .before .before .pre .1 in
     let i = c .before .before .before .tries .inv in
-    walked-spent _ (i .2 ∙ runs-spent (a .query .now) (a .budget) _ _ (rw (chosen-length _ _ _ _ (p .0)) (p .1 (c .before .if2 .taken))) (c .before .if2 .taken) _ _ _ (c .before .before .if1 .left) (c .if3 .taken))
+    walked-spent _ (i .2 ∙ runs-spent (a .query .now) (a .budget) _ _ (rw (chosen-length _ _ _ _ (p .0)) (p .1 (c .before .if2 .taken))) (c .before .if2 .taken) _ _ _ (c .before .before .if1 .left) (c .if3 .taken)) (ap (λ (l : List ℕ). length l) (i .1))
 
 walk-returns-3 : (t : ℕ) → walk-lts.Need-returns-3 (rs t) (walk-at t) walk.Post walk-Inv-loop walk-μ-loop walk-Inv-tries walk-μ-tries
-walk-returns-3 t c = walked-broken _ (next-turn t (c .before .before .before .before .before .before .before .before .before .before) ∙ then-broken _ (node-stuck (c .before .before .before .before .before .before .before .before .before .before .before .before .before .before .before .before .before .before .before .before .args .query .now) (c .before .before .before .before .before .before .before .before .before .before .before .before .before .before .before .before .before .before .before .before .args .tables .now) (c .before .before .before .before .before .before .before .before .before .before .before .before .before .before .before .before .before .before .before .before .args .words .now) (c .before .before .before .before .before .before .before .before .before .before .before .before .before .before .before .before .before .before .before .before .args .budget) _ _ _ _ _ _ _ _ _ (c .before .before .before .before .before .before .before .loop .inv) (c .before .before .before .before .before .before .loop-test .taken) _ (c .before .before .extent .ensures) _ _ (c .before .before .before .meet .ensures) (c .enum-told .given .1)))
+walk-returns-3 t c = walked-broken _ (next-turn t (c .before .before .before .before .before .before .before .before .before .before) ∙ then-broken _ (node-stuck (c .before .before .before .before .before .before .before .before .before .before .before .before .before .before .before .before .before .before .before .before .args .query .now) (c .before .before .before .before .before .before .before .before .before .before .before .before .before .before .before .before .before .before .before .before .args .tables .now) (c .before .before .before .before .before .before .before .before .before .before .before .before .before .before .before .before .before .before .before .before .args .words .now) (c .before .before .before .before .before .before .before .before .before .before .before .before .before .before .before .before .before .before .before .before .args .budget) _ _ _ _ _ _ _ _ _ (c .before .before .before .before .before .before .before .loop .inv) (c .before .before .before .before .before .before .loop-test .taken) _ (c .before .before .extent .ensures) _ _ (c .before .before .before .meet .ensures) (c .enum-told .given .1))) (stored-size (c .before .before .before .meet .ensures .stored) ∙ c .before .before .before .before .before .before .before .loop .inv .ready .size ∙ sym (c .before .before .before .before .before .before .before .before .before .before .before .before .before .before .before .before .before .before .before .before .pre .1 .0 .size))
 
 walk-returns-4 : (t : ℕ) → walk-lts.Need-returns-4 (rs t) (walk-at t) walk.Post walk-Inv-loop walk-μ-loop walk-Inv-tries walk-μ-tries
-walk-returns-4 t c = walked-found (c .before .before .before .before .meet .result .head) (c .operand .ensures) (next-turn t (c .before .before .before .before .before .before .before .before .before .before .before) ∙ then-covered _ (node-hit (c .before .before .before .before .before .before .before .before .before .before .before .before .before .before .before .before .before .before .before .before .before .args .query .now) (c .before .before .before .before .before .before .before .before .before .before .before .before .before .before .before .before .before .before .before .before .before .args .tables .now) (c .before .before .before .before .before .before .before .before .before .before .before .before .before .before .before .before .before .before .before .before .before .args .words .now) (c .before .before .before .before .before .before .before .before .before .before .before .before .before .before .before .before .before .before .before .before .before .args .budget) _ _ _ _ _ _ _ _ _ (c .before .before .before .before .before .before .before .before .loop .inv) (c .before .before .before .before .before .before .before .loop-test .taken) _ (c .before .before .before .extent .ensures) _ _ (c .before .before .before .before .meet .ensures) (c .before .enum-told2 .given .1)))
+walk-returns-4 t c = walked-found (c .before .before .before .before .meet .result .head) (c .operand .ensures) (next-turn t (c .before .before .before .before .before .before .before .before .before .before .before) ∙ then-covered _ (node-hit (c .before .before .before .before .before .before .before .before .before .before .before .before .before .before .before .before .before .before .before .before .before .args .query .now) (c .before .before .before .before .before .before .before .before .before .before .before .before .before .before .before .before .before .before .before .before .before .args .tables .now) (c .before .before .before .before .before .before .before .before .before .before .before .before .before .before .before .before .before .before .before .before .before .args .words .now) (c .before .before .before .before .before .before .before .before .before .before .before .before .before .before .before .before .before .before .before .before .before .args .budget) _ _ _ _ _ _ _ _ _ (c .before .before .before .before .before .before .before .before .loop .inv) (c .before .before .before .before .before .before .before .loop-test .taken) _ (c .before .before .before .extent .ensures) _ _ (c .before .before .before .before .meet .ensures) (c .before .enum-told2 .given .1))) (stored-size (c .before .before .before .before .meet .ensures .stored) ∙ c .before .before .before .before .before .before .before .before .loop .inv .ready .size ∙ sym (c .before .before .before .before .before .before .before .before .before .before .before .before .before .before .before .before .before .before .before .before .before .pre .1 .0 .size))
 
 walk-returns-5 : (t : ℕ) → walk-lts.Need-returns-5 (rs t) (walk-at t) walk.Post walk-Inv-loop walk-μ-loop walk-Inv-tries walk-μ-tries
 walk-returns-5 t c = let h = c .match2 .keys2 in
     let w = c .before .walk .ensures in
     let nm : (c .before .walk .result .end ≡ Missed → ⊥) = λ m. miss (1 ∷ 2 ∷ 3 ∷ []) 0 tt (rw m at h) in
-    walked-same nm (next-turn t (c .before .before .before .before .before .before .before .before .before .before .before .before .before) ∙ then-found _ nm (node-ends (c .before .before .before .before .before .before .before .before .before .before .before .before .before .before .before .before .before .before .before .before .before .before .before .args .query .now) (c .before .before .before .before .before .before .before .before .before .before .before .before .before .before .before .before .before .before .before .before .before .before .before .args .tables .now) (c .before .before .before .before .before .before .before .before .before .before .before .before .before .before .before .before .before .before .before .before .before .before .before .args .words .now) (c .before .before .before .before .before .before .before .before .before .before .before .before .before .before .before .before .before .before .before .before .before .before .before .args .budget) _ _ _ _ _ _ _ _ _ (c .before .before .before .before .before .before .before .before .before .before .loop .inv) (c .before .before .before .before .before .before .before .before .before .loop-test .taken) _ (c .before .before .before .before .before .extent .ensures) _ _ (c .before .before .before .before .before .before .meet .ensures) _ (kind t (c .before .before .before .before)) _ _ (c .before .walk .ensures) nm) w) w
+    walked-same nm (next-turn t (c .before .before .before .before .before .before .before .before .before .before .before .before .before) ∙ then-found _ nm (node-ends (c .before .before .before .before .before .before .before .before .before .before .before .before .before .before .before .before .before .before .before .before .before .before .before .args .query .now) (c .before .before .before .before .before .before .before .before .before .before .before .before .before .before .before .before .before .before .before .before .before .before .before .args .tables .now) (c .before .before .before .before .before .before .before .before .before .before .before .before .before .before .before .before .before .before .before .before .before .before .before .args .words .now) (c .before .before .before .before .before .before .before .before .before .before .before .before .before .before .before .before .before .before .before .before .before .before .before .args .budget) _ _ _ _ _ _ _ _ _ (c .before .before .before .before .before .before .before .before .before .before .loop .inv) (c .before .before .before .before .before .before .before .before .before .loop-test .taken) _ (c .before .before .before .before .before .extent .ensures) _ _ (c .before .before .before .before .before .before .meet .ensures) _ (kind t (c .before .before .before .before)) _ _ (c .before .walk .ensures) nm) w) w (stored-size (c .before .before .before .before .before .before .meet .ensures .stored) ∙ c .before .before .before .before .before .before .before .before .before .before .loop .inv .ready .size ∙ sym (c .before .before .before .before .before .before .before .before .before .before .before .before .before .before .before .before .before .before .before .before .before .before .before .pre .1 .0 .size))
 
 pub +walk-spec : {M : Type 1} → statement M
 +walk-spec = close μ-walk λ t. walk-lts.spec (rs t)
