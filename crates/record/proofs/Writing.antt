@@ -51,10 +51,14 @@ sets-append (b ∷ s) t o at = let e : at + suc (length s) ≡ suc at + length s
 pub written-append : (s t o : List ℕ) (at : ℕ) → written (s ++ t) o at ≡ written t (written s o at .output) (written s o at .next)
 written-append s t o at = rw (length-append, sets-append s t o at) (let e : at + (length s + length t) ≡ (at + length s) + length t = omega arith in rw e)
 
--- the place after the text, and the output's length
+-- the place after some text, and the output's length
+pub placed : (t o : List ℕ) (at : ℕ) {r : ℕ} {p : List ℕ} → _≡_ {A = Written} (record { next = r; output = p }) (written t o at)
+    → (r ≡ at + length t) × (length p ≡ length o)
+placed t o at e = (ap (λ (w : Written). w .next) e, ap (λ (w : Written). length (w .output)) e ∙ length-sets o at t)
+
 pub put-inside : (t o : List ℕ) (at : ℕ) {r : ℕ} {p : List ℕ} → _≡_ {A = Written} (record { next = r; output = p }) (written t o at)
     → at + length t < length o → r < length p
-put-inside t o at e h = omega (arith, ap (λ (w : Written). w .next) e, ap (λ (w : Written). length (w .output)) e, length-sets o at t)
+put-inside t o at e h = omega (arith, placed t o at e)
 
 -- ---- a number, digit after digit
 
@@ -91,9 +95,20 @@ first-fits s t at n h = omega (arith, length-append s t)
 pub rest-fits : (s t o : List ℕ) (at : ℕ) {r : ℕ} {p : List ℕ} → at + length (s ++ t) ≤ length o
     → _≡_ {A = Written} (record { next = r; output = p }) (written s o at) → r + length t ≤ length p
 rest-fits s t o at h e =
-    omega (arith, length-append s t, ap (λ (w : Written). w .next) e, ap (λ (w : Written). length (w .output)) e, length-sets o at s)
+    omega (arith, length-append s t, placed s o at e)
 
 -- the first piece and then the rest is the whole
 pub joined : (s t o : List ℕ) (at : ℕ) {r : ℕ} {p : List ℕ} {w : Written} → _≡_ {A = Written} (record { next = r; output = p }) (written s o at)
     → w ≡ written t p r → w ≡ written (s ++ t) o at
 joined s t o at e f = f ∙ ap (λ (v : Written). written t (v .output) (v .next)) e ∙ sym (written-append s t o at)
+
+-- ---- how long a number is
+
+-- a number below 10 to the power k + 1 has at most k + 1 digits
+pub decimal-length : (k n : ℕ) → n < 10 ^ suc k → length (decimal n) ≤ suc k
+decimal-length zero n h = omega (arith, length-small n (omega arith))
+decimal-length (suc k) n h = go (decLt n 10) (decimal-length k (n / 10))
+  where
+    go : Dec (n < 10) → (n / 10 < 10 ^ suc k → length (decimal (n / 10)) ≤ suc k) → length (decimal n) ≤ suc (suc k)
+    go (yes s) ih = omega (arith, length-small n s)
+    go (no s) ih = omega (arith, length-large n (omega arith), ih (omega arith))

@@ -10,10 +10,11 @@ ghost use lib.ListN.{length};
 ghost use Rattle.record.specs.Text.{written};
 ghost use Rattle.record.specs.Line.{saying, lineOf, totalsLine};
 
-// Puts what became of a record at a place of the output, and gives the place after it.
+// Puts what became of a record at a place of the output, and gives the place after it. It takes at most 39 bytes: 8 + 10 + 1 + 20.
 fn put_outcome(output: &mut [u8], at: usize, outcome: Outcome) -> usize
-    requires { ⌜ at + length (saying outcome) ≤ length (now output) ⌝ }
-    ensures { λ r. ⌜ record { next = r; output = now (output .exit) } ≡ written (saying outcome) (now (output .entry)) at ⌝ }
+    requires { ⌜ at + 39 ≤ length (now output) ⌝ }
+    ensures text { λ r. ⌜ record { next = r; output = now (output .exit) } ≡ written (saying outcome) (now (output .entry)) at ⌝ }
+    ensures short { λ r. ⌜ r ≤ at + 39 ⌝ }
 {
     match outcome {
         Outcome::Kept(used) => put_named(output, at, b" kept ", used),
@@ -25,20 +26,22 @@ fn put_outcome(output: &mut [u8], at: usize, outcome: Outcome) -> usize
     }
 }
 
-// Puts the line of a record at a place of the output, and gives the place after it.
+// Puts the line of a record at a place of the output, and gives the place after it. A line takes at most 45 bytes.
 pub fn put_line(output: &mut [u8], at: usize, number: u16, outcome: Outcome) -> usize
-    requires { ⌜ at + length (lineOf number outcome) ≤ length (now output) ⌝ }
-    ensures { λ r. ⌜ record { next = r; output = now (output .exit) } ≡ written (lineOf number outcome) (now (output .entry)) at ⌝ }
+    requires { ⌜ at + 45 ≤ length (now output) ⌝ }
+    ensures text { λ r. ⌜ record { next = r; output = now (output .exit) } ≡ written (lineOf number outcome) (now (output .entry)) at ⌝ }
+    ensures short { λ r. ⌜ r ≤ at + 45 ⌝ }
 {
     let next = put_decimal(output, at, number as u64);
     let end = put_outcome(output, next, outcome);
     put_text(output, end, b"\n")
 }
 
-// Puts the last line at a place of the output, and gives the place after it.
+// Puts the last line at a place of the output, and gives the place after it. It takes at most 83 bytes.
 pub fn put_totals(output: &mut [u8], at: usize, totals: Totals) -> usize
-    requires { ⌜ at + length (totalsLine totals) ≤ length (now output) ⌝ }
-    ensures { λ r. ⌜ record { next = r; output = now (output .exit) } ≡ written (totalsLine totals) (now (output .entry)) at ⌝ }
+    requires { ⌜ at + 83 ≤ length (now output) ⌝ }
+    ensures text { λ r. ⌜ record { next = r; output = now (output .exit) } ≡ written (totalsLine totals) (now (output .entry)) at ⌝ }
+    ensures short { λ r. ⌜ r ≤ at + 83 ⌝ }
 {
     let struck = put_named(output, at, b"kept ", totals.kept);
     let refused = put_named(output, struck, b" struck ", totals.struck);
