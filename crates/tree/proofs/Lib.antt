@@ -12,5 +12,13 @@ pub mod Held
 pub mod Changes
 pub mod Plain
 pub mod Hops
+pub mod Seeking
+pub mod Raising
+pub mod ShiftRight
+pub mod Chain
+pub mod Scanning
+pub mod UsedWords
+pub mod Fitted
+pub mod InsertCases
 pub mod Laws
 pub mod ByWords

@@ -9,4 +9,5 @@ pub mod Refusal
 pub mod Changes
 pub mod Calls
 pub mod ByWords
+pub mod Inserting
 pub mod Laws

@@ -1,0 +1,17 @@
+// The fields of a tree word: the key (operation and operand), the extent.
+ghost use mathlib.Core.Path.{_≡_};
+ghost use Rattle.tree.specs.Laid.{keyOf, extentOf};
+
+// The key of a tree word: operation and operand, its upper 36 bits.
+pub fn key(w: u64) -> u64
+    ensures { λ r. ⌜ r ≡ keyOf w ⌝ }
+{
+    w / 268435456
+}
+
+// The extent of a tree word: its node and all below it, its lower 28 bits.
+pub fn extent(w: u64) -> usize
+    ensures { λ r. ⌜ r ≡ extentOf w ⌝ }
+{
+    (w % 268435456) as usize
+}
