@@ -153,7 +153,11 @@ from-length (w ∷ ws) place puts from n =
       from-length ws (t .place) puts′ from′ (t .pushed),
     ))
 
--- at most 320 instructions, the Success left out
-pub sequence-length : (c : List ℕ) → Clause c → length (sequence c) ≤ 320
+-- at most 5 instructions for each word, the Success left out
+pub sequence-few : (c : List ℕ) → length (sequence c) ≤ 5 * length c
 unfolding sequence
-sequence-length c C = omega (arith, from-length c ended [] 0 0, C .fits)
+sequence-few c = omega (arith, from-length c ended [] 0 0)
+
+-- at most 320 instructions for a clause
+pub sequence-length : (c : List ℕ) → Clause c → length (sequence c) ≤ 320
+sequence-length c C = omega (arith, sequence-few c, C .fits)
