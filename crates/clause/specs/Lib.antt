@@ -1,5 +1,7 @@
 pub mod Lists
 pub mod Word
 pub mod Clause
+pub mod Cursor
 pub mod Positions
+pub mod Tables
 pub mod Accepted

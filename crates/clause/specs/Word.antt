@@ -1,4 +1,5 @@
 -- A clause word: 16 bits, fields from the most significant bit: kind (2), arity (3), number (11).
+use mathlib.Core.Bool.{Bool, true, false}
 use mathlib.Core.List.{List}
 use Prim.Native.Nat.{ℕ, zero, suc, _/_, _%_, _^_, _<_}
 use Rattle.clause.specs.Lists.{All}
@@ -44,3 +45,18 @@ ifVariable symbol a b = b
 ifVariable variable a b = a
 ifVariable head a b = b
 ifVariable wrong a b = b
+
+-- the first of two for a word that stands inside a literal, the second for a head or no word
+abbrev pub ifInside {ℓ} : {A : Type ℓ} → Sort → A → A → A
+ifInside symbol a b = a
+ifInside variable a b = a
+ifInside head a b = b
+ifInside wrong a b = b
+
+-- whether a word is the head of a literal
+abbrev pub isHead : Sort → Bool
+isHead s = ifHead s true false
+
+-- whether a word stands inside a literal
+abbrev pub isInside : Sort → Bool
+isInside s = ifInside s true false

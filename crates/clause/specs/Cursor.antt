@@ -1,0 +1,52 @@
+-- The cursor: from a term to its first argument, to its right sibling, and past it.
+use mathlib.Core.List.{List, [], _∷_}
+use Prim.Native.Nat.{ℕ, zero, suc, _+_}
+use lib.ListN.{getD, drop}
+use Rattle.clause.specs.Word.{arity, sort, ifInside}
+use Rattle.clause.specs.declared.Cursor.{Cursor}
+use Rattle.clause.specs.declared.Move.{Move}
+use Rattle.clause.specs.declared.Move.the-variants.{To, Nowhere}
+use Rattle.clause.specs.declared.Passed.{Passed}
+use Rattle.clause.specs.declared.Passed.the-variants.{At, Off}
+
+-- a literal's head, which has no right siblings
+abbrev pub headAt : ℕ → Cursor
+headAt at = record { at = at; left = 0 }
+
+-- the first of some terms that stand from a position on
+abbrev pub firstOf : ℕ → ℕ → Move
+firstOf zero at = Nowhere
+firstOf (suc k) at = To (record { at = at; left = k })
+
+-- the first argument of the term at a cursor
+abbrev pub goDown : List ℕ → Cursor → Move
+goDown ws c = firstOf (arity (getD ws (c .at) 0)) (suc (c .at))
+
+-- the right sibling of the term at a cursor, which ends at a position
+abbrev pub goRight : ℕ → Cursor → Move
+goRight end c = firstOf (c .left) end
+
+-- past `need` terms, the first of which stands at a position; a word that stands inside no literal, or the end, breaks the rules
+unfoldable pub pass : List ℕ → (need at left : ℕ) → Passed
+pass [] zero at left = At (record { at = at; left = left })
+pass [] (suc k) at left = Off at
+pass (w ∷ ws) zero at left = At (record { at = at; left = left })
+pass (w ∷ ws) (suc k) at left = ifInside (sort w) (pass ws (arity w + k) (suc at) left) (Off at)
+
+-- past the term at a cursor
+unfoldable pub goPast : List ℕ → Cursor → Passed
+goPast ws c = pass (drop (c .at) ws) 1 (c .at) (c .left)
+
+-- past the term at a cursor and its right siblings
+unfoldable pub passArguments : List ℕ → Cursor → Passed
+passArguments ws c = pass (drop (c .at) ws) (suc (c .left)) (c .at) 0
+
+-- past a head, which stands first, and its arguments
+unfoldable pub passLiteral : List ℕ → ℕ → Passed
+passLiteral [] at = Off at
+passLiteral (w ∷ ws) at = pass ws (arity w) (suc at) 0
+
+-- the position after the terms, or of what breaks the rules
+abbrev pub positionOf : Passed → ℕ
+positionOf (At c) = c .at
+positionOf (Off at) = at

@@ -1,0 +1,24 @@
+// Clause words: what a word is, by number tests.
+ghost use mathlib.Core.Path.{_≡_};
+ghost use Rattle.clause.specs.Word.{sort, arity as Word·arity, isHead, isInside};
+
+// The number of a word's arguments.
+pub fn arity(word: u16) -> usize
+    ensures { λ r. ⌜ r ≡ Word·arity word ⌝ }
+{
+    (word / 2048 % 8) as usize
+}
+
+// Whether a word is the head of a literal: its kind is 2 or 3.
+pub fn is_head(word: u16) -> bool
+    ensures { λ r. ⌜ r ≡ isHead (sort word) ⌝ }
+{
+    word >= 32768
+}
+
+// Whether a word stands inside a literal: a function symbol, or a variable with no arguments.
+pub fn is_inside(word: u16) -> bool
+    ensures { λ r. ⌜ r ≡ isInside (sort word) ⌝ }
+{
+    word < 18432
+}
