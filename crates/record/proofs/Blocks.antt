@@ -146,6 +146,7 @@ pub record Feeding (s₀ : Session) (m₀ : Store) (input o₀ : List ℕ) (s : 
   pub slice : length (m .slice) ≡ length (m₀ .slice)
   pub marks : length (m .marks) ≡ length (m₀ .marks)
   pub records : recordsIn (s .totals) ≤ recordsIn (s₀ .totals) + i
+  pub first : i ≡ 0 → at ≡ 0
 
 pub feeding-none : (s : Session) (m : Store) (input o : List ℕ) → Steady (m .slice) (m .marks) → Feeding s m input o s m o 0 0
 unfolding feed
@@ -159,6 +160,7 @@ feeding-none s m input o h =
       slice = refl;
       marks = refl;
       records = omega arith;
+      first = λ e. refl;
     }
 
 module _ (s₀ : Session) (m₀ : Store) (input o₀ : List ℕ) {s : Session} {m : Store} {o : List ℕ} {i at : ℕ} (f : Feeding s₀ m₀ input o₀ s m o i at) where
@@ -184,4 +186,11 @@ module _ (s₀ : Session) (m₀ : Store) (input o₀ : List ℕ) {s : Session} {
         slice = ls ∙ f .slice;
         marks = lm ∙ f .marks;
         records = omega (arith, f .records, k);
+        first = λ z. absurd (omega arith);
       }
+
+-- where there is room for a line at the beginning and none any more, something was taken
+pub some-taken : {s₀ s : Session} {m₀ m : Store} {input o₀ o : List ℕ} {i at : ℕ} → Feeding s₀ m₀ input o₀ s m o i at
+    → 45 ≤ length o₀ → length o₀ < at + 45 → 0 < i
+some-taken {i = zero} f g h = omega (arith, f .first refl)
+some-taken {i = suc i} f g h = omega arith

@@ -1,2 +1,4 @@
 pub mod Writing
 pub mod Blocks
+pub mod Steady
+pub mod Keeping

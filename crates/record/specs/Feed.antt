@@ -95,7 +95,7 @@ feed s m [] = record { session = s; store = m; text = [] }
 feed s m (b ∷ bs) = andThen (takeByte s m b) (λ s′ m′. feed s′ m′ bs)
 
 -- before the first byte
-unfoldable pub opening : Session
+abbrev pub opening : Session
 opening = record { half = Even; stage = AtNumber; totals = output.none }
 
 -- the lent words before the first byte: all zeros
@@ -140,6 +140,7 @@ pub record Bounds (len room : ℕ) (before : Totals) (taken next : ℕ) (after :
   pub inside : taken ≤ len
   pub fits : next ≤ room
   pub full : taken < len → room < next + 45
+  pub moves : 45 ≤ room → 0 < len → 0 < taken
   pub records : recordsIn after ≤ recordsIn before + taken
 
 -- the claim: whatever the blocks, the text of all of them and the last line are the output for the whole input

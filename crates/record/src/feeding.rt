@@ -13,8 +13,23 @@ ghost use mathlib.Core.Path.{_≡_};
 ghost use Prim.Native.Nat.{_+_, _*_, _^_, _≤_, _<_};
 ghost use lib.ListN.{length, take, set};
 ghost use Rattle.record.specs.Output.{counted};
-ghost use Rattle.record.specs.Feed.{storeOf, finishing, finished, takeField, takeByte, Steady, Answers, Took, Bounds, recordsIn};
+ghost use Rattle.record.specs.Feed.{storeOf, finishing, finished, takeField, takeByte, Steady, Answers, Took, Bounds, recordsIn, opening};
 ghost use Rattle.record.specs.Feed.{feed as Feed·feed};
+
+// The session before the first byte.
+pub fn begin() -> Session
+    ensures { λ r. ⌜ r ≡ opening ⌝ }
+{
+    Session {
+        half: Half::Even,
+        stage: Stage::AtNumber,
+        totals: Totals {
+            kept: 0,
+            struck: 0,
+            refused: 0,
+        },
+    }
+}
 
 // The totals with one more outcome.
 fn count_outcome(totals: Totals, outcome: Outcome) -> Totals

@@ -5,6 +5,7 @@ mod line;
 mod text;
 
 pub use answering::answer;
+pub use feeding::begin;
 pub use feeding::feed;
 pub use line::put_line;
 pub use line::put_totals;
