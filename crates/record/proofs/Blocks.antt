@@ -31,7 +31,7 @@ pub finishes : (n count : ℕ) (t : Totals) (m : Store) (o : List ℕ) (at : ℕ
     → u ≡ counted r t
     → _≡_ {A = Written} (record { next = next; output = p }) (written (lineOf n r) o at)
     → Took (finished n count t m) o at (record { half = Even; stage = AtNumber; totals = u }) (record { words = m .words; slice = T; marks = K })
-      (record { next = next; output = p })
+    (record { next = next; output = p })
 unfolding finished
 finishes n count t m o at a e w = record { placed = rw (← a .answer, a .marking, e, w); steady = a .steady }
 
@@ -174,11 +174,11 @@ module _ (s₀ : Session) (m₀ : Store) (input o₀ : List ℕ) {s : Session} {
       let k : recordsIn (s′ .totals) ≤ recordsIn (s .totals) + 1 = rw e (few-records (s .half) (s .stage) (s .totals) m b) in
       record {
         took =
-          took-as (feed-more input i s₀ m₀ h)
-          (record {
-            placed = t .placed ∙ placed-then (feed s₀ m₀ (take i input)) (λ s″ m″. takeByte s″ m″ b) o₀ 0 (f .took .placed);
-            steady = t .steady;
-          });
+            took-as (feed-more input i s₀ m₀ h)
+            (record {
+              placed = t .placed ∙ placed-then (feed s₀ m₀ (take i input)) (λ s″ m″. takeByte s″ m″ b) o₀ 0 (f .took .placed);
+              steady = t .steady;
+            });
         inside = omega arith;
         fits = omega (arith, f .output);
         output = lo ∙ f .output;

@@ -88,9 +88,10 @@ module _ {S K : List ℕ} (h : Steady S K) where
 
       -- a number other than n is where it was
       other : (m : ℕ) → m < 65_536 → (m ≡ n → ⊥) → (find m (decode S) ≡ none → find m (ins (keys c) n (decode S)) ≡ none) × (find m (ins (keys c) n (decode S)) ≡ none → find m (decode S) ≡ none)
-      other m k d =
-          (λ v. grown .missing m (omega arith) .1 (λ cs p. ⊎-elim (λ w. d (w .1)) (λ w. paths .missing m (omega arith) .0 v cs w) (formed .1 cs m .0 p)),
-          λ v. paths .missing m (omega arith) .1 (λ cs p. grown .missing m (omega arith) .0 v cs (formed .1 cs m .1 (inr p))))
+      other m k d = (
+        λ v. grown .missing m (omega arith) .1 (λ cs p. ⊎-elim (λ w. d (w .1)) (λ w. paths .missing m (omega arith) .0 v cs w) (formed .1 cs m .0 p)),
+        λ v. paths .missing m (omega arith) .1 (λ cs p. grown .missing m (omega arith) .0 v cs (formed .1 cs m .1 (inr p))),
+      )
 
       new : find n (ins (keys c) n (decode S)) ≡ none → ⊥
       new v = grown .missing n (omega arith) .0 v (keys c) (formed .1 (keys c) n .1 (inl (refl, refl)))

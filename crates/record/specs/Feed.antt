@@ -11,7 +11,7 @@ use Rattle.tree.specs.Laid.{wellLaid, decode}
 use Rattle.record.specs.Text.{Written, written}
 use Rattle.record.specs.Line.{lineOf, totalsLine}
 use Rattle.record.specs.Answer.{treeWords, Record, Answered, answered}
-use Rattle.record.specs.Output.{counted, outputOf} 
+use Rattle.record.specs.Output.{counted, outputOf}
 use Rattle.record.specs.Output as output
 use Rattle.record.specs.declared.Outcome.{Outcome}
 use Rattle.record.specs.declared.Outcome.the-variants.{Kept, Struck, Refused}

@@ -1,13 +1,11 @@
 // What becomes of one record.
+use crate::Outcome;
 use clause::Fault;
 use machine::compile::compile;
 use tree::CallAnswer;
 use tree::Refusal;
 use tree::insert_new;
 use walk::QueryAnswer;
-
-use crate::Outcome;
-
 ghost use mathlib.Core.Path.{_≡_};
 ghost use Prim.Native.Nat.{ℕ};
 ghost use Rattle.clause.specs.Clause.{Accepted};

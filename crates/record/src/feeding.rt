@@ -8,7 +8,6 @@ use crate::Totals;
 use crate::Turn;
 use crate::answering::answer;
 use crate::line::put_line;
-
 ghost use mathlib.Core.Path.{_≡_};
 ghost use Prim.Native.Nat.{_+_, _*_, _^_, _≤_, _<_};
 ghost use lib.ListN.{length, take, set};
@@ -68,7 +67,16 @@ fn outcome_of(tree: &mut [u64], marks: &mut [u8], words: &[u16], number: u16, co
 }
 
 // Ends a whole record: what becomes of it, its line, the totals.
-fn finish(tree: &mut [u64], marks: &mut [u8], words: &[u16], number: u16, count: u16, totals: Totals, output: &mut [u8], at: usize) -> Turn
+fn finish(
+    tree: &mut [u64],
+    marks: &mut [u8],
+    words: &[u16],
+    number: u16,
+    count: u16,
+    totals: Totals,
+    output: &mut [u8],
+    at: usize,
+) -> Turn
     requires { ⌜ Steady (now tree) (now marks) × (length (now words) ≡ 64) × (recordsIn totals + 1 < 2 ^ 64) × (at + 45 ≤ length (now output)) ⌝ }
     ensures took { λ r. ⌜ Took (finished number count totals (storeOf (now (words .entry)) (now (tree .entry)) (now (marks .entry)))) (now (output .entry)) at
         (r .session) (storeOf (now (words .entry)) (now (tree .exit)) (now (marks .exit))) (record { next = r .next; output = now (output .exit) }) ⌝ }
@@ -111,7 +119,16 @@ fn store(words: &mut [u16], at: usize, word: u16)
 }
 
 // Takes one more field.
-fn take_field(tree: &mut [u64], marks: &mut [u8], words: &mut [u16], stage: Stage, totals: Totals, field: u16, output: &mut [u8], at: usize) -> Turn
+fn take_field(
+    tree: &mut [u64],
+    marks: &mut [u8],
+    words: &mut [u16],
+    stage: Stage,
+    totals: Totals,
+    field: u16,
+    output: &mut [u8],
+    at: usize,
+) -> Turn
     requires { ⌜ Steady (now tree) (now marks) × (length (now words) ≡ 64) × (recordsIn totals + 1 < 2 ^ 64) × (at + 45 ≤ length (now output)) ⌝ }
     ensures took { λ r. ⌜ Took (takeField stage totals (storeOf (now (words .entry)) (now (tree .entry)) (now (marks .entry))) field) (now (output .entry)) at
         (r .session) (storeOf (now (words .exit)) (now (tree .exit)) (now (marks .exit))) (record { next = r .next; output = now (output .exit) }) ⌝ }
@@ -136,7 +153,15 @@ fn take_field(tree: &mut [u64], marks: &mut [u8], words: &mut [u16], stage: Stag
 }
 
 // Takes one more byte.
-fn take_byte(tree: &mut [u64], marks: &mut [u8], words: &mut [u16], session: Session, byte: u8, output: &mut [u8], at: usize) -> Turn
+fn take_byte(
+    tree: &mut [u64],
+    marks: &mut [u8],
+    words: &mut [u16],
+    session: Session,
+    byte: u8,
+    output: &mut [u8],
+    at: usize,
+) -> Turn
     requires { ⌜ Steady (now tree) (now marks) × (length (now words) ≡ 64) × (recordsIn (session .totals) + 1 < 2 ^ 64) × (at + 45 ≤ length (now output)) ⌝ }
     ensures took { λ r. ⌜ Took (takeByte session (storeOf (now (words .entry)) (now (tree .entry)) (now (marks .entry))) byte) (now (output .entry)) at
         (r .session) (storeOf (now (words .exit)) (now (tree .exit)) (now (marks .exit))) (record { next = r .next; output = now (output .exit) }) ⌝ }
@@ -154,13 +179,29 @@ fn take_byte(tree: &mut [u64], marks: &mut [u8], words: &mut [u16], session: Ses
             },
             next: at,
         },
-        Half::Odd(high) => take_field(tree, marks, words, stage, totals, high as u16 * 256 + byte as u16, output, at),
+        Half::Odd(high) => take_field(
+            tree,
+            marks,
+            words,
+            stage,
+            totals,
+            high as u16 * 256 + byte as u16,
+            output,
+            at,
+        ),
     }
 }
 
 // Takes the bytes of a block one after another, as long as the output has room for a line. The caller's session and lent words are those that
 // the blocks before have left.
-pub fn feed(input: &[u8], session: Session, tree: &mut [u64], marks: &mut [u8], words: &mut [u16], output: &mut [u8]) -> Progress
+pub fn feed(
+    input: &[u8],
+    session: Session,
+    tree: &mut [u64],
+    marks: &mut [u8],
+    words: &mut [u16],
+    output: &mut [u8],
+) -> Progress
     requires { ⌜ Steady (now tree) (now marks) × (length (now words) ≡ 64) × (recordsIn (session .totals) + length (now input) < 2 ^ 64) ⌝ }
     ensures took { λ r. ⌜ Took (Feed·feed session (storeOf (now (words .entry)) (now (tree .entry)) (now (marks .entry))) (take (r .taken) (now (input .entry)))) (now (output .entry)) 0
         (r .session) (storeOf (now (words .exit)) (now (tree .exit)) (now (marks .exit))) (record { next = r .next; output = now (output .exit) }) ⌝ }

@@ -6,14 +6,20 @@ use record::Session;
 use record::begin;
 use record::feed;
 use record::put_totals;
-
 ghost use mathlib.Core.Path.{_≡_};
 ghost use Prim.Native.Nat.{_+_, _*_, _^_, _≤_, _<_};
 ghost use lib.ListN.{length};
 ghost use Rattle.record.specs.Feed.{Steady, recordsIn};
 
 // Feeds a block, and writes what it prints, as often as the output is full.
-fn feed_block(block: &[u8], session: Session, tree: &mut [u64], marks: &mut [u8], words: &mut [u16], output: &mut [u8]) -> Session
+fn feed_block(
+    block: &[u8],
+    session: Session,
+    tree: &mut [u64],
+    marks: &mut [u8],
+    words: &mut [u16],
+    output: &mut [u8],
+) -> Session
     requires { ⌜ Steady (now tree) (now marks) × (length (now words) ≡ 64) × (recordsIn (session .totals) + length (now block) < 2 ^ 64) × (45 ≤ length (now output)) ⌝ }
     ensures steady { λ _. ⌜ Steady (now (tree .exit)) (now (marks .exit)) ⌝ }
     ensures records { λ r. ⌜ recordsIn (r .totals) ≤ recordsIn (session .totals) + length (now (block .entry)) ⌝ }

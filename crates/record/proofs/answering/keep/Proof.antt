@@ -34,9 +34,10 @@ slice-aggregate-insert-new c = sym (length-take-le _ _ (compiled-inside (c .befo
 
 insert-new-requires : tie.Need-insert-new-requires
 insert-new-requires c κs =
-    let s = c .before .before .before .before .before .before .before .before .before .before in
-    (ready (s .pre .0) (s .args .words .now) (s .pre .1) (words-of (s .args .words .now) (λ i. omega (arith, c .before .before .before .before .before .before .before .shared-slice-known .given i))) (s .args .number) (omega (arith, s .fits .number)) (compiled-keys (c .before .before .before .compile .ensures)),
-    number-new (s .pre .0) (s .args .words .now) (s .pre .1) (words-of (s .args .words .now) (λ i. omega (arith, c .before .before .before .before .before .before .before .shared-slice-known .given i))) (s .args .number) (omega (arith, s .fits .number)) (c .before .before .before .before .before .if1 .left))
+    let s = c .before .before .before .before .before .before .before .before .before .before in (
+      ready (s .pre .0) (s .args .words .now) (s .pre .1) (words-of (s .args .words .now) (λ i. omega (arith, c .before .before .before .before .before .before .before .shared-slice-known .given i))) (s .args .number) (omega (arith, s .fits .number)) (compiled-keys (c .before .before .before .compile .ensures)),
+      number-new (s .pre .0) (s .args .words .now) (s .pre .1) (words-of (s .args .words .now) (λ i. omega (arith, c .before .before .before .before .before .before .before .shared-slice-known .given i))) (s .args .number) (omega (arith, s .fits .number)) (c .before .before .before .before .before .if1 .left),
+    )
 
 enum-known-answer : tie.Need-enum-known-answer
 enum-known-answer c = search needs

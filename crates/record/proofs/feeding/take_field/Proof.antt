@@ -67,10 +67,12 @@ returns-2 c =
     let m = storeOf (a .words .now) (a .tree .now) (a .marks .now) in
     let g = c .before .before .before .before .before .before .before .stage2 .given in
     let i = g .0 .1 .1 .0 in
-    let e : c .going3 .result .next ≡ a .at = ap (λ (t : Turn). t .next) (c .going3 .ensures) in
-    (rw (c .before .before .before .before .store .ensures)
-    (goes (AtWord (g .0 .0) (g .0 .1 .0) (i + 1)) (a .totals) (storing m i (a .field)) (a .output .now) (a .at)
-    (at-word (a .totals) m (a .field) (g .0 .0) (g .0 .1 .0) i (g .1) (c .before .if2 .taken)) (c .going3 .ensures) (c .before .before .before .before .before .before .before .before .before .before .before .before .before .pre .0)), omega arith)
+    let e : c .going3 .result .next ≡ a .at = ap (λ (t : Turn). t .next) (c .going3 .ensures) in (
+      rw (c .before .before .before .before .store .ensures)
+          (goes (AtWord (g .0 .0) (g .0 .1 .0) (i + 1)) (a .totals) (storing m i (a .field)) (a .output .now) (a .at)
+          (at-word (a .totals) m (a .field) (g .0 .0) (g .0 .1 .0) i (g .1) (c .before .if2 .taken)) (c .going3 .ensures) (c .before .before .before .before .before .before .before .before .before .before .before .before .before .pre .0)),
+      omega arith,
+    )
 
 finish-requires-2 : tie.Need-finish-requires-2
 finish-requires-2 c κs =
