@@ -144,6 +144,6 @@ pub record Bounds (len room : ℕ) (before : Totals) (taken next : ℕ) (after :
   pub records : recordsIn after ≤ recordsIn before + taken
 
 -- the claim: whatever the blocks, the text of all of them and the last line are the output for the whole input
-pub record Whole : Type 0 where
+pub record WholeInput : Type 0 where
   pub blocks : (s : Session) (m : Store) (a b : List ℕ) → feed s m (a ++ b) ≡ andThen (feed s m a) (λ s′ m′. feed s′ m′ b)
   pub prints : (input : List ℕ) → feed opening opened input .text ++ totalsLine (feed opening opened input .session .totals) ≡ outputOf input

@@ -12,7 +12,7 @@ ghost use mathlib.Core.Path.{_≡_};
 ghost use Prim.Native.Nat.{_+_, _*_, _^_, _≤_, _<_};
 ghost use lib.ListN.{length, take, set};
 ghost use Rattle.record.specs.Output.{counted};
-ghost use Rattle.record.specs.Feed.{storeOf, finishing, finished, takeField, takeByte, Steady, Answers, Took, Bounds, recordsIn, opening};
+ghost use Rattle.record.specs.Feed.{storeOf, finishing, finished, takeField, takeByte, Steady, Answers, Took, Bounds, recordsIn, opening, WholeInput};
 ghost use Rattle.record.specs.Feed.{feed as Feed·feed};
 
 // The session before the first byte.
@@ -205,6 +205,7 @@ pub fn feed(
     requires { ⌜ Steady (now tree) (now marks) × (length (now words) ≡ 64) × (recordsIn (session .totals) + length (now input) < 2 ^ 64) ⌝ }
     ensures took { λ r. ⌜ Took (Feed·feed session (storeOf (now (words .entry)) (now (tree .entry)) (now (marks .entry))) (take (r .taken) (now (input .entry)))) (now (output .entry)) 0
         (r .session) (storeOf (now (words .exit)) (now (tree .exit)) (now (marks .exit))) (record { next = r .next; output = now (output .exit) }) ⌝ }
+    ensures whole { λ _. ⌜ WholeInput ⌝ }
     ensures bounds { λ r. ⌜ Bounds (length (now (input .entry))) (length (now (output .entry))) (session .totals) (r .taken) (r .next) (r .session .totals) ⌝ }
 {
     let mut here = session;

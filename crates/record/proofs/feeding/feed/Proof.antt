@@ -5,6 +5,7 @@ use native.Mathlib.Omega.{arith}
 use borrow.Author.Needs.{needs}
 use lib.ListN.{length}
 use Rattle.record.specs.Feed.{storeOf}
+use Rattle.record.proofs.Records.{whole-input}
 use Rattle.record.proofs.Blocks.{Feeding, feeding-none, feeding-more, some-taken}
 use Rattle.record.proofs.feeding.feed.Statement.{statement}
 use Rattle.record.proofs.feeding.feed.Tie as tie
@@ -62,7 +63,7 @@ same-length-4 c = c .before .loop .inv .output
 returns : tie.Need-returns Inv-loop μ-loop
 returns c =
     let l = c .before .loop .inv in
-    (l .took, record { inside = l .inside; fits = l .fits; full = λ h. absurd (omega (arith, c .loop-test .left)); moves = λ g h. omega (arith, c .loop-test .left); records = l .records })
+    (l .took, (whole-input, record { inside = l .inside; fits = l .fits; full = λ h. absurd (omega (arith, c .loop-test .left)); moves = λ g h. omega (arith, c .loop-test .left); records = l .records }))
 
 same-length-5 : tie.Need-same-length-5 Inv-loop μ-loop
 same-length-5 c = c .before .before .loop .inv .slice
@@ -79,7 +80,7 @@ same-length-8 c = c .before .before .loop .inv .output
 returns-2 : tie.Need-returns-2 Inv-loop μ-loop
 returns-2 c =
     let l = c .before .before .loop .inv in
-    (l .took, record { inside = l .inside; fits = l .fits; full = λ h. omega (arith, c .if1 .taken, l .output); moves = λ g h. some-taken l g (omega (arith, c .if1 .taken, l .output)); records = l .records })
+    (l .took, (whole-input, record { inside = l .inside; fits = l .fits; full = λ h. omega (arith, c .if1 .taken, l .output); moves = λ g h. some-taken l g (omega (arith, c .if1 .taken, l .output)); records = l .records }))
 
 pub feed-spec : {M : Type 1} → statement M
 feed-spec =
