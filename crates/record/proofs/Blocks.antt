@@ -1,19 +1,18 @@
 -- The input byte by byte: what each function of the reading leaves is what the definition says.
-use mathlib.Core.Path.{_≡_, refl, sym, ap, _∙_}
+use mathlib.Core.Path.{_≡_, refl, ap, _∙_}
 use mathlib.Core.List.{List, [], _∷_, _++_, append-assoc, append-nil}
 use mathlib.Core.Bool.{Bool, true, false, cond}
 use Prim.Native.Nat.{ℕ, zero, suc, _+_, _*_, _≤_, _<_}
 use native.Mathlib.Omega.{arith}
 use native.Mathlib.Numerals.{add-one}
 use lib.Dec.{ltb, eqb}
-use lib.ListN.{length, take, getD, set}
+use lib.ListN.{length, take, getD}
 use lib.Seq.{take-suc}
 use borrow.Author.Tests.{lt-ltb, le-ltb, eq-eqb, ne-eqb}
 use Rattle.record.specs.Text.{Written, written}
 use Rattle.record.specs.Line.{lineOf}
-use Rattle.record.specs.Answer.{Answered}
 use Rattle.record.specs.Output.{counted}
-use Rattle.record.specs.Feed.{Store, Fed, Placed, placedAt, finishedAs, finishing, finished, going, storing, takeField, takeAs, takeByte, andThen, feed, Steady, Answers, Took, marked, recordsIn}
+use Rattle.record.specs.Feed.{Store, Fed, Placed, placedAt, finishing, finished, going, storing, takeField, takeAs, takeByte, andThen, feed, Steady, Answers, Took, recordsIn}
 use Rattle.record.proofs.Writing.{written-append}
 use Rattle.record.specs.declared.Outcome.{Outcome}
 use Rattle.record.specs.declared.Outcome.the-variants.{Kept, Struck, Refused}

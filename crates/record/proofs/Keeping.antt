@@ -2,10 +2,9 @@
 use mathlib.Core.Path.{_≡_, refl, sym, ap, _∙_}
 use mathlib.Core.Bool.{Bool, true, false, cond}
 use mathlib.Core.Option.{none}
-use mathlib.Core.List.{List, map, _++_}
+use mathlib.Core.List.{List}
 use Prim.Native.Nat.{ℕ, _/_, _≤_, _<_}
 use native.Mathlib.Omega.{arith}
-use lib.Dec.{T, ltb}
 use lib.ListN.{length, getD, set, take, drop, replicate, length-map, length-append}
 use lib.Seq.{take-at}
 use Rattle.clause.specs.Word.{Words}
@@ -18,9 +17,8 @@ use Rattle.machine.specs.Compile.{sequence, keys}
 use Rattle.machine.specs.Compiled.{Compiled}
 use Rattle.machine.proofs.Length.{sequence-length}
 use Rattle.machine.proofs.Codes.{sequence-plain}
-use Rattle.tree.specs.Laid.{sized, usedOf, region}
+use Rattle.tree.specs.Laid.{sized, region}
 use Rattle.tree.specs.Cut.{locate}
-use Rattle.tree.specs.Entries.{Entry, entry}
 use Rattle.tree.specs.Refusal.{codeOf}
 use Rattle.tree.specs.Calls.{Called, insertion}
 use Rattle.tree.specs.ByWords.{insertByWords}
@@ -35,7 +33,7 @@ use Rattle.tree.proofs.UsedWords.{number-free}
 use Rattle.walk.specs.Query.{witnessWords, Asked, unanswered, queryAs, query}
 use Rattle.walk.specs.declared.QueryAnswer.{QueryAnswer}
 use Rattle.walk.specs.declared.QueryAnswer.the-variants.{Unanswered, Covered, NotCovered}
-use Rattle.record.specs.Answer.{budget, Answered, insertedAs, inserted, answeredAs, answered}
+use Rattle.record.specs.Answer.{budget, inserted, answered}
 use Rattle.record.specs.Feed.{Steady, Answers}
 use Rattle.record.specs.declared.Outcome.{Outcome}
 use Rattle.record.specs.declared.Outcome.the-variants.{Kept, Struck, Refused}

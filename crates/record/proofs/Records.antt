@@ -1,14 +1,14 @@
 -- Byte by byte or record by record: what is printed is the same.
 use mathlib.Core.Path.{_≡_, refl, sym, ap, _∙_}
-use mathlib.Core.List.{List, [], _∷_, _++_, append-nil}
+use mathlib.Core.List.{List, [], _∷_, _++_}
 use mathlib.Core.Bool.{Bool, true, false, cond}
 use Prim.Native.Nat.{ℕ, zero, suc, _+_, _-_, _*_, _≤_, _<_}
 use native.Mathlib.Omega.{arith}
-use native.Mathlib.Decide.{decLe, decLt, ℕ-discrete}
+use native.Mathlib.Decide.{decLe, decLt}
 use lib.Dec.{leb, ltb, eqb}
-use lib.ListN.{length, take, drop, set, replicate, length-take, length-drop, length-set, length-replicate}
+use lib.ListN.{length, take, drop, replicate, length-drop, length-replicate}
 use lib.Seq.{sets, sets-eq, length-sets, take-at, length-take-le}
-use borrow.Author.Tests.{le-leb, lt-leb, leb-false, lt-ltb, le-ltb, eq-eqb, ne-eqb}
+use borrow.Author.Tests.{le-leb, lt-leb, leb-false, lt-ltb, le-ltb}
 use Rattle.clause.specs.Clause.{shape}
 use Rattle.clause.specs.declared.Shape.{Shape}
 use Rattle.clause.specs.declared.Shape.the-variants.{Faulty, Whole}
@@ -20,23 +20,20 @@ use Rattle.tree.specs.Laid.{maxKept, sized, wellLaid, decode}
 use Rattle.tree.specs.Entries.{Entry, entry}
 use Rattle.tree.specs.Changes.{refuse, change, insertInto}
 use Rattle.tree.specs.Calls.{refused, changed, insertAs, insertion}
-use Rattle.tree.specs.declared.Refusal.the-variants.{BadSlice, Broken, BadClause, NumberTaken, Held, ListFull, NoRoom}
+use Rattle.tree.specs.declared.Refusal.the-variants.{BadSlice, Broken, NumberTaken, Held, ListFull, NoRoom}
 use Rattle.tree.specs.declared.CallAnswer.the-variants as call
 use Rattle.tree.proofs.Words.{length-layout}
 use Rattle.walk.specs.declared.QueryAnswer.{QueryAnswer}
 use Rattle.walk.specs.declared.QueryAnswer.the-variants.{Unanswered, Covered, NotCovered}
 use Rattle.walk.specs.Query.{witnessWords, query}
-use Rattle.record.specs.Text.{Written}
 use Rattle.record.specs.Line.{lineOf, totalsLine}
 use Rattle.record.specs.Answer.{treeWords, budget, Record, Answered, answeredAs, answered}
 use Rattle.record.specs.Output.{fields, recordsFor, recordsOf, State, Printed, counted, step, run, none, start, outputOf}
-use Rattle.record.specs.Feed.{Store, Fed, finishing, finished, going, storing, marked, takeField, takeAs, takeByte, andThen, feed, opened, WholeInput}
+use Rattle.record.specs.Feed.{Store, Fed, finishing, finished, going, storing, marked, takeField, andThen, feed, opened, WholeInput}
 use Rattle.record.proofs.Blocks.{at-count, at-empty, at-word, at-last, feed-append}
-use Rattle.record.specs.declared.Outcome.{Outcome}
-use Rattle.record.specs.declared.Outcome.the-variants.{Kept, Struck, Refused}
+use Rattle.record.specs.declared.Outcome.the-variants.{Kept}
 use Rattle.record.specs.declared.Totals.{Totals}
-use Rattle.record.specs.declared.Half.{Half}
-use Rattle.record.specs.declared.Half.the-variants.{Even, Odd}
+use Rattle.record.specs.declared.Half.the-variants.{Even}
 use Rattle.record.specs.declared.Stage.{Stage}
 use Rattle.record.specs.declared.Stage.the-variants.{AtNumber, AtCount, AtWord}
 use Rattle.record.specs.declared.Session.{Session}

@@ -1,13 +1,13 @@
 -- An insertion into the program's slice: the slice stays well laid, and the marks stay those of its numbers.
-use mathlib.Core.Path.{_≡_, refl, sym, ap, _∙_}
+use mathlib.Core.Path.{_≡_, refl, sym, _∙_}
 use mathlib.Core.Logic.{_↔_, _⊎_, inl, inr, ⊎-elim}
 use mathlib.Core.Bool.{Bool, true, false}
 use mathlib.Core.Option.{Option, none, some}
 use mathlib.Core.List.{List, [], _∷_}
-use Prim.Native.Nat.{ℕ, suc, _^_, _≤_, _<_}
+use Prim.Native.Nat.{ℕ, suc, _^_, _<_}
 use native.Mathlib.Omega.{arith}
 use native.Mathlib.Decide.{ℕ-discrete}
-use lib.Dec.{T, leb}
+use lib.Dec.{leb}
 use lib.ListN.{length, getD, set, length-set, replicate, length-replicate, getD-replicate}
 use lib.Seq.{getD-set-same, getD-set-other}
 use borrow.Author.Tests.{leb-false}
@@ -15,16 +15,14 @@ use Rattle.clause.specs.Lists.{none as nothing, also}
 use Rattle.clause.specs.Word.{Words}
 use Rattle.clause.specs.Clause.{shape}
 use Rattle.machine.specs.Compile.{keys}
-use Rattle.tree.specs.Keys.{inner}
-use Rattle.tree.specs.Forest.{Forest, empty, size, leaves, layout, WellFormed, Has, ins, find, holder, Body, Free}
-use Rattle.tree.specs.Laid.{maxKept, sized, wellLaid, decode}
-use Rattle.tree.specs.Entries.{Pair, entry}
+use Rattle.tree.specs.Forest.{empty, size, leaves, layout, WellFormed, Has, ins, find, holder, Body, Free}
+use Rattle.tree.specs.Laid.{maxKept, sized, decode}
+use Rattle.tree.specs.Entries.{entry}
 use Rattle.tree.specs.Changes.{insertInto}
 use Rattle.tree.specs.Laws.{Stands, Paths}
 use Rattle.tree.specs.Calls.{Called, refused, changed, insertion}
 use Rattle.tree.specs.declared.Refusal.{Refusal}
 use Rattle.tree.specs.declared.Refusal.the-variants.{NumberTaken, Held, ListFull, NoRoom}
-use Rattle.tree.specs.declared.CallAnswer.{CallAnswer}
 use Rattle.tree.specs.declared.CallAnswer.the-variants.{Refused, Kept}
 use Rattle.clause.specs.declared.Shape.the-variants.{Whole}
 use Rattle.clause.proofs.Literals.{accepted}

@@ -1,16 +1,16 @@
 -- The input byte by byte, as it comes in blocks.
-use mathlib.Core.Bool.{true, false, cond}
+use mathlib.Core.Bool.{true, cond}
 use mathlib.Core.Path.{_≡_}
-use mathlib.Core.Option.{none, some}
+use mathlib.Core.Option.{none}
 use mathlib.Core.List.{List, [], _∷_, _++_}
 use Prim.Native.Nat.{ℕ, _+_, _*_, _≤_, _<_}
-use lib.Dec.{ltb, leb, eqb}
+use lib.Dec.{ltb, eqb}
 use lib.ListN.{length, take, getD, set, replicate}
 use Rattle.tree.specs.Forest.{find}
 use Rattle.tree.specs.Laid.{wellLaid, decode}
 use Rattle.record.specs.Text.{Written, written}
 use Rattle.record.specs.Line.{lineOf, totalsLine}
-use Rattle.record.specs.Answer.{treeWords, Record, Answered, answered}
+use Rattle.record.specs.Answer.{treeWords, Answered, answered}
 use Rattle.record.specs.Output.{counted, outputOf}
 use Rattle.record.specs.Output as output
 use Rattle.record.specs.declared.Outcome.{Outcome}

@@ -6,20 +6,13 @@ use tree::CallAnswer;
 use tree::Refusal;
 use tree::insert_new;
 use walk::QueryAnswer;
+use walk::query;
 ghost use mathlib.Core.Path.{_≡_};
-ghost use Prim.Native.Nat.{ℕ};
 ghost use Rattle.clause.specs.Clause.{Accepted};
 ghost use Rattle.tree.specs.Refusal.{codeOf};
 ghost use Rattle.tree.specs.Calls.{insertion};
-ghost use Rattle.walk.specs.Query.{query as Query·query};
 ghost use Rattle.record.specs.Answer.{inserted, answered};
 ghost use Rattle.record.specs.Feed.{Steady, Answers};
-
-fn query(tree: &[u64], words: &[u16], budget: u64, witness: &mut [u16]) -> QueryAnswer
-    ensures { λ r. ⌜ record { answer = r; witness = now (witness .exit) } ≡ Query·query (now (tree .entry)) (now (words .entry)) budget (now (witness .entry)) ⌝ }
-{
-    QueryAnswer::NotCovered(0)
-}
 
 // The code of a clause's fault.
 fn code_of_fault(fault: Fault) -> u8
@@ -71,7 +64,7 @@ fn keep(tree: &mut [u64], marks: &mut [u8], words: &[u16], number: u16) -> Outco
 }
 
 // Queries a record, and inserts it where it is not covered. The caller holds the slice well laid, with the marks of its numbers.
-pub fn answer(tree: &mut [u64], marks: &mut [u8], words: &[u16], number: u16) -> Outcome
+pub(crate) fn answer(tree: &mut [u64], marks: &mut [u8], words: &[u16], number: u16) -> Outcome
     requires { ⌜ Steady (now tree) (now marks) ⌝ }
     ensures { λ r. ⌜ Answers (answered (now (tree .entry)) (record { number = number; words = now (words .entry) })) number (now (marks .entry)) r (now (tree .exit)) (now (marks .exit)) ⌝ }
 {

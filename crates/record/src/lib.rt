@@ -4,14 +4,9 @@ mod feeding;
 mod line;
 mod text;
 
-pub use answering::answer;
 pub use feeding::begin;
 pub use feeding::feed;
-pub use line::put_line;
 pub use line::put_totals;
-pub use text::put_decimal;
-pub use text::put_named;
-pub use text::put_text;
 
 // What becomes of a record: kept, with the used words of the tree; struck, with the covering number and the candidates; refused, with the code.
 pub enum Outcome {

@@ -27,7 +27,7 @@ fn put_outcome(output: &mut [u8], at: usize, outcome: Outcome) -> usize
 }
 
 // Puts the line of a record at a place of the output, and gives the place after it. A line takes at most 45 bytes.
-pub fn put_line(output: &mut [u8], at: usize, number: u16, outcome: Outcome) -> usize
+pub(crate) fn put_line(output: &mut [u8], at: usize, number: u16, outcome: Outcome) -> usize
     requires { ⌜ at + 45 ≤ length (now output) ⌝ }
     ensures text { λ r. ⌜ record { next = r; output = now (output .exit) } ≡ written (lineOf number outcome) (now (output .entry)) at ⌝ }
     ensures short { λ r. ⌜ r ≤ at + 45 ⌝ }

@@ -6,7 +6,7 @@ ghost use lib.ListN.{length};
 ghost use Rattle.record.specs.Text.{decimal, written};
 
 // Puts the digits of a number in base ten at a place of the output, and gives the place after them.
-pub fn put_decimal(output: &mut [u8], at: usize, number: u64) -> usize
+pub(crate) fn put_decimal(output: &mut [u8], at: usize, number: u64) -> usize
     requires { ⌜ at + length (decimal number) ≤ length (now output) ⌝ }
     ensures { λ r. ⌜ record { next = r; output = now (output .exit) } ≡ written (decimal number) (now (output .entry)) at ⌝ }
 {
@@ -20,7 +20,7 @@ pub fn put_decimal(output: &mut [u8], at: usize, number: u64) -> usize
 }
 
 // Puts some text at a place of the output, and gives the place after it.
-pub fn put_text(output: &mut [u8], at: usize, text: &[u8]) -> usize
+pub(crate) fn put_text(output: &mut [u8], at: usize, text: &[u8]) -> usize
     requires { ⌜ at + length (now text) ≤ length (now output) ⌝ }
     ensures { λ r. ⌜ record { next = r; output = now (output .exit) } ≡ written (now (text .entry)) (now (output .entry)) at ⌝ }
 {
@@ -33,7 +33,7 @@ pub fn put_text(output: &mut [u8], at: usize, text: &[u8]) -> usize
 }
 
 // Puts some text and a number after it at a place of the output, and gives the place after both.
-pub fn put_named(output: &mut [u8], at: usize, text: &[u8], number: u64) -> usize
+pub(crate) fn put_named(output: &mut [u8], at: usize, text: &[u8], number: u64) -> usize
     requires { ⌜ at + length (now text ++ decimal number) ≤ length (now output) ⌝ }
     ensures { λ r. ⌜ record { next = r; output = now (output .exit) } ≡ written (now (text .entry) ++ decimal number) (now (output .entry)) at ⌝ }
 {

@@ -1,11 +1,11 @@
 -- A marked number is taken; else the keys are inserted.
 use mathlib.Core.Path.{sym}
+use Prim.Native.Nat.{_<_}
 use native.Mathlib.Omega.{arith}
+use Rattle.clause.specs.Word.{Words}
 use mathlib.Core.List.{[], _∷_}
 use lib.Seq.{length-take-le}
 use types.Run.{miss}
-use Rattle.tree.specs.Cut.{locate}
-use Rattle.tree.specs.Inserting.{Ready}
 use Rattle.record.proofs.Steady.{words-of}
 use Rattle.record.proofs.Keeping.{clause-short, compiled-keys, compiled-inside, ready, number-new, called, keep-marked, keep-refused, keep-kept}
 use borrow.Author.Needs.{needs}
@@ -18,7 +18,9 @@ slice-read-if1 c = search needs
 returns : tie.Need-returns
 returns c =
     let s = c .before .before .before .before .before in
-    keep-marked (s .pre .0) (s .args .words .now) (s .pre .1) (words-of (s .args .words .now) (λ i. omega (arith, c .before .before .shared-slice-known .given i))) (s .args .number) (omega (arith, s .fits .number)) (c .if1 .taken)
+    let w : Words (s .args .words .now) = words-of (s .args .words .now) (λ i. omega (arith, c .before .before .shared-slice-known .given i)) in
+    let l : s .args .number < 65_536 = omega (arith, s .fits .number) in
+    keep-marked (s .pre .0) (s .args .words .now) (s .pre .1) w (s .args .number) l (c .if1 .taken)
 
 slice-aggregate-compile : tie.Need-slice-aggregate-compile
 slice-aggregate-compile c = search needs
@@ -34,9 +36,11 @@ slice-aggregate-insert-new c = sym (length-take-le _ _ (compiled-inside (c .befo
 
 insert-new-requires : tie.Need-insert-new-requires
 insert-new-requires c κs =
-    let s = c .before .before .before .before .before .before .before .before .before .before in (
-      ready (s .pre .0) (s .args .words .now) (s .pre .1) (words-of (s .args .words .now) (λ i. omega (arith, c .before .before .before .before .before .before .before .shared-slice-known .given i))) (s .args .number) (omega (arith, s .fits .number)) (compiled-keys (c .before .before .before .compile .ensures)),
-      number-new (s .pre .0) (s .args .words .now) (s .pre .1) (words-of (s .args .words .now) (λ i. omega (arith, c .before .before .before .before .before .before .before .shared-slice-known .given i))) (s .args .number) (omega (arith, s .fits .number)) (c .before .before .before .before .before .if1 .left),
+    let s = c .before .before .before .before .before .before .before .before .before .before in
+    let w : Words (s .args .words .now) = words-of (s .args .words .now) (λ i. omega (arith, c .before .before .before .before .before .before .before .shared-slice-known .given i)) in
+    let l : s .args .number < 65_536 = omega (arith, s .fits .number) in (
+      ready (s .pre .0) (s .args .words .now) (s .pre .1) w (s .args .number) l (compiled-keys (c .before .before .before .compile .ensures)),
+      number-new (s .pre .0) (s .args .words .now) (s .pre .1) w (s .args .number) l (c .before .before .before .before .before .if1 .left),
     )
 
 enum-known-answer : tie.Need-enum-known-answer
@@ -57,10 +61,12 @@ same-length-2 c = search needs
 returns-2 : tie.Need-returns-2
 returns-2 c =
     let s = c .before .before .before .before .before .before .before .before .before .before .before .before .before .before .before in
+    let w : Words (s .args .words .now) = words-of (s .args .words .now) (λ i. omega (arith, c .before .before .before .before .before .before .before .before .before .before .before .before .shared-slice-known .given i)) in
+    let l : s .args .number < 65_536 = omega (arith, s .fits .number) in
     let i = c .before .before .before .before .insert-new in
     let k = c .before .match .keys2 in
-    keep-kept (s .pre .0) (s .args .words .now) (s .pre .1) (words-of (s .args .words .now) (λ i. omega (arith, c .before .before .before .before .before .before .before .before .before .before .before .before .shared-slice-known .given i))) (s .args .number) (omega (arith, s .fits .number)) (c .before .before .before .before .before .before .before .before .before .before .if1 .left)
-    (called (s .pre .0) (s .args .words .now) (s .pre .1) (words-of (s .args .words .now) (λ i. omega (arith, c .before .before .before .before .before .before .before .before .before .before .before .before .shared-slice-known .given i))) (s .args .number) (omega (arith, s .fits .number)) (compiled-keys (c .before .before .before .before .before .before .before .before .compile .ensures)) (i .ensures))
+    keep-kept (s .pre .0) (s .args .words .now) (s .pre .1) w (s .args .number) l (c .before .before .before .before .before .before .before .before .before .before .if1 .left)
+    (called (s .pre .0) (s .args .words .now) (s .pre .1) w (s .args .number) l (compiled-keys (c .before .before .before .before .before .before .before .before .compile .ensures)) (i .ensures))
     (λ f e. miss (1 ∷ 2 ∷ 3 ∷ []) 0 tt (rw e at k))
 
 code-of-requires : tie.Need-code-of-requires
@@ -72,9 +78,11 @@ same-length-3 c = search needs
 returns-3 : tie.Need-returns-3
 returns-3 c =
     let s = c .before .before .before .before .before .before .before .before .before .before .before .before .before .before .before .before .before in
+    let w : Words (s .args .words .now) = words-of (s .args .words .now) (λ i. omega (arith, c .before .before .before .before .before .before .before .before .before .before .before .before .before .before .shared-slice-known .given i)) in
+    let l : s .args .number < 65_536 = omega (arith, s .fits .number) in
     let g = c .before .before .answer .given in
-    keep-refused (s .pre .0) (s .args .words .now) (s .pre .1) (words-of (s .args .words .now) (λ i. omega (arith, c .before .before .before .before .before .before .before .before .before .before .before .before .before .before .shared-slice-known .given i))) (s .args .number) (omega (arith, s .fits .number)) (c .before .before .before .before .before .before .before .before .before .before .before .before .if1 .left)
-    (called (s .pre .0) (s .args .words .now) (s .pre .1) (words-of (s .args .words .now) (λ i. omega (arith, c .before .before .before .before .before .before .before .before .before .before .before .before .before .before .shared-slice-known .given i))) (s .args .number) (omega (arith, s .fits .number)) (compiled-keys (c .before .before .before .before .before .before .before .before .before .before .compile .ensures)) (c .before .before .before .before .before .before .insert-new .ensures)) (g .0 .0) (g .1) (c .code-of .ensures)
+    keep-refused (s .pre .0) (s .args .words .now) (s .pre .1) w (s .args .number) l (c .before .before .before .before .before .before .before .before .before .before .before .before .if1 .left)
+    (called (s .pre .0) (s .args .words .now) (s .pre .1) w (s .args .number) l (compiled-keys (c .before .before .before .before .before .before .before .before .before .before .compile .ensures)) (c .before .before .before .before .before .before .insert-new .ensures)) (g .0 .0) (g .1) (c .code-of .ensures)
 
 pub keep-spec : {M : Type 1} → statement M
 keep-spec =
