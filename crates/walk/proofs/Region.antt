@@ -32,7 +32,7 @@ drop-slice : (T : List ℕ) (a n e : ℕ) → drop n (slice a e T) ≡ slice (a 
 drop-slice T a n e = drop-drop n a (take e T)
 
 -- a word that extends has an extent within its region
-extends-within : (w n : ℕ) → extends w n ≡ true → (1 ≤ extentOf w) × (extentOf w ≤ suc n)
+pub extends-within : (w n : ℕ) → extends w n ≡ true → (1 ≤ extentOf w) × (extentOf w ≤ suc n)
 unfolding extends
 extends-within w n h =
     let low : Bool = leb 1 (extentOf w) in

@@ -41,11 +41,14 @@ module _ (s : State) where
   length-front = length-take-le maxLiterals front (simp (length-append, length-map, length-replicate) (omega arith))
 
   -- the literal for literal i stands at i
-  pub shown-literal : (i : ℕ) → length (s .chosen) ≤ maxLiterals → i < length (s .chosen) → getD (shown s) i none ≡ some (getD (s .chosen) i 0)
+  pub shown-front : (i : ℕ) → i < maxLiterals → i < length (s .chosen) → getD (shown s) i none ≡ some (getD (s .chosen) i 0)
   unfolding shown
-  shown-literal i h g =
+  shown-front i h g =
       List·getD-append (take maxLiterals front) (s .puts) none i (rw length-front (omega arith)) ∙ getD-take maxLiterals front i none (omega arith)
       ∙ List·getD-append (map some (s .chosen)) (replicate maxLiterals none) none i (rw length-map g) ∙ getD-map-lt some (s .chosen) i 0 none g
+
+  pub shown-literal : (i : ℕ) → length (s .chosen) ≤ maxLiterals → i < length (s .chosen) → getD (shown s) i none ≡ some (getD (s .chosen) i 0)
+  shown-literal i h g = shown-front i (omega arith) g
 
   -- nothing stands behind the literals
   pub shown-none : (i : ℕ) → length (s .chosen) ≤ i → i < maxLiterals → getD (shown s) i none ≡ none

@@ -1,0 +1,315 @@
+-- What a visit does to the cells is what the definition's step does to the state.
+use Prim.Native.Nat.{ℕ, zero, suc, _+_, _-_, _*_, _/_, _%_, _^_, _≤_, _<_}
+use mathlib.Core.Path.{_≡_, refl, sym, ap, _∙_}
+use mathlib.Core.Bool.{Bool, true, false, cond}
+use mathlib.Core.Option.{Option, none, some}
+use mathlib.Core.List.{List, [], _∷_, map}
+use native.Mathlib.Omega.{arith}
+use lib.Dec.{ltb, eqb}
+use lib.ListN.{length, getD, take, drop, set, length-drop}
+use lib.Seq.{length-take-le}
+use native.Mathlib.Decide.{ℕ-discrete}
+use borrow.Author.Tests.{lt-ltb, le-ltb, eq-eqb, ne-eqb}
+use Rattle.clause.specs.Word.{arity}
+use Rattle.clause.specs.Clause.{skip, term, termAt}
+use Rattle.clause.specs.Positions.{jump, rights}
+use Rattle.clause.proofs.Literals.{accepted}
+use Rattle.clause.proofs.Siblings.{right-inside}
+use Rattle.machine.specs.Machine.{State, Outcome, slots, onto, down, right, next, fails, stuck, given, headed, putting, pushing, require, within, sameTerms, compareTerms, stepAt, stepFrom, step, finish, finishFrom}
+use Rattle.machine.specs.Instr.{Step, Down, Right, Put, Push, Pop, Check, Compare, Instr, First, Do, Success, instruction}
+use Rattle.walk.specs.Words.{extends}
+use Rattle.walk.specs.Cells.{placeOf, placed, stateOf, Met, bad, hit, firsts, stepped, reached, metAs, meeting, metOf, Stored, nothing, store, Visited, Tables, Ready}
+use Rattle.walk.specs.declared.Go.{Go}
+use Rattle.walk.specs.declared.Go.the-variants.{Fails, Stuck, Hit, Tries, Below}
+use Rattle.walk.proofs.Region.{instrOf-word}
+use Rattle.walk.proofs.Places.{place-none, place-some, placed-get, state-put, state-push, few-words}
+
+-- a visit that stores nothing
+pub stays : (g : Go) (h : ℕ) (l : List ℕ) {m : Met} → metOf g (stateOf h l) ≡ m → Visited m l l (record { go = g; head = h; mark = 0 })
+stays g h l e = record { comes = e; stored = nothing; still = λ _. refl }
+
+below≢fails : Below ≡ Fails → ⊥
+below≢fails e = let z : _≡_ {A = ℕ} 0 1 = cc in omega arith
+
+-- another head
+pub moved-none : (h : ℕ) (l : List ℕ) {to : ℕ} → to ≡ 255 → metOf Stuck (stateOf h l) ≡ stepped (given (placeOf to) (headed (stateOf h l)))
+unfolding metOf stepped given
+moved-none h l e = rw (place-none e)
+
+pub moved-some : (h : ℕ) (l : List ℕ) {to : ℕ} → (to ≡ 255 → ⊥) → metOf Below (stateOf to l) ≡ stepped (given (placeOf to) (headed (stateOf h l)))
+unfolding metOf stepped given
+moved-some h l n = rw (place-some n)
+
+-- a number over 63
+pub over : (k : ℕ) (s : State) (o : Outcome State) → 64 ≤ k → metOf Stuck s ≡ stepped (within k o)
+unfolding metOf stepped require
+over k s o h = rw (le-ltb k 64 h)
+
+-- the arguments and the right sibling
+pub down-none : (d : List ℕ) (p : ℕ) → arity (getD d p 0) ≡ 0 → placeOf 255 ≡ down d p
+unfolding down onto
+down-none d p e = rw e (place-none refl)
+
+pub down-some : (d : List ℕ) (p : ℕ) → p < 64 → (arity (getD d p 0) ≡ 0 → ⊥) → placeOf (p + 1) ≡ down d p
+unfolding down onto
+down-some d p h n =
+    let e : arity (getD d p 0) ≡ suc (arity (getD d p 0) - 1) = omega arith in
+    let f : p + 1 ≡ suc p = omega arith in
+    rw (e, f) (place-some {x = suc p} (λ z. omega arith))
+
+module _ (d t : List ℕ) (h : ℕ) (l : List ℕ) (R : Ready d t h l) (inside : h < length d) where
+  pub right-none : getD t (72 + h) 0 ≡ 0 → placeOf 255 ≡ right d h
+  unfolding right onto
+  right-none e = rw (sym (R .tables .rights h inside) ∙ e) (place-none refl)
+
+  pub right-some : (getD t (72 + h) 0 ≡ 0 → ⊥) → {x : ℕ} → x ≡ getD t (8 + h) 0 → (placeOf x ≡ right d h) × (x < 64)
+  unfolding right onto
+  right-some n e =
+      let r : rights d h ≡ suc (rights d h - 1) = omega (arith, R .tables .rights h inside) in
+      let j = right-inside d (accepted d (R .whole)) h (rights d h - 1) inside r in
+      let w = few-words R in
+      (rw (e, R .tables .ends h inside, r) (place-some {x = jump d 1 h} (λ z. omega arith)), rw (e, R .tables .ends h inside) (omega arith))
+
+-- Put and Push
+module _ (h : ℕ) (l : List ℕ) (few : getD l 136 0 ≤ 8) where
+  pub put-visit : (k : ℕ) → k < 64 → h < 64 → getD l (8 + k) 0 < 256
+      → Visited (stepped (within k (next (putting (stateOf h l) k h)))) l (set l (8 + k) h) (record { go = Below; head = h; mark = (8 + k) * 256 + getD l (8 + k) 0 })
+  unfolding metOf stepped require
+  put-visit k g v b =
+      record {
+        comes = rw (lt-ltb k 64 g, state-put h l few k h g (omega arith));
+        stored = store (8 + k) h (omega arith) (omega arith) b;
+        still = λ e. absurd (below≢fails e);
+      }
+
+  pub push-visit : (n x : ℕ) → n < 64 → x < 256 → (x ≡ 255 → ⊥) → getD l (72 + n) 0 < 256
+      → Visited (stepped (within n (given (placeOf x) (pushing (stateOf h l) n)))) l (set l (72 + n) x) (record { go = Below; head = h; mark = (72 + n) * 256 + getD l (72 + n) 0 })
+  unfolding metOf stepped require given
+  push-visit n x g v ne b =
+      record {
+        comes = rw (lt-ltb n 64 g, place-some ne, state-push h l few n x g (omega arith));
+        stored = store (72 + n) x (omega arith) (omega arith) b;
+        still = λ e. absurd (below≢fails e);
+      }
+
+pub push-none : (n : ℕ) (s : State) {x : ℕ} → x ≡ 255 → n < 64 → metOf Stuck s ≡ stepped (within n (given (placeOf x) (pushing s n)))
+unfolding metOf stepped require given
+push-none n s e g = rw (lt-ltb n 64 g, place-none e)
+
+-- Pop
+pub pop-visit : (h : ℕ) (l : List ℕ) → length l ≡ 137 → (n : ℕ) → n < 64 → stepped (given (placeOf (getD l (72 + n) 0)) (headed (stateOf h l)))
+    ≡ stepped (within n (given (getD (placed 72 l) n none) (headed (stateOf h l))))
+unfolding require
+pop-visit h l s n g = rw (lt-ltb n 64 g, placed-get 72 l n g (omega arith))
+
+-- Check
+pub check-same : (s : State) (a b : ℕ) → a ≡ b → metOf Below s ≡ stepped (require fails (eqb a b) (next s))
+unfolding metOf stepped require
+check-same s a b e = rw (eq-eqb a b e)
+
+pub check-other : (s : State) (a b : ℕ) → (a ≡ b → ⊥) → metOf Fails s ≡ stepped (require fails (eqb a b) (next s))
+unfolding metOf stepped require
+check-other s a b n = rw (ne-eqb a b n)
+
+-- Compare
+skip-within : (k : ℕ) (ws : List ℕ) → skip k ws ≤ length ws
+unfolding skip
+skip-within k [] = omega arith
+skip-within zero (w ∷ ws) = omega arith
+skip-within (suc k) (w ∷ ws) = let h = skip-within (arity w + k) ws in omega arith
+
+-- the part that a term is
+module _ (d t : List ℕ) (T : Tables d t) (p : ℕ) (h : p < length d) {e : ℕ} (f : e ≡ getD t (8 + p) 0) where
+  pub part-start : p ≤ e
+  unfolding jump
+  part-start = rw (f, T .ends p h) (omega arith)
+
+  pub part-end : e ≤ length d
+  unfolding jump
+  part-end = let s : skip 1 (drop p d) ≤ length d - p = simp length-drop at (skip-within 1 (drop p d)) in rw (f, T .ends p h) (omega arith)
+
+  pub part-term : take (e - p) (drop p d) ≡ termAt d p
+  unfolding jump term
+  part-term = let n : e - p ≡ skip 1 (drop p d) = rw (f, T .ends p h) (omega arith) in rw n
+
+module _ (d t : List ℕ) (h : ℕ) (l : List ℕ) (R : Ready d t h l) (m k : ℕ) where
+  pub compare-over-m : 64 ≤ m → metOf Stuck (stateOf h l) ≡ stepped (stepAt d (Compare m k) (stateOf h l) h)
+  unfolding stepAt metOf stepped require
+  compare-over-m g = rw (le-ltb m 64 g)
+
+  module _ (u : m < 64) where
+    pub compare-over-k : 64 ≤ k → metOf Stuck (stateOf h l) ≡ stepped (stepAt d (Compare m k) (stateOf h l) h)
+    unfolding stepAt metOf stepped require
+    compare-over-k g = rw (lt-ltb m 64 u, le-ltb k 64 g)
+
+    module _ (v : k < 64) where
+      compare-places : stepAt d (Compare m k) (stateOf h l) h ≡ compareTerms d (stateOf h l) (placeOf (getD l (8 + m) 0)) (placeOf (getD l (8 + k) 0))
+      unfolding stepAt require
+      compare-places =
+          let s = R .size in
+          rw (lt-ltb m 64 u, lt-ltb k 64 v, placed-get 8 l m u (omega arith), placed-get 8 l k v (omega arith))
+
+      pub compare-no-m : {p : ℕ} → p ≡ getD l (8 + m) 0 → p ≡ 255 → metOf Stuck (stateOf h l) ≡ stepped (stepAt d (Compare m k) (stateOf h l) h)
+      unfolding metOf stepped compareTerms
+      compare-no-m e f = rw (compare-places, place-none (sym e ∙ f))
+
+      module _ {p : ℕ} (e : p ≡ getD l (8 + m) 0) (n : p ≡ 255 → ⊥) where
+        pub compare-no-k : {q : ℕ} → q ≡ getD l (8 + k) 0 → q ≡ 255 → metOf Stuck (stateOf h l) ≡ stepped (stepAt d (Compare m k) (stateOf h l) h)
+        unfolding metOf stepped compareTerms
+        compare-no-k f g = rw (compare-places, ← e, place-some n, place-none (sym f ∙ g))
+
+        pub put-inside-m : p < length d
+        put-inside-m = R .safe .puts m p (placed-get 8 l m u (omega (arith, R .size)) ∙ rw (← e) (place-some n))
+
+        module _ {q : ℕ} (f : q ≡ getD l (8 + k) 0) (o : q ≡ 255 → ⊥) where
+          pub put-inside-k : q < length d
+          put-inside-k = R .safe .puts k q (placed-get 8 l k v (omega (arith, R .size)) ∙ rw (← f) (place-some o))
+
+          compare-both : stepAt d (Compare m k) (stateOf h l) h ≡ require fails (sameTerms d p q) (next (stateOf h l))
+          unfolding compareTerms
+          compare-both = rw (compare-places, ← e, ← f, place-some n, place-some o)
+
+          pub compare-same : sameTerms d p q ≡ true → metOf Below (stateOf h l) ≡ stepped (stepAt d (Compare m k) (stateOf h l) h)
+          unfolding metOf stepped require
+          compare-same g = rw (compare-both, g)
+
+          pub compare-other : sameTerms d p q ≡ false → metOf Fails (stateOf h l) ≡ stepped (stepAt d (Compare m k) (stateOf h l) h)
+          unfolding metOf stepped require
+          compare-other g = rw (compare-both, g)
+
+-- a head that stands in the query, and one that does not
+module _ (d t : List ℕ) (h : ℕ) (l : List ℕ) (R : Ready d t h l) where
+  pub head-some : h < length d → placeOf h ≡ some h
+  head-some g = let w = few-words R in place-some {x = h} (λ z. omega arith)
+
+  pub head-none : length d ≤ h → placeOf h ≡ none
+  head-none g = go (ℕ-discrete h 255)
+    where
+      go : Dec (h ≡ 255) → placeOf h ≡ none
+      go (yes e) = place-none e
+      go (no n) = let b : h < length d = R .safe .head h (place-some n) in absurd (omega arith)
+
+  pub chosen-length : length (take (getD l 136 0) l) ≡ getD l 136 0
+  chosen-length = length-take-le (getD l 136 0) l (omega (arith, R .size, R .few))
+
+-- an instruction at a head
+module _ (d : List ℕ) (s : State) (p : ℕ) (e : s .head ≡ some p) where
+  pub do-met : (x : Step) → metAs d (some (Do x)) s ≡ stepped (stepAt d x s p)
+  unfolding metAs step stepFrom
+  do-met x = rw e
+
+  pub success-met : (n : ℕ) → metAs d (some (Success n)) s ≡ hit s
+  unfolding metAs finish finishFrom reached
+  success-met n = rw e
+
+-- the instruction of an operation over 8
+pub nothing-over : (op x : ℕ) → 9 ≤ op → instruction op x ≡ none
+unfolding instruction
+nothing-over zero x h = absurd (omega arith)
+nothing-over (suc zero) x h = absurd (omega arith)
+nothing-over (suc (suc zero)) x h = absurd (omega arith)
+nothing-over (suc (suc (suc zero))) x h = absurd (omega arith)
+nothing-over (suc (suc (suc (suc zero)))) x h = absurd (omega arith)
+nothing-over (suc (suc (suc (suc (suc zero))))) x h = absurd (omega arith)
+nothing-over (suc (suc (suc (suc (suc (suc zero)))))) x h = absurd (omega arith)
+nothing-over (suc (suc (suc (suc (suc (suc (suc zero))))))) x h = absurd (omega arith)
+nothing-over (suc (suc (suc (suc (suc (suc (suc (suc zero)))))))) x h = absurd (omega arith)
+nothing-over (suc (suc (suc (suc (suc (suc (suc (suc (suc op))))))))) x h = refl
+
+-- an operation that is none of 0 to 8
+pub rest-over : (op : ℕ) → (op ≡ 0 → ⊥) → (op ≡ 1 → ⊥) → (op ≡ 2 → ⊥) → (op ≡ 3 → ⊥) → (op ≡ 4 → ⊥) → (op ≡ 5 → ⊥) → (op ≡ 6 → ⊥) → (op ≡ 7 → ⊥) → (op ≡ 8 → ⊥) → 9 ≤ op
+rest-over zero n0 n1 n2 n3 n4 n5 n6 n7 n8 = absurd (n0 refl)
+rest-over (suc zero) n0 n1 n2 n3 n4 n5 n6 n7 n8 = absurd (n1 refl)
+rest-over (suc (suc zero)) n0 n1 n2 n3 n4 n5 n6 n7 n8 = absurd (n2 refl)
+rest-over (suc (suc (suc zero))) n0 n1 n2 n3 n4 n5 n6 n7 n8 = absurd (n3 refl)
+rest-over (suc (suc (suc (suc zero)))) n0 n1 n2 n3 n4 n5 n6 n7 n8 = absurd (n4 refl)
+rest-over (suc (suc (suc (suc (suc zero))))) n0 n1 n2 n3 n4 n5 n6 n7 n8 = absurd (n5 refl)
+rest-over (suc (suc (suc (suc (suc (suc zero)))))) n0 n1 n2 n3 n4 n5 n6 n7 n8 = absurd (n6 refl)
+rest-over (suc (suc (suc (suc (suc (suc (suc zero))))))) n0 n1 n2 n3 n4 n5 n6 n7 n8 = absurd (n7 refl)
+rest-over (suc (suc (suc (suc (suc (suc (suc (suc zero)))))))) n0 n1 n2 n3 n4 n5 n6 n7 n8 = absurd (n8 refl)
+rest-over (suc (suc (suc (suc (suc (suc (suc (suc (suc op))))))))) n0 n1 n2 n3 n4 n5 n6 n7 n8 = omega arith
+
+-- First is the instruction of operation 1 alone
+first-op : (op x : ℕ) → instruction op x ≡ some First → op ≡ 1
+unfolding instruction
+first-op zero x e = let z : _≡_ {A = ℕ} 0 1 = cc in absurd (omega arith)
+first-op (suc zero) x e = refl
+first-op (suc (suc zero)) x e = let z : _≡_ {A = ℕ} 0 1 = cc in absurd (omega arith)
+first-op (suc (suc (suc zero))) x e = let z : _≡_ {A = ℕ} 0 1 = cc in absurd (omega arith)
+first-op (suc (suc (suc (suc zero)))) x e = let z : _≡_ {A = ℕ} 0 1 = cc in absurd (omega arith)
+first-op (suc (suc (suc (suc (suc zero))))) x e = let z : _≡_ {A = ℕ} 0 1 = cc in absurd (omega arith)
+first-op (suc (suc (suc (suc (suc (suc zero)))))) x e = let z : _≡_ {A = ℕ} 0 1 = cc in absurd (omega arith)
+first-op (suc (suc (suc (suc (suc (suc (suc zero))))))) x e = let z : _≡_ {A = ℕ} 0 1 = cc in absurd (omega arith)
+first-op (suc (suc (suc (suc (suc (suc (suc (suc zero)))))))) x e = let z : _≡_ {A = ℕ} 0 1 = cc in absurd (omega arith)
+first-op (suc (suc (suc (suc (suc (suc (suc (suc (suc op))))))))) x e = let z : _≡_ {A = ℕ} 0 1 = cc in absurd (omega arith)
+
+-- any instruction but First before a candidate
+pub early : (d : List ℕ) (op x : ℕ) (s : State) → s .head ≡ none → (op ≡ 1 → ⊥) → metAs d (instruction op x) s ≡ bad
+unfolding metAs step stepFrom stepped finish finishFrom reached
+early d op x s e n = go (instruction op x) refl
+  where
+    go : (o : Option Instr) → instruction op x ≡ o → metAs d o s ≡ bad
+    go none f = refl
+    go (some First) f = absurd (n (first-op op x f))
+    go (some (Do y)) f = rw e
+    go (some (Success m)) f = rw e
+
+-- a word of a row, by its operation
+module _ (d : List ℕ) (w room : ℕ) (s : State) where
+  pub met-unfit : extends w (room - 1) ≡ false → meeting d w room s ≡ bad
+  unfolding meeting
+  met-unfit e = rw e
+
+  module _ (ok : extends w (room - 1) ≡ true) where
+    pub met-word : {op x : ℕ} → op ≡ w / 2 ^ 60 → x ≡ w / 2 ^ 28 % 2 ^ 32 → meeting d w room s ≡ metAs d (instruction op x) s
+    unfolding meeting
+    met-word e f = rw (ok, instrOf-word w, e, f)
+
+    pub met-first : {op : ℕ} → op ≡ w / 2 ^ 60 → op ≡ 1 → length (s .chosen) < 8 → meeting d w room s ≡ firsts s
+    unfolding meeting metAs instruction
+    met-first e f g = rw (ok, instrOf-word w, sym e ∙ f, lt-ltb (length (s .chosen)) 8 g)
+
+    pub met-ninth : {op : ℕ} → op ≡ w / 2 ^ 60 → op ≡ 1 → 8 ≤ length (s .chosen) → meeting d w room s ≡ bad
+    unfolding meeting metAs instruction
+    met-ninth e f g = rw (ok, instrOf-word w, sym e ∙ f, le-ltb (length (s .chosen)) 8 g)
+
+-- the operations at a head
+module _ (d t : List ℕ) (h : ℕ) (l : List ℕ) (R : Ready d t h l) (inside : h < length d) (op x : ℕ) where
+  at-step : (y : Step) → instruction op x ≡ some (Do y) → metAs d (instruction op x) (stateOf h l) ≡ stepped (stepAt d y (stateOf h l) h)
+  at-step y e = rw e (do-met d (stateOf h l) h (head-some d t h l R inside) y)
+
+  pub act-success : op ≡ 0 → metOf Hit (stateOf h l) ≡ metAs d (instruction op x) (stateOf h l)
+  unfolding instruction metOf
+  act-success e = rw e (sym (success-met d (stateOf h l) h (head-some d t h l R inside) x))
+
+  pub act-down : op ≡ 2 → metAs d (instruction op x) (stateOf h l) ≡ stepped (given (down d h) (headed (stateOf h l)))
+  unfolding instruction stepAt
+  act-down e = at-step Down (rw e)
+
+  pub act-right : op ≡ 3 → metAs d (instruction op x) (stateOf h l) ≡ stepped (given (right d h) (headed (stateOf h l)))
+  unfolding instruction stepAt
+  act-right e = at-step Right (rw e)
+
+  pub act-put : op ≡ 4 → metAs d (instruction op x) (stateOf h l) ≡ stepped (within x (next (putting (stateOf h l) x h)))
+  unfolding instruction stepAt
+  act-put e = at-step (Put x) (rw e)
+
+  pub act-push : op ≡ 5 → metAs d (instruction op x) (stateOf h l) ≡ stepped (within x (given (right d h) (pushing (stateOf h l) x)))
+  unfolding instruction stepAt
+  act-push e = at-step (Push x) (rw e)
+
+  pub act-pop : op ≡ 6 → metAs d (instruction op x) (stateOf h l) ≡ stepped (within x (given (getD (placed 72 l) x none) (headed (stateOf h l))))
+  unfolding instruction stepAt
+  act-pop e = at-step (Pop x) (rw e)
+
+  pub act-check : op ≡ 7 → metAs d (instruction op x) (stateOf h l) ≡ stepped (require fails (eqb (getD d h 0) x) (next (stateOf h l)))
+  unfolding instruction stepAt
+  act-check e = at-step (Check x) (rw e)
+
+  pub act-compare : op ≡ 8 → metAs d (instruction op x) (stateOf h l) ≡ stepped (stepAt d (Compare (x / 2 ^ 16) (x % 2 ^ 16)) (stateOf h l) h)
+  unfolding instruction
+  act-compare e = at-step (Compare (x / 2 ^ 16) (x % 2 ^ 16)) (rw e)
+
+  pub act-over : 9 ≤ op → metOf Stuck (stateOf h l) ≡ metAs d (instruction op x) (stateOf h l)
+  unfolding metAs metOf
+  act-over g = rw (nothing-over op x g)

@@ -1,0 +1,26 @@
+-- `push` meets its contract.
+use native.Mathlib.Omega.{arith}
+use Rattle.walk.proofs.Visits.{stays, over, push-none, push-visit}
+use borrow.Author.Needs.{needs}
+use Rattle.walk.proofs.step.push.Statement.{statement}
+use Rattle.walk.proofs.step.push.Tie as tie
+
+returns : tie.Need-returns
+returns c = stays _ _ _ (over _ _ _ (c .if1 .taken))
+
+returns-2 : tie.Need-returns-2
+returns-2 c = stays _ _ _ (push-none _ _ (c .if2 .taken) (c .before .if1 .left))
+
+add-slot : tie.Need-add-slot
+add-slot c = search needs
+
+store-requires : tie.Need-store-requires
+store-requires c κs = search needs
+
+returns-3 : tie.Need-returns-3
+returns-3 c = let a = c .before .before .before .before .args in
+    let e = c .store .ensures in
+    rw (e .0, e .1) (push-visit (a .head) (a .cells .now) (c .before .before .before .before .pre .0) (a .n) (a .to) (c .before .before .before .if1 .left) (c .before .before .before .before .pre .1) (c .before .before .if2 .left) (e .2))
+
+pub push-spec : {M : Type 1} → statement M
+push-spec = tie.close (tie.spec returns returns-2 add-slot store-requires returns-3)

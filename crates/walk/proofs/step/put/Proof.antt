@@ -1,0 +1,23 @@
+-- `put` meets its contract.
+use native.Mathlib.Omega.{arith}
+use Rattle.walk.proofs.Visits.{stays, over, put-visit}
+use borrow.Author.Needs.{needs}
+use Rattle.walk.proofs.step.put.Statement.{statement}
+use Rattle.walk.proofs.step.put.Tie as tie
+
+returns : tie.Need-returns
+returns c = stays _ _ _ (over _ _ _ (c .if1 .taken))
+
+add-slot : tie.Need-add-slot
+add-slot c = search needs
+
+store-requires : tie.Need-store-requires
+store-requires c κs = search needs
+
+returns-2 : tie.Need-returns-2
+returns-2 c = let a = c .before .before .before .args in
+    let e = c .store .ensures in
+    rw (e .0, e .1) (put-visit (a .head) (a .cells .now) (c .before .before .before .pre .0) (a .k) (c .before .before .if1 .left) (c .before .before .before .pre .1) (e .2))
+
+pub put-spec : {M : Type 1} → statement M
+put-spec = tie.close (tie.spec returns add-slot store-requires returns-2)

@@ -1,0 +1,201 @@
+-- The walk's state in lent cells, and what the functions on them do.
+use mathlib.Core.Path.{_≡_}
+use mathlib.Core.Bool.{Bool, true, false, cond}
+use mathlib.Core.Option.{Option, none, some}
+use mathlib.Core.List.{List, [], _∷_, map}
+use Prim.Native.Nat.{ℕ, zero, suc, _+_, _-_, _*_, _/_, _%_, _^_, _≤_, _<_}
+use lib.Dec.{ltb, eqb}
+use lib.ListN.{length, getD, take, drop, set}
+use Rattle.clause.specs.Clause.{Accepted, literals, startOf, maxLiterals}
+use Rattle.clause.specs.Positions.{jump, rights}
+use Rattle.machine.specs.Instr.{Instr, First, Do, Success, instrOf}
+use Rattle.machine.specs.Machine.{slots, State, Outcome, next, fails, stuck, step, finish, starting}
+use Rattle.machine.proofs.Safe.{Safe}
+use Rattle.tree.specs.Laid.{keyOf}
+use Rattle.walk.specs.Walk.{Answer, covered, notCovered, spent, broken, Part, tries, upTo}
+use Rattle.walk.specs.Words.{extends, walkWords}
+use Rattle.walk.specs.Query.{machine, shown, Asked, unanswered, written}
+use Rattle.clause.specs.declared.Shape.{Shape}
+use Rattle.clause.specs.declared.Shape.the-variants.{Faulty, Whole}
+use Rattle.tree.specs.declared.Refusal.{Refusal}
+use Rattle.tree.specs.declared.Refusal.the-variants.{BadClause, Broken as Refused, Spent as SpentAll}
+use Rattle.walk.specs.declared.QueryAnswer.the-variants.{Covered, NotCovered}
+use Rattle.walk.specs.declared.Go.{Go}
+use Rattle.walk.specs.declared.Go.the-variants.{Fails, Stuck, Hit, Tries, Below}
+use Rattle.walk.specs.declared.Visit.{Visit}
+use Rattle.walk.specs.declared.End.{End}
+use Rattle.walk.specs.declared.End.the-variants.{Missed, Found, Broken, Spent}
+use Rattle.walk.specs.declared.Finding.{Finding}
+
+-- the position that a cell holds; 255 stands for none
+unfoldable pub placeOf : ℕ → Option ℕ
+placeOf x = cond (eqb x 255) none (some x)
+
+-- the positions in the 64 cells from one on
+unfoldable pub placed : ℕ → List ℕ → List (Option ℕ)
+placed a l = map placeOf (take slots (drop a l))
+
+-- the state in a head and 137 cells: 8 candidates, 64 positions put, 64 positions pushed, and how many candidates there are
+abbrev pub stateOf : (head : ℕ) (cells : List ℕ) → State
+stateOf h l = record { chosen = take (getD l 136 0) l; head = placeOf h; puts = placed 8 l; pushes = placed 72 l }
+
+-- the tables of a query: where its literals begin, where the terms at its positions end, their right siblings, how many literals it has
+pub record Tables (d l : List ℕ) : Type 0 where
+  pub starts : (j : ℕ) → j < length (literals d) → getD l j 0 ≡ startOf d j
+  pub ends : (p : ℕ) → p < length d → getD l (8 + p) 0 ≡ jump d 1 p
+  pub rights : (p : ℕ) → p < length d → getD l (72 + p) 0 ≡ rights d p
+  pub count : getD l 136 0 ≡ length (literals d)
+
+-- an accepted query with its tables, and a state whose positions lie in it
+pub record Ready (d t : List ℕ) (head : ℕ) (cells : List ℕ) : Type 0 where
+  pub whole : Accepted d
+  pub tables : Tables d t
+  pub safe : Safe d (stateOf head cells)
+  pub size : length cells ≡ 137
+  pub few : getD cells 136 0 ≤ maxLiterals
+
+-- what a word comes to: past it, broken, the end, the candidates of a First, or the words below it
+pub data Met : Type 0 where
+  past bad : Met
+  hit firsts below : State → Met
+
+-- what a step comes to
+unfoldable pub stepped : Outcome State → Met
+stepped (next s) = below s
+stepped fails = past
+stepped stuck = bad
+
+-- what a Success comes to
+unfoldable pub reached : Outcome State → Met
+reached (next s) = hit s
+reached fails = past
+reached stuck = bad
+
+-- what an instruction comes to
+unfoldable pub metAs : List ℕ → Option Instr → State → Met
+metAs d none s = bad
+metAs d (some (Success n)) s = reached (finish s)
+metAs d (some First) s = cond (ltb (length (s .chosen)) maxLiterals) (firsts s) bad
+metAs d (some (Do x)) s = stepped (step d x s)
+
+-- what a word comes to, with so many words in its row from it on
+unfoldable pub meeting : List ℕ → (w room : ℕ) → State → Met
+meeting d w room s = cond (extends w (room - 1)) (metAs d (instrOf (keyOf w)) s) bad
+
+-- the same, as a visit tells it
+unfoldable pub metOf : Go → State → Met
+metOf Fails s = past
+metOf Stuck s = bad
+metOf Hit s = hit s
+metOf Tries s = firsts s
+metOf Below s = below s
+
+-- the cells with one of them stored back: its index and what it held, as one number; 0 stands for none
+unfoldable pub restored : ℕ → List ℕ → List ℕ
+restored m l = cond (eqb m 0) l (set l (m / 256) (m % 256))
+
+-- one position stored, and the number that brings back what stood there
+pub data Stored (l : List ℕ) : ℕ → List ℕ → Type 0 where
+  nothing : Stored l 0 l
+  store : (i x : ℕ) → 8 ≤ i → i < 136 → getD l i 0 < 256 → Stored l (i * 256 + getD l i 0) (set l i x)
+
+-- a visit: what the word comes to, and what was stored
+pub record Visited (m : Met) (before after : List ℕ) (r : Visit) : Type 0 where
+  pub comes : metOf (r .go) (stateOf (r .head) after) ≡ m
+  pub stored : Stored before (r .mark) after
+  pub still : r .go ≡ Fails → after ≡ before
+
+-- up to four numbers to store back, the latest in the lowest 16 bits
+unfoldable pub traced : (trail mark : ℕ) → ℕ
+traced t m = cond (eqb m 0) t (t * 2 ^ 16 + m)
+
+-- the cells with all of them stored back
+unfoldable pub unwound : ℕ → List ℕ → List ℕ
+unwound t l = restored (t / 2 ^ 48) (restored (t / 2 ^ 32 % 2 ^ 16) (restored (t / 2 ^ 16 % 2 ^ 16) (restored (t % 2 ^ 16) l)))
+
+-- the key of the Check that fits at a head, or 0 where there is no head
+unfoldable pub wantedAt : List ℕ → ℕ → ℕ
+wantedAt d h = cond (ltb h (length d)) (7 * 2 ^ 32 + getD d h 0) 0
+
+-- only Checks that fail there stand between two places of a row
+pub record Passed (words : List ℕ) (at wanted : ℕ) (r : ℕ) : Type 0 where
+  pub inside : r ≤ length words
+  pub further : at ≤ r
+  pub same : (d : List ℕ) (allow : ℕ → Bool) (s : State) (p c : ℕ) → s .head ≡ some p → wanted ≡ 7 * 2 ^ 32 + getD d p 0
+      → walkWords (machine d) allow (drop at words) s c ≡ walkWords (machine d) allow (drop r words) s c
+  pub none : wanted ≡ 0 → r ≡ at
+
+-- the cells with literal j as the next candidate
+unfoldable pub candidate : Bool → ℕ → List ℕ → List ℕ
+candidate true j l = set (set l (getD l 136 0) j) 136 (getD l 136 0 + 1)
+candidate false j l = l
+
+-- the cells without the latest candidate, where `kept` stood before
+unfoldable pub dropped : Bool → ℕ → List ℕ → List ℕ
+dropped true kept l = set (set l (getD l 136 0 - 1) kept) 136 (getD l 136 0 - 1)
+dropped false kept l = l
+
+-- the state with literal j as the next candidate
+unfoldable pub startAt : List ℕ → Bool → ℕ → State → State
+startAt d true j s = starting d s j
+startAt d false j s = s
+
+-- a candidate begins: the head, and the cells
+pub record Begun (d : List ℕ) (first : Bool) (head j : ℕ) (before after : List ℕ) (r : ℕ) : Type 0 where
+  pub state : stateOf r after ≡ startAt d first j (stateOf head before)
+  pub cells : after ≡ candidate first j before
+
+-- a walk's answer, with the witness words in place of the state
+pub data Out : Type 0 where
+  missed : ℕ → Out
+  found : ℕ → List (Option ℕ) → ℕ → Out
+  exhausted damaged : Out
+
+-- what is seen of an answer
+unfoldable pub seen : Answer State → Out
+seen (covered n s c) = found n (shown s) c
+seen (notCovered c) = missed c
+seen spent = exhausted
+seen broken = damaged
+
+-- the same, as a finding and the cells tell it
+unfoldable pub outBy : End → ℕ → List ℕ → Out
+outBy Missed c l = missed c
+outBy (Found n) c l = found n (shown (stateOf 255 l)) c
+outBy Broken c l = damaged
+outBy Spent c l = exhausted
+
+-- a walk ended: what is seen of it, and after a miss the cells are as before
+pub record Walked (a : Answer State) (before after : List ℕ) (r : Finding) : Type 0 where
+  pub comes : outBy (r .end) (r .count) after ≡ seen a
+  pub back : r .end ≡ Missed → after ≡ before
+  pub size : length after ≡ length before
+
+-- the walk below a node: from each candidate, or from the state itself
+unfoldable pub entered : List ℕ → (budget : ℕ) → Bool → (State → Part State) → State → Part State
+entered d b true k s c = tries (machine d) (upTo b) k s (length (literals d)) 0 c
+entered d b false k s c = k s c
+
+-- how many passes a node takes: one for each literal of the query, or one
+unfoldable pub passesOf : Bool → ℕ → ℕ
+passesOf true n = n
+passesOf false n = 1
+
+-- entries that stand in a longer list from a place on, the other words as before
+pub record Laid (before : List ℕ) (from : ℕ) (entries : List ℕ) (n : ℕ) (after : List ℕ) : Type 0 where
+  pub size : length after ≡ length before
+  pub there : (i : ℕ) → i < n → getD after (from + i) 0 ≡ getD entries i 0
+  pub lower : (k : ℕ) → k < from → getD after k 0 ≡ getD before k 0
+  pub upper : (k : ℕ) → from + n ≤ k → getD after k 0 ≡ getD before k 0
+
+-- what a shape is refused with; a whole clause is not
+unfoldable pub refusalOf : Shape → Refusal
+refusalOf (Faulty f) = BadClause f
+refusalOf (Whole n) = Refused
+
+-- what is asked is told by what is seen of the walk
+unfoldable pub toldOut : (budget : ℕ) (witness : List ℕ) → Out → Asked
+toldOut b W (missed c) = record { answer = NotCovered c; witness = W }
+toldOut b W (found n os c) = record { answer = Covered n c; witness = written os W }
+toldOut b W exhausted = unanswered (SpentAll b) W
+toldOut b W damaged = unanswered Refused W

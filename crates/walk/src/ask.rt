@@ -1,0 +1,159 @@
+// The query: what is asked of a tree.
+use crate::End;
+use crate::Finding;
+use crate::QueryAnswer;
+use crate::cells::wide;
+use crate::walk::walk;
+use clause::Clause;
+use clause::Shape;
+use tree::Refusal;
+ghost use mathlib.Core.Path.{_≡_};
+ghost use mathlib.Core.Bool.{cond};
+ghost use mathlib.Core.Option.{none, some};
+ghost use mathlib.Core.Logic.{_⊎_};
+ghost use Prim.Native.Nat.{ℕ, _+_, _-_, _≤_, _<_};
+ghost use lib.ListN.{length, getD};
+ghost use Rattle.clause.specs.Clause.{Accepted};
+ghost use Rattle.tree.specs.Laid.{usedOf};
+ghost use Rattle.walk.specs.Cells.{stateOf, Tables, Laid, outBy, refusalOf, toldOut};
+ghost use Rattle.walk.specs.Query as q;
+
+// Copies a table's entries to a place of the packed tables.
+fn lay(tables: &mut [u8; 137], from: usize, entries: &[u8])
+    requires { ⌜ (length (now tables) ≡ 137) × (from + length (now entries) ≤ 137) ⌝ }
+    ensures { λ _. ⌜ Laid (now (tables .entry)) from (now (entries .entry)) (length (now (entries .entry))) (now (tables .exit)) ⌝ }
+{
+    let mut i = 0;
+    while i < entries.len() {
+        let to = from + i;
+        tables[to] = entries[i];
+        i += 1;
+    }
+}
+
+// The tables of a query in one array.
+fn pack(words: &[u16]) -> [u8; 137]
+    requires { ⌜ Accepted (now words) ⌝ }
+    ensures { λ r. ⌜ Tables (now (words .entry)) r ⌝ }
+{
+    let clause = Clause::of(words);
+    let starts = clause.starts;
+    let ends = clause.ends;
+    let siblings = clause.siblings;
+    let mut tables = [0u8; 137];
+    lay(&mut tables, 0, &starts);
+    lay(&mut tables, 8, &ends);
+    lay(&mut tables, 72, &siblings);
+    tables[136] = clause.literals as u8;
+    tables
+}
+
+// A cell as a witness word.
+fn word(x: u8) -> u16
+    ensures { λ r. ⌜ r ≡ x ⌝ }
+{
+    x as u16
+}
+
+// Whether the cells have a witness word to show at a place.
+fn shows(cells: &[u8; 137], i: usize) -> bool
+    requires { ⌜ (length (now cells) ≡ 137) × (i < 72) ⌝ }
+    ensures { λ r. ⌜ getD (q.shown (stateOf 255 (now (cells .entry)))) i none ≡ cond r (some (getD (now (cells .entry)) i 0)) none ⌝ }
+{
+    if i < 8 {
+        i < wide(cells[136])
+    } else {
+        cells[i] != 255
+    }
+}
+
+// Writes the candidates and the positions put into the witness, its other words untouched.
+fn show(cells: &[u8; 137], witness: &mut [u16])
+    requires { ⌜ (length (now cells) ≡ 137) × (72 ≤ length (now witness)) ⌝ }
+    ensures { λ _. ⌜ now (witness .exit) ≡ q.written (q.shown (stateOf 255 (now (cells .entry)))) (now (witness .entry)) ⌝ }
+{
+    let mut i: usize = 0;
+    while i < 72 {
+        if shows(cells, i) {
+            witness[i] = word(cells[i]);
+        }
+        i += 1;
+    }
+}
+
+// What a reading that finds no whole clause is refused with.
+fn refusal(shape: Shape) -> Refusal
+    ensures { λ r. ⌜ r ≡ refusalOf shape ⌝ }
+{
+    match shape {
+        Shape::Faulty(fault) => Refusal::BadClause(fault),
+        Shape::Whole(_) => Refusal::Broken,
+    }
+}
+
+// The answer that a finding comes to; the witness is written where the tree covers the query.
+fn answer(finding: Finding, budget: u64, cells: &[u8; 137], witness: &mut [u16]) -> QueryAnswer
+    requires { ⌜ (length (now cells) ≡ 137) × (72 ≤ length (now witness)) ⌝ }
+    ensures { λ r. ⌜ record { answer = r; witness = now (witness .exit) }
+        ≡ toldOut budget (now (witness .entry)) (outBy (finding .end) (finding .count) (now (cells .entry))) ⌝ }
+{
+    let end = finding.end;
+    let count = finding.count;
+    match end {
+        End::Missed => QueryAnswer::NotCovered(count),
+        End::Found(number) => {
+            show(cells, witness);
+            QueryAnswer::Covered(number, count)
+        }
+        End::Broken => QueryAnswer::Unanswered(Refusal::Broken),
+        End::Spent => QueryAnswer::Unanswered(Refusal::Spent(budget)),
+    }
+}
+
+// Walks the used words of a slice from the state before the first candidate, and answers.
+fn search(tree: &[u64], words: &[u16], budget: u64, witness: &mut [u16]) -> QueryAnswer
+    requires { ⌜ Accepted (now words) × (1 ≤ length (now tree)) × (usedOf (getD (now tree) 0 0) ≤ length (now tree) - 1) × (72 ≤ length (now witness)) ⌝ }
+    ensures { λ r. ⌜ record { answer = r; witness = now (witness .exit) }
+        ≡ q.told budget (now (witness .entry)) (q.walkSlice (now (tree .entry)) (now (words .entry)) budget) ⌝ }
+{
+    let tables = pack(words);
+    let mut cells = [255u8; 137];
+    cells[136] = 0;
+    let used = (tree[0] / 4294967296) as usize;
+    let end = used + 1;
+    let finding = walk(
+        &tree[1..end],
+        words,
+        &tables,
+        &mut cells,
+        false,
+        255,
+        0,
+        budget,
+    );
+    answer(finding, budget, &cells, witness)
+}
+
+// Whether a kept clause covers the words: the clause's number and the count, with the witness, or the count, or a refusal.
+pub fn query(tree: &[u64], words: &[u16], budget: u64, witness: &mut [u16]) -> QueryAnswer
+    ensures { λ r. ⌜ record { answer = r; witness = now (witness .exit) }
+        ≡ q.query (now (tree .entry)) (now (words .entry)) budget (now (witness .entry)) ⌝ }
+{
+    if tree.len() < 2 {
+        return QueryAnswer::Unanswered(Refusal::BadSlice);
+    }
+    if tree.len() > 65536 {
+        return QueryAnswer::Unanswered(Refusal::BadSlice);
+    }
+    let shape = clause::read(words);
+    let Shape::Whole(_) = shape else {
+        return QueryAnswer::Unanswered(refusal(shape));
+    };
+    if witness.len() < 72 {
+        return QueryAnswer::Unanswered(Refusal::ShortWitness);
+    }
+    if (tree[0] / 4294967296) as usize > tree.len() - 1 {
+        return QueryAnswer::Unanswered(Refusal::Broken);
+    }
+    search(tree, words, budget, witness)
+}

@@ -1,0 +1,286 @@
+// One word of a row on the lent cells.
+use crate::Go;
+use crate::Visit;
+use crate::cells::wide;
+use crate::row;
+ghost use mathlib.Core.Path.{_≡_};
+ghost use mathlib.Core.List.{List};
+ghost use mathlib.Core.Option.{none};
+ghost use Prim.Native.Nat.{ℕ, _+_, _*_, _≤_, _<_, _/_, _%_, _^_};
+ghost use lib.Dec.{eqb};
+ghost use lib.ListN.{length, getD, set};
+ghost use Rattle.machine.specs.Instr.{Compare, instruction};
+ghost use Rattle.machine.specs.Machine.{fails, next, given, headed, putting, pushing, require, within, sameTerms, stepAt};
+ghost use Rattle.machine.specs.Machine as m;
+ghost use Rattle.walk.specs.declared.Go.the-variants.{Below};
+ghost use Rattle.walk.specs.Cells.{placeOf, stateOf, stepped, metAs, meeting, Tables, Ready, Visited};
+
+// To the first argument: 255 where there is none.
+fn down(query: &[u16], head: usize) -> usize
+    requires { ⌜ (head < length (now query)) × (length (now query) ≤ 64) ⌝ }
+    ensures { λ r. ⌜ placeOf r ≡ m.down (now (query .entry)) head ⌝ }
+{
+    if query[head] / 2048 % 8 == 0 {
+        255
+    } else {
+        head + 1
+    }
+}
+
+// To the right sibling: 255 where there is none.
+fn right(query: &[u16], tables: &[u8; 137], cells: &[u8; 137], head: usize) -> usize
+    requires { ⌜ Ready (now query) (now tables) head (now cells) × (head < length (now query)) ⌝ }
+    ensures { λ r. ⌜ (placeOf r ≡ m.right (now (query .entry)) head) × (r < 256) ⌝ }
+{
+    let siblings = 72 + head;
+    let end = 8 + head;
+    if tables[siblings] == 0 {
+        255
+    } else {
+        wide(tables[end])
+    }
+}
+
+// Goes on with another head, if there is one.
+fn moved(head: usize, to: usize) -> Visit
+    ensures { λ r. ⌜ ((l : List ℕ) → Visited (stepped (given (placeOf to) (headed (stateOf head l)))) l l r) ⌝ }
+{
+    if to == 255 {
+        Visit {
+            go: Go::Stuck,
+            head: head,
+            mark: 0,
+        }
+    } else {
+        Visit {
+            go: Go::Below,
+            head: to,
+            mark: 0,
+        }
+    }
+}
+
+// Stores a position in a cell.
+fn store(cells: &mut [u8; 137], head: usize, slot: usize, position: usize) -> Visit
+    requires { ⌜ (slot < 136) × (position < 256) ⌝ }
+    ensures { λ r. ⌜ (r ≡ record { go = Below; head = head; mark = slot * 256 + getD (now (cells .entry)) slot 0 })
+        × (now (cells .exit) ≡ set (now (cells .entry)) slot position) × (getD (now (cells .entry)) slot 0 < 256) ⌝ }
+{
+    let old = wide(cells[slot]);
+    cells[slot] = position as u8;
+    Visit {
+        go: Go::Below,
+        head: head,
+        mark: (slot * 256 + old) as u64,
+    }
+}
+
+// Put k stores the head.
+fn put(cells: &mut [u8; 137], head: usize, k: u32) -> Visit
+    requires { ⌜ (getD (now cells) 136 0 ≤ 8) × (head < 64) ⌝ }
+    ensures { λ r. ⌜ Visited (stepped (within k (next (putting (stateOf head (now (cells .entry))) k head)))) (now (cells .entry)) (now (cells .exit)) r ⌝ }
+{
+    if k >= 64 {
+        return Visit {
+            go: Go::Stuck,
+            head: head,
+            mark: 0,
+        };
+    }
+    let slot = 8 + k as usize;
+    store(cells, head, slot, head)
+}
+
+// Push n stores the position to the right.
+fn push(cells: &mut [u8; 137], head: usize, n: u32, to: usize) -> Visit
+    requires { ⌜ (getD (now cells) 136 0 ≤ 8) × (to < 256) ⌝ }
+    ensures { λ r. ⌜ Visited (stepped (within n (given (placeOf to) (pushing (stateOf head (now (cells .entry))) n)))) (now (cells .entry)) (now (cells .exit)) r ⌝ }
+{
+    if n >= 64 {
+        return Visit {
+            go: Go::Stuck,
+            head: head,
+            mark: 0,
+        };
+    }
+    if to == 255 {
+        return Visit {
+            go: Go::Stuck,
+            head: head,
+            mark: 0,
+        };
+    }
+    let slot = 72 + n as usize;
+    store(cells, head, slot, to)
+}
+
+// Pop n puts the head at the position pushed under n.
+fn pop(cells: &[u8; 137], head: usize, n: u32) -> Visit
+    requires { ⌜ length (now cells) ≡ 137 ⌝ }
+    ensures { λ r. ⌜ Visited (stepped (within n (given (getD (stateOf head (now (cells .entry)) .pushes) n none) (headed (stateOf head (now (cells .entry))))))) (now (cells .entry)) (now (cells .entry)) r ⌝ }
+{
+    if n >= 64 {
+        return Visit {
+            go: Go::Stuck,
+            head: head,
+            mark: 0,
+        };
+    }
+    let slot = 72 + n as usize;
+    moved(head, wide(cells[slot]))
+}
+
+// A clause word as an operand.
+fn word(w: u16) -> u32
+    ensures { λ r. ⌜ r ≡ w ⌝ }
+{
+    w as u32
+}
+
+// Check fails on another word.
+fn check(query: &[u16], head: usize, x: u32) -> Visit
+    requires { ⌜ head < length (now query) ⌝ }
+    ensures { λ r. ⌜ ((l : List ℕ) → Visited (stepped (require fails (eqb (getD (now (query .entry)) head 0) x) (next (stateOf head l)))) l l r) ⌝ }
+{
+    if word(query[head]) == x {
+        Visit {
+            go: Go::Below,
+            head: head,
+            mark: 0,
+        }
+    } else {
+        Visit {
+            go: Go::Fails,
+            head: head,
+            mark: 0,
+        }
+    }
+}
+
+// Whether the whole terms at two positions are equal, each handed on as a part of the query.
+fn same_terms(query: &[u16], tables: &[u8; 137], p: usize, q: usize) -> bool
+    requires { ⌜ (length (now query) ≤ 64) × Tables (now query) (now tables) × (p < length (now query)) × (q < length (now query)) ⌝ }
+    ensures { λ r. ⌜ r ≡ sameTerms (now (query .entry)) p q ⌝ }
+{
+    let p_cell = 8 + p;
+    let q_cell = 8 + q;
+    let p_end = wide(tables[p_cell]);
+    let q_end = wide(tables[q_cell]);
+    clause::same(&query[p..p_end], &query[q..q_end])
+}
+
+// Compare fails unless the terms at two positions put are equal.
+fn compare(query: &[u16], tables: &[u8; 137], cells: &[u8; 137], head: usize, x: u32) -> Visit
+    requires { ⌜ Ready (now query) (now tables) head (now cells) ⌝ }
+    ensures { λ r. ⌜ Visited (stepped (stepAt (now (query .entry)) (Compare (x / 2 ^ 16) (x % 2 ^ 16)) (stateOf head (now (cells .entry))) head)) (now (cells .entry)) (now (cells .entry)) r ⌝ }
+{
+    let m = (x / 65536) as usize;
+    let k = (x % 65536) as usize;
+    let stuck = Visit {
+        go: Go::Stuck,
+        head: head,
+        mark: 0,
+    };
+    if m >= 64 {
+        return stuck;
+    }
+    if k >= 64 {
+        return stuck;
+    }
+    let m_cell = 8 + m;
+    let k_cell = 8 + k;
+    let p = wide(cells[m_cell]);
+    let q = wide(cells[k_cell]);
+    if p == 255 {
+        return stuck;
+    }
+    if q == 255 {
+        return stuck;
+    }
+    if same_terms(query, tables, p, q) {
+        Visit {
+            go: Go::Below,
+            head: head,
+            mark: 0,
+        }
+    } else {
+        Visit {
+            go: Go::Fails,
+            head: head,
+            mark: 0,
+        }
+    }
+}
+
+// Any instruction but First, at a head.
+fn act(
+    op: u64,
+    x: u32,
+    query: &[u16],
+    tables: &[u8; 137],
+    cells: &mut [u8; 137],
+    head: usize,
+) -> Visit
+    requires { ⌜ Ready (now query) (now tables) head (now cells) × (head < length (now query)) × (op ≡ 1 → ⊥) ⌝ }
+    ensures { λ r. ⌜ Visited (metAs (now (query .entry)) (instruction op x) (stateOf head (now (cells .entry)))) (now (cells .entry)) (now (cells .exit)) r ⌝ }
+{
+    match op {
+        0 => Visit {
+            go: Go::Hit,
+            head: head,
+            mark: 0,
+        },
+        2 => moved(head, down(query, head)),
+        3 => moved(head, right(query, tables, cells, head)),
+        4 => put(cells, head, x),
+        5 => {
+            let to = right(query, tables, cells, head);
+            push(cells, head, x, to)
+        }
+        6 => pop(cells, head, x),
+        7 => check(query, head, x),
+        8 => compare(query, tables, cells, head, x),
+        _ => Visit {
+            go: Go::Stuck,
+            head: head,
+            mark: 0,
+        },
+    }
+}
+
+// What a word of a row comes to, with so many words of the row from it on.
+pub fn meet(
+    w: u64,
+    room: usize,
+    query: &[u16],
+    tables: &[u8; 137],
+    cells: &mut [u8; 137],
+    head: usize,
+) -> Visit
+    requires { ⌜ Ready (now query) (now tables) head (now cells) × (1 ≤ room) ⌝ }
+    ensures { λ r. ⌜ Visited (meeting (now (query .entry)) w room (stateOf head (now (cells .entry)))) (now (cells .entry)) (now (cells .exit)) r ⌝ }
+{
+    let stuck = Visit {
+        go: Go::Stuck,
+        head: head,
+        mark: 0,
+    };
+    if !row::fits(w, room) {
+        return stuck;
+    }
+    let op = row::operation(w);
+    if op == 1 {
+        if cells[136] < 8 {
+            return Visit {
+                go: Go::Tries,
+                head: head,
+                mark: 0,
+            };
+        }
+        return stuck;
+    }
+    if head >= query.len() {
+        return stuck;
+    }
+    act(op, row::operand(w), query, tables, cells, head)
+}
