@@ -91,16 +91,16 @@ filling m i ws = record { words = sets (m .words) i ws; slice = m .slice; marks 
 -- the words that are still to come are there
 collect : (ws : List ℕ) (n count i : ℕ) (t : Totals) (m : Store) → i < count → count ≤ i + length ws
     → feedFields (AtWord n count i) t m ws
-      ≡ andThen (finished n count t (filling m i (take (count - i) ws))) (λ s m′. feedFields (s .stage) (s .totals) m′ (drop (count - i) ws))
+    ≡ andThen (finished n count t (filling m i (take (count - i) ws))) (λ s m′. feedFields (s .stage) (s .totals) m′ (drop (count - i) ws))
 unfolding feedFields
 collect [] n count i t m h k = absurd (omega arith)
 collect (w ∷ ws) n count i t m h k = go (decLt (i + 1) count) (collect ws n count (i + 1) t (storing m i w))
   where
     go : Dec (i + 1 < count)
         → (i + 1 < count → count ≤ i + 1 + length ws → feedFields (AtWord n count (i + 1)) t (storing m i w) ws
-          ≡ andThen (finished n count t (filling (storing m i w) (i + 1) (take (count - (i + 1)) ws))) (λ s m′. feedFields (s .stage) (s .totals) m′ (drop (count - (i + 1)) ws)))
+        ≡ andThen (finished n count t (filling (storing m i w) (i + 1) (take (count - (i + 1)) ws))) (λ s m′. feedFields (s .stage) (s .totals) m′ (drop (count - (i + 1)) ws)))
         → andThen (takeField (AtWord n count i) t m w) (λ s m′. feedFields (s .stage) (s .totals) m′ ws)
-          ≡ andThen (finished n count t (filling m i (take (count - i) (w ∷ ws)))) (λ s m′. feedFields (s .stage) (s .totals) m′ (drop (count - i) (w ∷ ws)))
+        ≡ andThen (finished n count t (filling m i (take (count - i) (w ∷ ws)))) (λ s m′. feedFields (s .stage) (s .totals) m′ (drop (count - i) (w ∷ ws)))
     go (yes l) ih =
         let e : count - i ≡ suc (count - (i + 1)) = omega arith in
         rw (at-word t m w n count i refl l, e) (ih l (omega arith) ∙ rw add-one)
@@ -145,12 +145,12 @@ insertion-length T c n = top (sized T) (shape c)
 
     inside : (f : Option (List ℕ)) (o : Option ℕ) (s t : Bool) → leb (length T) (size (ins (e .keys) (e .number) (decode T))) ≡ t
         → length (changed T call.Kept (elim f [
-            | some cs ↦ refuse NumberTaken
-            | nobody ↦ elim o [
-              | some m ↦ refuse (Held m)
-              | nobody ↦ cond s (refuse ListFull) (cond t (refuse NoRoom) (change (ins (e .keys) (e .number) (decode T))))
-            ]
-          ]) .slice) ≡ length T
+          | some cs ↦ refuse NumberTaken
+          | nobody ↦ elim o [
+            | some m ↦ refuse (Held m)
+            | nobody ↦ cond s (refuse ListFull) (cond t (refuse NoRoom) (change (ins (e .keys) (e .number) (decode T))))
+          ]
+        ]) .slice) ≡ length T
     inside (some cs) o s t q = refl
     inside nobody (some m) s t q = refl
     inside nobody nobody true t q = refl
@@ -189,7 +189,7 @@ one-record : (n count : ℕ) (ws : List ℕ) (t : Totals) (m : Store) (xs : List
     → length (m .words) ≡ 64 → length (m .slice) ≡ treeWords → count ≤ length ws → (count ≤ 64 → take count (m .words) ≡ take count ws)
     → ((u : Totals) (m′ : Store) → length (m′ .words) ≡ 64 → length (m′ .slice) ≡ treeWords → shows (feedFields AtNumber u m′ fs) ≡ printed (run (stateOf u m′) xs))
     → shows (andThen (finished n count t m) (λ s m′. feedFields (s .stage) (s .totals) m′ fs))
-      ≡ printed (run (stateOf t m) (record { number = n; words = take count ws } ∷ xs))
+    ≡ printed (run (stateOf t m) (record { number = n; words = take count ws } ∷ xs))
 unfolding finished step
 one-record n count ws t m xs fs w s h same rest =
     let x : Record = record { number = n; words = take count ws } in

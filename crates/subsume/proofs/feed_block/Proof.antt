@@ -38,10 +38,10 @@ feed-requires c κs =
     (l .inv .0, l .inv .3 ∙ p .1, omega (arith, e, l .inv .5, l .inv .6, p .2))
 
 slice-reshare-prefix-write-all : tie.Need-slice-reshare-prefix-write-all Inv-loop μ-loop
-slice-reshare-prefix-write-all c = omega (arith, c .before .before .before .before .before .before .before .before .feed .ensures .1 .fits, c .before .output .given)
+slice-reshare-prefix-write-all c = omega (arith, c .before .before .before .before .before .before .before .before .feed .ensures .1 .1 .fits, c .before .output .given)
 
 slice-aggregate-write-all : tie.Need-slice-aggregate-write-all Inv-loop μ-loop
-slice-aggregate-write-all c = sym (length-take-le _ _ (omega (arith, c .before .before .before .before .before .before .before .before .before .feed .ensures .1 .fits, c .before .before .output .given)))
+slice-aggregate-write-all c = sym (length-take-le _ _ (omega (arith, c .before .before .before .before .before .before .before .before .before .feed .ensures .1 .1 .fits, c .before .before .output .given)))
 
 write-all-requires : tie.Need-write-all-requires Inv-loop μ-loop
 write-all-requires c κs = tt
@@ -51,14 +51,14 @@ add-from c =
     let b = c .before .before .before .before .before .before .before .before .before .before .before .before .before .before .before .before .before .before .before .before .before .before .before .before .before .args .block .now in
     let l = c .before .before .before .before .before .before .before .before .before .before .before .before .before .before .before .before .before .before .before .loop in
     let e : length (take (length b - l .from) (drop (l .from) b)) ≡ length b - l .from = simp (length-take, length-drop) (omega arith) in
-    record { fits = omega (arith, e, l .inv .5, c .before .before .before .before .before .before .before .before .before .before .before .before .feed .ensures .1 .inside, c .before .before .before .before .before .before .before .before .before .before .before .before .before .before .before .before .before .before .before .before .before .before .before .before .before .pre .2) }
+    record { fits = omega (arith, e, l .inv .5, c .before .before .before .before .before .before .before .before .before .before .before .before .feed .ensures .1 .1 .inside, c .before .before .before .before .before .before .before .before .before .before .before .before .before .before .before .before .before .before .before .before .before .before .before .before .before .pre .2) }
 
 loop-less : tie.Need-loop-less Inv-loop μ-loop
 loop-less c =
     let b = c .before .before .before .before .before .before .before .before .before .before .before .before .before .before .before .before .before .before .before .before .before .before .before .before .before .args .block .now in
     let l = c .before .before .before .before .before .before .before .before .before .before .before .before .before .before .before .before .before .before .before .loop in
     let e : length (take (length b - l .from) (drop (l .from) b)) ≡ length b - l .from = simp (length-take, length-drop) (omega arith) in
-    let f = c .before .before .before .before .before .before .before .before .before .before .before .before .feed .ensures .1 in
+    let f = c .before .before .before .before .before .before .before .before .before .before .before .before .feed .ensures .1 .1 in
     omega (arith, e, f .inside, f .moves (omega (arith, l .inv .4, c .before .before .before .before .before .before .before .before .before .before .before .before .before .before .before .before .before .before .before .before .before .before .before .before .before .pre .3)) (omega (arith, e, c .before .before .before .before .before .before .before .before .before .before .before .before .before .before .before .before .before .before .loop-test .taken)), c .before .before .before .before .before .before .before .before .before .before .before .before .before .before .before .before .before .before .loop-test .taken)
 
 loop-again : tie.Need-loop-again Inv-loop μ-loop
@@ -72,8 +72,8 @@ loop-again c =
       c .before .before .before .before .before .before .before .before .before .marks .given ∙ l .inv .2,
       c .before .before .before .before .before .before .before .words .given ∙ l .inv .3,
       c .before .before .before .before .before .output .given ∙ l .inv .4,
-      omega (arith, e, f .1 .inside, l .inv .5),
-      omega (arith, f .1 .records, l .inv .6),
+      omega (arith, e, f .1 .1 .inside, l .inv .5),
+      omega (arith, f .1 .1 .records, l .inv .6),
     )
 
 same-length : tie.Need-same-length Inv-loop μ-loop
