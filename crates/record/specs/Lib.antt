@@ -1,0 +1,5 @@
+pub mod Text
+pub mod Line
+pub mod Answer
+pub mod Output
+pub mod Feed

@@ -1,0 +1,49 @@
+-- The lines that are printed.
+use mathlib.Core.List.{List, [], _∷_, _++_}
+use Prim.Native.Nat.{ℕ}
+use Rattle.record.specs.Text.{decimal}
+use Rattle.record.specs.declared.Outcome.{Outcome}
+use Rattle.record.specs.declared.Outcome.the-variants.{Kept, Struck, Refused}
+use Rattle.record.specs.declared.Totals.{Totals}
+
+-- a space
+abbrev pub space : List ℕ
+space = 32 ∷ []
+
+-- the end of a line
+abbrev pub lineEnd : List ℕ
+lineEnd = 10 ∷ []
+
+-- `kept ` at the beginning of a line
+abbrev pub saysFirst : List ℕ
+saysFirst = 107 ∷ 101 ∷ 112 ∷ 116 ∷ 32 ∷ []
+
+-- ` kept `
+abbrev pub saysKept : List ℕ
+saysKept = 32 ∷ 107 ∷ 101 ∷ 112 ∷ 116 ∷ 32 ∷ []
+
+-- ` struck `
+abbrev pub saysStruck : List ℕ
+saysStruck = 32 ∷ 115 ∷ 116 ∷ 114 ∷ 117 ∷ 99 ∷ 107 ∷ 32 ∷ []
+
+-- ` refused `
+abbrev pub saysRefused : List ℕ
+saysRefused = 32 ∷ 114 ∷ 101 ∷ 102 ∷ 117 ∷ 115 ∷ 101 ∷ 100 ∷ 32 ∷ []
+
+-- some text and a number after it
+abbrev pub named : (text : List ℕ) (number : ℕ) → List ℕ
+named t n = t ++ decimal n
+
+-- what a line says after the record's number: `kept` and the used words; `struck`, the covering number and the candidates; `refused` and the code
+abbrev pub saying : Outcome → List ℕ
+saying (Kept used) = named saysKept used
+saying (Struck covering candidates) = named saysStruck covering ++ named space candidates
+saying (Refused code) = named saysRefused code
+
+-- the line of a record
+unfoldable pub lineOf : (number : ℕ) → Outcome → List ℕ
+lineOf n o = decimal n ++ (saying o ++ lineEnd)
+
+-- the last line: how many were kept, struck and refused
+unfoldable pub totalsLine : Totals → List ℕ
+totalsLine t = named saysFirst (t .kept) ++ (named saysStruck (t .struck) ++ (named saysRefused (t .refused) ++ lineEnd))

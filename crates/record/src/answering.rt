@@ -1,0 +1,77 @@
+// What becomes of one record.
+use crate::Outcome;
+use clause::Fault;
+use machine::compile;
+use tree::CallAnswer;
+use tree::Refusal;
+use insertion::insert_new;
+use walk::QueryAnswer;
+use walk::query;
+ghost use mathlib.Core.Path.{_≡_};
+ghost use Rattle.clause.specs.Clause.{Accepted};
+ghost use Rattle.tree.specs.Refusal.{codeOf};
+ghost use Rattle.tree.specs.Calls.{insertion};
+ghost use Rattle.record.specs.Answer.{inserted, answered};
+ghost use Rattle.record.specs.Feed.{Steady, Answers};
+
+// The code of a clause's fault.
+fn code_of_fault(fault: Fault) -> u8
+    ensures { λ r. ⌜ r ≡ codeOf (Refusal.BadClause fault) ⌝ }
+{
+    match fault {
+        Fault::BadLength => 3,
+        Fault::Bad(_) => 4,
+        Fault::Ninth(_) => 5,
+    }
+}
+
+// The code of a refusal.
+fn code_of(refusal: Refusal) -> u8
+    ensures { λ r. ⌜ r ≡ codeOf refusal ⌝ }
+{
+    match refusal {
+        Refusal::BadSlice => 1,
+        Refusal::Broken => 2,
+        Refusal::BadClause(fault) => code_of_fault(fault),
+        Refusal::ShortWitness => 6,
+        Refusal::NumberTaken => 7,
+        Refusal::Held(_) => 8,
+        Refusal::NoSuchNumber => 9,
+        Refusal::ListFull => 10,
+        Refusal::NoRoom => 11,
+        Refusal::Spent(_) => 12,
+        Refusal::BadSize => 13,
+    }
+}
+
+// Inserts a record that is not covered. The caller holds the slice well laid, with the marks of its numbers, and the clause is accepted.
+fn keep(tree: &mut [u64], marks: &mut [u8], words: &[u16], number: u16) -> Outcome
+    requires { ⌜ Steady (now tree) (now marks) × Accepted (now words) ⌝ }
+    ensures { λ r. ⌜ Answers (inserted (insertion (now (tree .entry)) (now (words .entry)) number)) number (now (marks .entry)) r (now (tree .exit)) (now (marks .exit)) ⌝ }
+{
+    let mark = number as usize;
+    if marks[mark] > 0 {
+        return Outcome::Refused(7);
+    }
+    let mut keys = [0u64; 320];
+    let count = compile(words, &mut keys);
+    let answer = insert_new(tree, &keys[..count], number as u32);
+    let CallAnswer::Refused(refusal) = answer else {
+        marks[mark] = 1;
+        return Outcome::Kept(tree[0] / 4294967296);
+    };
+    Outcome::Refused(code_of(refusal))
+}
+
+// Queries a record, and inserts it where it is not covered. The caller holds the slice well laid, with the marks of its numbers.
+pub(crate) fn answer(tree: &mut [u64], marks: &mut [u8], words: &[u16], number: u16) -> Outcome
+    requires { ⌜ Steady (now tree) (now marks) ⌝ }
+    ensures { λ r. ⌜ Answers (answered (now (tree .entry)) (record { number = number; words = now (words .entry) })) number (now (marks .entry)) r (now (tree .exit)) (now (marks .exit)) ⌝ }
+{
+    let mut witness = [0u16; 72];
+    match query(tree, words, 1000000000, &mut witness) {
+        QueryAnswer::Unanswered(refusal) => Outcome::Refused(code_of(refusal)),
+        QueryAnswer::Covered(covering, candidates) => Outcome::Struck(covering, candidates),
+        QueryAnswer::NotCovered(_) => keep(tree, marks, words, number),
+    }
+}
