@@ -1,11 +1,13 @@
 // What becomes of one record.
 use crate::Outcome;
 use clause::Fault;
+use machine::Sequence;
 use machine::compile;
 use tree::CallAnswer;
 use tree::Refusal;
 use insertion::insert_new;
 use walk::QueryAnswer;
+use walk::Witness;
 use walk::query;
 ghost use mathlib.Core.Path.{_≡_};
 ghost use Rattle.clause.specs.Clause.{Accepted};
@@ -53,7 +55,7 @@ fn keep(tree: &mut [u64], marks: &mut [u8], words: &[u16], number: u16) -> Outco
     if marks[mark] > 0 {
         return Outcome::Refused(7);
     }
-    let mut keys = [0u64; 320];
+    let mut keys = [0u64; Sequence::KEYS];
     let count = compile(words, &mut keys);
     let answer = insert_new(tree, &keys[..count], number as u32);
     let CallAnswer::Refused(refusal) = answer else {
@@ -68,7 +70,7 @@ pub(crate) fn answer(tree: &mut [u64], marks: &mut [u8], words: &[u16], number: 
     requires { ⌜ Steady (now tree) (now marks) ⌝ }
     ensures { λ r. ⌜ Answers (answered (now (tree .entry)) (record { number = number; words = now (words .entry) })) number (now (marks .entry)) r (now (tree .exit)) (now (marks .exit)) ⌝ }
 {
-    let mut witness = [0u16; 72];
+    let mut witness = [0u16; Witness::WORDS];
     match query(tree, words, 1000000000, &mut witness) {
         QueryAnswer::Unanswered(refusal) => Outcome::Refused(code_of(refusal)),
         QueryAnswer::Covered(covering, candidates) => Outcome::Struck(covering, candidates),

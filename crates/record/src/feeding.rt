@@ -1,4 +1,5 @@
 // The input byte by byte, as it comes in blocks.
+use clause::Clause;
 use crate::Half;
 use crate::Outcome;
 use crate::Progress;
@@ -59,7 +60,7 @@ fn outcome_of(tree: &mut [u64], marks: &mut [u8], words: &[u16], number: u16, co
     requires { ⌜ Steady (now tree) (now marks) × (length (now words) ≡ 64) ⌝ }
     ensures { λ r. ⌜ Answers (finishing number count (now (words .entry)) (now (tree .entry))) number (now (marks .entry)) r (now (tree .exit)) (now (marks .exit)) ⌝ }
 {
-    if count > 64 {
+    if count > Clause::WORDS as u16 {
         return Outcome::Refused(3);
     }
     let end = count as usize;

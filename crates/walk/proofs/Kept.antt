@@ -30,7 +30,7 @@ use Rattle.machine.proofs.Replace.{length-vars}
 use Rattle.walk.proofs.Paths.{Leads, firsts, run, Candidates, Finds, NeverStuck}
 use Rattle.walk.proofs.Formed.{leads-has, has-leads}
 use Rattle.walk.proofs.Runs.{run-keys, firsts-keys}
-use Rattle.walk.proofs.Witness.{written-there, written-elsewhere, length-written, shown-literal, shown-none, shown-position}
+use Rattle.walk.proofs.Witnessed.{written-there, written-elsewhere, length-written, shown-literal, shown-none, shown-position}
 use Rattle.clause.specs.Word.{Words}
 
 -- ---- one clause against a query

@@ -14,7 +14,7 @@ use lib.Seq.{getD-set-same, getD-set-other, getD-take, take-all}
 use Rattle.machine.specs.Machine.{State}
 use Rattle.walk.specs.Query.{shown, written}
 use Rattle.walk.specs.Cells.{placeOf, placed, stateOf, Laid}
-use Rattle.walk.proofs.Witness.{shown-front, shown-none, shown-position}
+use Rattle.walk.proofs.Witnessed.{shown-front, shown-none, shown-position}
 use Rattle.walk.proofs.Places.{placed-get}
 
 -- one more word, where there is nothing to write, and where there is

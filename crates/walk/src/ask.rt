@@ -2,11 +2,13 @@
 use crate::End;
 use crate::Finding;
 use crate::QueryAnswer;
+use crate::Witness;
 use crate::cells::wide;
 use crate::walk::walk;
 use clause::Clause;
 use clause::Shape;
 use tree::Refusal;
+use tree::Tree;
 ghost use mathlib.Core.Path.{_≡_};
 ghost use mathlib.Core.Bool.{cond};
 ghost use mathlib.Core.Option.{none, some};
@@ -60,7 +62,7 @@ fn shows(cells: &[u8; 137], i: usize) -> bool
     requires { ⌜ (length (now cells) ≡ 137) × (i < 72) ⌝ }
     ensures { λ r. ⌜ getD (q.shown (stateOf 255 (now (cells .entry)))) i none ≡ cond r (some (getD (now (cells .entry)) i 0)) none ⌝ }
 {
-    if i < 8 {
+    if i < Clause::LITERALS {
         i < wide(cells[136])
     } else {
         cells[i] != 255
@@ -73,7 +75,7 @@ fn show(cells: &[u8; 137], witness: &mut [u16])
     ensures { λ _. ⌜ now (witness .exit) ≡ q.written (q.shown (stateOf 255 (now (cells .entry)))) (now (witness .entry)) ⌝ }
 {
     let mut i: usize = 0;
-    while i < 72 {
+    while i < Witness::WORDS {
         if shows(cells, i) {
             witness[i] = word(cells[i]);
         }
@@ -139,17 +141,17 @@ pub fn query(tree: &[u64], words: &[u16], budget: u64, witness: &mut [u16]) -> Q
     ensures { λ r. ⌜ record { answer = r; witness = now (witness .exit) }
         ≡ q.query (now (tree .entry)) (now (words .entry)) budget (now (witness .entry)) ⌝ }
 {
-    if tree.len() < 2 {
+    if tree.len() < Tree::LEAST {
         return QueryAnswer::Unanswered(Refusal::BadSlice);
     }
-    if tree.len() > 65536 {
+    if tree.len() > Tree::WORDS {
         return QueryAnswer::Unanswered(Refusal::BadSlice);
     }
     let shape = clause::read(words);
     let Shape::Whole(_) = shape else {
         return QueryAnswer::Unanswered(refusal(shape));
     };
-    if witness.len() < 72 {
+    if witness.len() < Witness::WORDS {
         return QueryAnswer::Unanswered(Refusal::ShortWitness);
     }
     if (tree[0] / 4294967296) as usize > tree.len() - 1 {

@@ -1,6 +1,8 @@
 // The ceiling of a walk's count.
 use crate::CeilingAnswer;
+use clause::Clause;
 use tree::Refusal;
+use tree::Tree;
 ghost use mathlib.Core.Path.{_≡_};
 ghost use Prim.Native.Nat.{_≤_};
 ghost use Rattle.walk.specs.Ceiling.{powers, ceilingCall};
@@ -26,19 +28,19 @@ pub fn ceiling(kept: u64, q: u64, m: u64) -> CeilingAnswer
     ensures { λ r. ⌜ r ≡ ceilingCall kept q m ⌝ }
 {
     let refused = CeilingAnswer::NoCeiling(Refusal::BadSize);
-    if kept > 1024 {
+    if kept > Tree::CLAUSES as u64 {
         return refused;
     }
     if q < 1 {
         return refused;
     }
-    if q > 8 {
+    if q > Clause::LITERALS as u64 {
         return refused;
     }
     if m < 1 {
         return refused;
     }
-    if m > 8 {
+    if m > Clause::LITERALS as u64 {
         return refused;
     }
     CeilingAnswer::Ceiling(kept * sum_of_powers(q, m))

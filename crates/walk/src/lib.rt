@@ -18,6 +18,14 @@ pub enum QueryAnswer {
     NotCovered(u64),
 }
 
+// The witness of a query: the literals chosen, then the positions put.
+pub struct Witness {}
+
+impl Witness {
+    // The least words of a witness.
+    pub const WORDS: usize = 72;
+}
+
 // The answer of the ceiling call.
 pub enum CeilingAnswer {
     NoCeiling(Refusal),

@@ -1,4 +1,4 @@
-use Rattle.walk.proofs.Witness.{length-written}
+use Rattle.walk.proofs.Witnessed.{length-written}
 use mathlib.Core.Path.{_≡_, refl, ap, _∙_}
 use mathlib.Core.List.{List}
 use lib.ListN.{length, getD, take, length-set}
