@@ -1,7 +1,8 @@
 -- `ct_insert` meets its contract: the call is made, and its answer handed over.
-use mathlib.Core.Path.{ap, _∙_}
+use mathlib.Core.Path.{ap}
 use Rattle.book.specs.Table.{called}
-use Rattle.codetree.specs.Calls.{handed, ctInsert}
+use Rattle.codetree.specs.Calls.{ctInsert}
+use Rattle.codetree.proofs.Telling.{hands}
 use borrow.Author.Needs.{needs}
 use Rattle.codetree.proofs.ct_insert.Statement.{statement}
 use Rattle.codetree.proofs.ct_insert.Tie as tie
@@ -23,8 +24,7 @@ unfolding ctInsert
 returns c =
     let h = c .before .before in
     let i = h .before .before .before .before in
-    let s = i .before .before .before .before .before in
-    ap (λ y. record { number = y .number; words = i .insert .last .0; told = y .told }) (h .hand-call .ensures) ∙ ap (λ y. handed (called y) (s .args .told .now)) (i .insert .ensures)
+    hands (i .before .before .before .before .before .args .told .now) (ap called (i .insert .ensures)) (h .hand-call .ensures)
 
 pub ct-insert-spec : {M : Type 1} → statement M
 ct-insert-spec =

@@ -1,7 +1,8 @@
 -- `ct_query` meets its contract: the call is made, and its answer handed over.
-use mathlib.Core.Path.{ap, _∙_}
+use mathlib.Core.Path.{ap}
 use Rattle.book.specs.Table.{asked}
-use Rattle.codetree.specs.Calls.{handed, ctQuery}
+use Rattle.codetree.specs.Calls.{ctQuery}
+use Rattle.codetree.proofs.Telling.{hands}
 use borrow.Author.Needs.{needs}
 use Rattle.codetree.proofs.ct_query.Statement.{statement}
 use Rattle.codetree.proofs.ct_query.Tie as tie
@@ -23,8 +24,7 @@ unfolding ctQuery
 returns c =
     let h = c .before .before in
     let i = h .before .before .before .before in
-    let s = i .before .before .before .before .before .before in
-    ap (λ y. record { number = y .number; words = i .query .last .1 .1 .1 .0; told = y .told }) (h .hand-query .ensures) ∙ ap (λ y. handed (asked y) (s .args .told .now)) (i .query .ensures)
+    hands (i .before .before .before .before .before .before .args .told .now) (ap asked (i .query .ensures)) (h .hand-query .ensures)
 
 pub ct-query-spec : {M : Type 1} → statement M
 ct-query-spec =
