@@ -5,17 +5,13 @@ use mathlib.Core.Option.{none}
 use mathlib.Core.List.{List}
 use Prim.Native.Nat.{ℕ, _/_, _≤_, _<_}
 use native.Mathlib.Omega.{arith}
-use lib.ListN.{length, getD, set, take, drop, replicate, length-map, length-append}
-use lib.Seq.{take-at}
+use lib.ListN.{length, getD, set, replicate}
 use Rattle.clause.specs.Word.{Words}
 use Rattle.clause.specs.Clause.{maxWords, Accepted, shape}
 use Rattle.clause.specs.declared.Shape.{Shape}
 use Rattle.clause.specs.declared.Shape.the-variants.{Faulty, Whole}
 use Rattle.clause.proofs.Literals.{accepted}
-use Rattle.machine.specs.Instr.{key}
-use Rattle.machine.specs.Compile.{sequence, keys}
-use Rattle.machine.specs.Compiled.{Compiled}
-use Rattle.machine.proofs.Length.{sequence-length}
+use Rattle.machine.specs.Compile.{keys}
 use Rattle.machine.proofs.Codes.{sequence-plain}
 use Rattle.tree.specs.Laid.{sized, region}
 use Rattle.tree.specs.Cut.{locate}
@@ -29,6 +25,7 @@ use Rattle.tree.specs.declared.CallAnswer.{CallAnswer}
 use Rattle.tree.specs.declared.CallAnswer.the-variants as call
 use Rattle.tree.proofs.Plain.{plain-body}
 use Rattle.tree.proofs.ByWords.{insertion-words}
+use Rattle.insertion.proofs.KeysOf.{keys-few}
 use Rattle.insertion.proofs.UsedWords.{number-free}
 use Rattle.walk.specs.Query.{witnessWords, Asked, unanswered, queryAs, query}
 use Rattle.walk.specs.declared.QueryAnswer.{QueryAnswer}
@@ -41,19 +38,9 @@ use Rattle.record.proofs.Steady.{View, refused-left, kept-steady, stead
 
 -- ---- the insertion
 
--- a clause and its keys are short
+-- a clause is short
 pub clause-short : (c : List ℕ) → Accepted c → length c ≤ maxWords
 clause-short c a = accepted c a .fits
-
-pub keys-few : (c : List ℕ) → Accepted c → length (keys c) ≤ 320
-keys-few c a = omega (arith, length-map (sequence c) key, sequence-length c (accepted c a))
-
--- the keys that compiling has left
-pub compiled-keys : {c b k : List ℕ} {r : ℕ} → Compiled c b r k → take r k ≡ keys c
-compiled-keys {c} {b} p = rw (p .answer-is, p .after-is) (take-at (keys c) (drop (length (keys c)) b) (length (keys c)) refl)
-
-pub compiled-inside : {c b k : List ℕ} {r : ℕ} → Compiled c b r k → r ≤ length k
-compiled-inside {c} {b} p = omega (arith, p .answer-is, ap length (p .after-is), length-append (keys c) (drop (length (keys c)) b))
 
 module _ {S K : List ℕ} (h : Steady S K) (c : List ℕ) (a : Accepted c) (u : Words c) (n : ℕ) (l : n < 65_536) where
   pub ready : {ks : List ℕ} → ks ≡ keys c → Ready S ks

@@ -6,6 +6,7 @@ ghost use Rattle.tree.specs.Laid.{leastWords, mostWords, usedOf, keptOf}
 use clause::Fault;
 
 mod fields;
+mod refusals;
 
 pub use fields::extent;
 pub use fields::key;

@@ -13,8 +13,8 @@ query-requires c κs = search needs
 enum-known-refusal : tie.Need-enum-known-refusal
 enum-known-refusal c = search needs
 
-code-of-requires : tie.Need-code-of-requires
-code-of-requires c κs = search needs
+code-requires : tie.Need-code-requires
+code-requires c κs = search needs
 
 enum-known-covering : tie.Need-enum-known-covering
 enum-known-covering c = search needs
@@ -35,7 +35,7 @@ returns : tie.Need-returns
 returns c =
     let s = c .before .before .before .before .before .before .before .before .before .before .before in
     let g = c .before .before .refusal .given in
-    asked-refused (s .args .tree .now) (s .args .words .now) (s .args .number) (c .before .before .before .before .before .query .ensures) (g .0 .0) (g .1) (c .code-of .ensures) (s .pre)
+    asked-refused (s .args .tree .now) (s .args .words .now) (s .args .number) (c .before .before .before .before .before .query .ensures) (g .0 .0) (g .1) (c .code .ensures) (s .pre)
 
 same-length-2 : tie.Need-same-length-2
 same-length-2 c = search needs
@@ -65,7 +65,7 @@ answer-spec =
     slice-aggregate-query
     query-requires
     enum-known-refusal
-    code-of-requires
+    code-requires
     enum-known-covering
     enum-told
     keep-requires

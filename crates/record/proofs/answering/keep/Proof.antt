@@ -7,7 +7,8 @@ use mathlib.Core.List.{[], _∷_}
 use lib.Seq.{length-take-le}
 use types.Run.{miss}
 use Rattle.record.proofs.Steady.{words-of}
-use Rattle.record.proofs.Keeping.{clause-short, compiled-keys, compiled-inside, ready, number-new, called, keep-marked, keep-refused, keep-kept}
+use Rattle.machine.proofs.Compiled.{compiled-fits, compiled-keys}
+use Rattle.record.proofs.Keeping.{clause-short, ready, number-new, called, keep-marked, keep-refused, keep-kept}
 use borrow.Author.Needs.{needs}
 use Rattle.record.proofs.answering.keep.Statement.{statement}
 use Rattle.record.proofs.answering.keep.Tie as tie
@@ -29,10 +30,10 @@ compile-requires : tie.Need-compile-requires
 compile-requires c κs = (clause-short _ (c .before .before .before .before .before .before .pre .1), omega arith)
 
 array-share-prefix-keys : tie.Need-array-share-prefix-keys
-array-share-prefix-keys c = compiled-inside (c .before .before .compile .ensures)
+array-share-prefix-keys c = compiled-fits (c .before .before .compile .ensures)
 
 slice-aggregate-insert-new : tie.Need-slice-aggregate-insert-new
-slice-aggregate-insert-new c = sym (length-take-le _ _ (compiled-inside (c .before .before .before .compile .ensures)))
+slice-aggregate-insert-new c = sym (length-take-le _ _ (compiled-fits (c .before .before .before .compile .ensures)))
 
 insert-new-requires : tie.Need-insert-new-requires
 insert-new-requires c κs =
@@ -69,8 +70,8 @@ returns-2 c =
     (called (s .pre .0) (s .args .words .now) (s .pre .1) w (s .args .number) l (compiled-keys (c .before .before .before .before .before .before .before .before .compile .ensures)) (i .ensures))
     (λ f e. miss (1 ∷ 2 ∷ 3 ∷ []) 0 tt (rw e at k))
 
-code-of-requires : tie.Need-code-of-requires
-code-of-requires c κs = search needs
+code-requires : tie.Need-code-requires
+code-requires c κs = search needs
 
 same-length-3 : tie.Need-same-length-3
 same-length-3 c = search needs
@@ -82,7 +83,7 @@ returns-3 c =
     let l : s .args .number < 65_536 = omega (arith, s .fits .number) in
     let g = c .before .before .answer .given in
     keep-refused (s .pre .0) (s .args .words .now) (s .pre .1) w (s .args .number) l (c .before .before .before .before .before .before .before .before .before .before .before .before .if1 .left)
-    (called (s .pre .0) (s .args .words .now) (s .pre .1) w (s .args .number) l (compiled-keys (c .before .before .before .before .before .before .before .before .before .before .compile .ensures)) (c .before .before .before .before .before .before .insert-new .ensures)) (g .0 .0) (g .1) (c .code-of .ensures)
+    (called (s .pre .0) (s .args .words .now) (s .pre .1) w (s .args .number) l (compiled-keys (c .before .before .before .before .before .before .before .before .before .before .compile .ensures)) (c .before .before .before .before .before .before .insert-new .ensures)) (g .0 .0) (g .1) (c .code .ensures)
 
 pub keep-spec : {M : Type 1} → statement M
 keep-spec =
@@ -101,6 +102,6 @@ keep-spec =
     same-length
     same-length-2
     returns-2
-    code-of-requires
+    code-requires
     same-length-3
     returns-3)

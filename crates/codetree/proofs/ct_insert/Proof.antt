@@ -1,0 +1,31 @@
+-- `ct_insert` meets its contract: the call is made, and its answer handed over.
+use mathlib.Core.Path.{ap}
+use Rattle.book.specs.Table.{called}
+use Rattle.codetree.specs.Calls.{ctInsert}
+use Rattle.codetree.proofs.Telling.{hands}
+use borrow.Author.Needs.{needs}
+use Rattle.codetree.proofs.ct_insert.Statement.{statement}
+use Rattle.codetree.proofs.ct_insert.Tie as tie
+
+insert-requires : tie.Need-insert-requires
+insert-requires c κs = search needs
+
+hand-call-requires : tie.Need-hand-call-requires
+hand-call-requires c κs = search needs
+
+same-length : tie.Need-same-length
+same-length c = search needs
+
+same-length-2 : tie.Need-same-length-2
+same-length-2 c = search needs
+
+returns : tie.Need-returns
+unfolding ctInsert
+returns c =
+    let h = c .before .before in
+    let i = h .before .before .before .before in
+    hands (i .before .before .before .before .before .args .told .now) (ap called (i .insert .ensures)) (h .hand-call .ensures)
+
+pub ct-insert-spec : {M : Type 1} → statement M
+ct-insert-spec =
+    tie.close (tie.spec insert-requires hand-call-requires same-length same-length-2 returns)
