@@ -1,11 +1,11 @@
 -- What a visit does to the cells is what the definition's step does to the state.
 use Prim.Native.Nat.{ℕ, zero, suc, _+_, _-_, _*_, _/_, _%_, _^_, _≤_, _<_}
-use mathlib.Core.Path.{_≡_, refl, sym, ap, _∙_}
-use mathlib.Core.Bool.{Bool, true, false, cond}
+use mathlib.Core.Path.{_≡_, refl, sym, _∙_}
+use mathlib.Core.Bool.{true, false}
 use mathlib.Core.Option.{Option, none, some}
-use mathlib.Core.List.{List, [], _∷_, map}
+use mathlib.Core.List.{List, [], _∷_}
 use native.Mathlib.Omega.{arith}
-use lib.Dec.{ltb, eqb}
+use lib.Dec.{eqb}
 use lib.ListN.{length, getD, take, drop, set, length-drop}
 use lib.Seq.{length-take-le}
 use native.Mathlib.Decide.{ℕ-discrete}
@@ -15,12 +15,12 @@ use Rattle.clause.specs.Clause.{skip, term, termAt}
 use Rattle.clause.specs.Positions.{jump, rights}
 use Rattle.clause.proofs.Literals.{accepted}
 use Rattle.clause.proofs.Siblings.{right-inside}
-use Rattle.machine.specs.Machine.{State, Outcome, slots, onto, down, right, next, fails, stuck, given, headed, putting, pushing, require, within, sameTerms, compareTerms, stepAt, stepFrom, step, finish, finishFrom}
+use Rattle.machine.specs.Machine.{State, Outcome, onto, down, right, next, fails, given, headed, putting, pushing, require, within, sameTerms, compareTerms, stepAt, stepFrom, step, finish, finishFrom}
 use Rattle.machine.specs.Instr.{Step, Down, Right, Put, Push, Pop, Check, Compare, Instr, First, Do, Success, instruction}
 use Rattle.walk.specs.Words.{extends}
-use Rattle.walk.specs.Cells.{placeOf, placed, stateOf, Met, bad, hit, firsts, stepped, reached, metAs, meeting, metOf, Stored, nothing, store, Visited, Tables, Ready}
+use Rattle.walk.specs.Cells.{placeOf, placed, stateOf, Met, bad, hit, firsts, stepped, reached, metAs, meeting, metOf, nothing, store, Visited, Tables, Ready}
 use Rattle.walk.specs.declared.Go.{Go}
-use Rattle.walk.specs.declared.Go.the-variants.{Fails, Stuck, Hit, Tries, Below}
+use Rattle.walk.specs.declared.Go.the-variants.{Fails, Stuck, Hit, Below}
 use Rattle.walk.proofs.Region.{instrOf-word}
 use Rattle.walk.proofs.Places.{place-none, place-some, placed-get, state-put, state-push, few-words}
 

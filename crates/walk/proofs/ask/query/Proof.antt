@@ -1,5 +1,5 @@
 -- `query` meets its contract: the tests of the definition in order, then the walk.
-use mathlib.Core.Path.{refl, sym, _∙_}
+use mathlib.Core.Path.{sym, _∙_}
 use native.Mathlib.Omega.{arith}
 use Rattle.walk.proofs.Asking.{query-short, query-long, query-fault, query-witness, query-header, query-walk}
 use borrow.Author.Needs.{needs}

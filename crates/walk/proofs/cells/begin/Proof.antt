@@ -1,5 +1,4 @@
-use Rattle.walk.proofs.Places.{begun-first, begun-other, few-literals, start-small}
-use mathlib.Core.Path.{refl}
+use Rattle.walk.proofs.Places.{begun-first, begun-other, few-literals}
 -- `begin` meets its contract.
 use native.Mathlib.Omega.{arith}
 use borrow.Author.Needs.{needs}

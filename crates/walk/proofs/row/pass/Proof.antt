@@ -1,7 +1,6 @@
 -- `pass` meets its contract. The loop's invariant: only Checks that fail stand between the place where it began and the present one.
 use Prim.Native.Nat.{_≤_, _-_}
 use mathlib.Core.Path.{_≡_, refl}
-use native.Mathlib.Omega.{arith}
 use borrow.Author.Needs.{needs}
 use lib.ListN.{length}
 use Rattle.walk.specs.Cells.{Passed}

@@ -2,10 +2,9 @@
 use borrow.Author.Tests.{not-true, not-false}
 use mathlib.Core.Path.{refl, sym, _∙_}
 -- `meet` meets its contract.
-use mathlib.Core.Path.{refl, sym, ap, _∙_}
+use mathlib.Core.Path.{refl, sym, _∙_}
 -- `meet` meets its contract.
-use native.Mathlib.Omega.{arith}
-use mathlib.Core.Path.{sym, ap, _∙_}
+use mathlib.Core.Path.{sym, _∙_}
 use Rattle.walk.specs.Cells.{metOf}
 use Rattle.walk.proofs.Visits.{stays, early, met-unfit, met-word, met-first, met-ninth, chosen-length, head-none}
 use borrow.Author.Needs.{needs}

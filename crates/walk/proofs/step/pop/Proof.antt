@@ -1,5 +1,4 @@
 -- `pop` meets its contract.
-use native.Mathlib.Omega.{arith}
 use Rattle.walk.proofs.Visits.{stays, over, pop-visit}
 use borrow.Author.Needs.{needs}
 use Rattle.walk.proofs.step.pop.Statement.{statement}

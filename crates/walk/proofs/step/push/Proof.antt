@@ -1,5 +1,4 @@
 -- `push` meets its contract.
-use native.Mathlib.Omega.{arith}
 use Rattle.walk.proofs.Visits.{stays, over, push-none, push-visit}
 use borrow.Author.Needs.{needs}
 use Rattle.walk.proofs.step.push.Statement.{statement}

@@ -1,5 +1,4 @@
 -- `put` meets its contract.
-use native.Mathlib.Omega.{arith}
 use Rattle.walk.proofs.Visits.{stays, over, put-visit}
 use borrow.Author.Needs.{needs}
 use Rattle.walk.proofs.step.put.Statement.{statement}

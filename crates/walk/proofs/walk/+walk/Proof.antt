@@ -8,18 +8,17 @@ use mathlib.Core.List.{List, [], _∷_}
 use Prim.Native.Nat.{ℕ, _+_, _-_, _≤_, _<_}
 use native.Mathlib.Omega.{arith}
 use types.Run.{miss}
-use lib.ListN.{length, getD, take, drop, length-take, length-drop}
+use lib.ListN.{length, getD, length-take, length-drop}
 use borrow.Author.Needs.{needs}
 use borrow.Fn.Kinds.{In}
 use borrow.Fn.PlainCycle.{Measures, is, falls, and}
-use Rattle.walk.specs.Walk.{Answer, andThen, upTo}
+use Rattle.walk.specs.Walk.{andThen, upTo}
 use Rattle.walk.specs.Words.{walkWords}
 use Rattle.walk.specs.Query.{machine}
 use Rattle.walk.specs.Cells.{stateOf, entered, passesOf, candidate, Ready}
-use Rattle.walk.proofs.Passes.{runs, runs-whole, runs-end, runs-spent, then-on, then-ends, then-broken, then-covered, then-found, walked-missed, walked-spent, walked-broken, walked-found, walked-same}
+use Rattle.walk.proofs.Passes.{runs, runs-whole, runs-end, runs-spent, then-on, then-broken, then-covered, then-found, walked-missed, walked-spent, walked-broken, walked-found, walked-same}
 use Rattle.walk.proofs.Places.{candidate-size, candidate-count, dropped-candidate}
 use Rattle.walk.specs.declared.End.the-variants.{Missed}
-use Rattle.machine.specs.Machine.{State}
 use Rattle.walk.proofs.Walking.{Walking, walking-start, walking-end, begun-ready, pass-literal, turn, stored-size, stored-small, node-stuck, node-hit, node-ends, fits-fails, fits-below, fits-tries, visit-below, visit-tries, node-fails, node-last, node-missed}
 use Rattle.walk.proofs.Visits.{chosen-length}
 use Rattle.walk.proofs.walk.walk.Reads as walk
@@ -184,13 +183,13 @@ walk-enum-told-3 : (t : ℕ) → walk-lts.Need-enum-told-3 (rs t) (walk-at t) wa
 walk-enum-told-3 t c = search needs
 
 walk-pass-requires-2 : (t : ℕ) → walk-lts.Need-pass-requires-2 (rs t) (walk-at t) walk.Post walk-Inv-loop walk-μ-loop walk-Inv-tries walk-μ-tries
-walk-pass-requires-2 t c κs = fits-fails (c .before .before .before .before .before .before .before .before .before .before .before .before .before .before .before .before .before .before .before .before .args .query .now) (c .before .before .before .before .before .before .before .before .before .before .before .before .before .before .before .before .before .before .before .before .args .tables .now) (c .before .before .before .before .before .before .before .before .before .before .before .before .before .before .before .before .before .before .before .before .args .words .now) (c .before .before .before .before .before .before .before .before .before .before .before .before .before .before .before .before .before .before .before .before .args .budget) _ _ _ _ _ _ _ _ _ (c .before .before .before .before .before .before .before .loop .inv) (c .before .before .before .before .before .before .loop-test .taken) _ (c .before .before .extent .ensures) _ _ (c .before .before .before .meet .ensures) (c .enum-told3 .given .1) .1
+walk-pass-requires-2 t c κs = fits-fails (c .before .before .before .before .before .before .before .loop .inv) (c .before .before .before .before .before .before .loop-test .taken) (c .before .before .extent .ensures) (c .before .before .before .meet .ensures) (c .enum-told3 .given .1) .1
 
 walk-loop-less : (t : ℕ) → walk-lts.Need-loop-less (rs t) (walk-at t) walk.Post walk-Inv-loop walk-μ-loop walk-Inv-tries walk-μ-tries
-walk-loop-less t c = let f = fits-fails (c .before .before .before .before .before .before .before .before .before .before .before .before .before .before .before .before .before .before .before .before .before .args .query .now) (c .before .before .before .before .before .before .before .before .before .before .before .before .before .before .before .before .before .before .before .before .before .args .tables .now) (c .before .before .before .before .before .before .before .before .before .before .before .before .before .before .before .before .before .before .before .before .before .args .words .now) (c .before .before .before .before .before .before .before .before .before .before .before .before .before .before .before .before .before .before .before .before .before .args .budget) _ _ _ _ _ _ _ _ _ (c .before .before .before .before .before .before .before .before .loop .inv) (c .before .before .before .before .before .before .before .loop-test .taken) _ (c .before .before .before .extent .ensures) _ _ (c .before .before .before .before .meet .ensures) (c .before .enum-told3 .given .1) in let p = c .pass2 .ensures .further in omega arith
+walk-loop-less t c = let f = fits-fails (c .before .before .before .before .before .before .before .before .loop .inv) (c .before .before .before .before .before .before .before .loop-test .taken) (c .before .before .before .extent .ensures) (c .before .before .before .before .meet .ensures) (c .before .enum-told3 .given .1) in let p = c .pass2 .ensures .further in omega arith
 
 walk-loop-again : (t : ℕ) → walk-lts.Need-loop-again (rs t) (walk-at t) walk.Post walk-Inv-loop walk-μ-loop walk-Inv-tries walk-μ-tries
-walk-loop-again t c = node-fails (c .before .before .before .before .before .before .before .before .before .before .before .before .before .before .before .before .before .before .before .before .before .args .query .now) (c .before .before .before .before .before .before .before .before .before .before .before .before .before .before .before .before .before .before .before .before .before .args .tables .now) (c .before .before .before .before .before .before .before .before .before .before .before .before .before .before .before .before .before .before .before .before .before .args .words .now) (c .before .before .before .before .before .before .before .before .before .before .before .before .before .before .before .before .before .before .before .before .before .args .budget) _ _ _ _ _ _ _ _ _ (c .before .before .before .before .before .before .before .before .loop .inv) (c .before .before .before .before .before .before .before .loop-test .taken) _ (c .before .before .before .extent .ensures) _ _ (c .before .before .before .before .meet .ensures) (c .before .enum-told3 .given .1) (c .pass2 .ensures)
+walk-loop-again t c = node-fails (c .before .before .before .before .before .before .before .before .loop .inv) (c .before .before .before .before .before .before .before .loop-test .taken) (c .before .before .before .extent .ensures) (c .before .before .before .before .meet .ensures) (c .before .enum-told3 .given .1) (c .pass2 .ensures)
 
 walk-enum-told-4 : (t : ℕ) → walk-lts.Need-enum-told-4 (rs t) (walk-at t) walk.Post walk-Inv-loop walk-μ-loop walk-Inv-tries walk-μ-tries
 walk-enum-told-4 t c = search needs
@@ -211,7 +210,7 @@ walk-loop-less-2 : (t : ℕ) → walk-lts.Need-loop-less-2 (rs t) (walk-at t) wa
 walk-loop-less-2 t c = let p = c .pass3 .ensures .further in omega arith
 
 walk-loop-again-2 : (t : ℕ) → walk-lts.Need-loop-again-2 (rs t) (walk-at t) walk.Post walk-Inv-loop walk-μ-loop walk-Inv-tries walk-μ-tries
-walk-loop-again-2 t c = node-last (c .before .before .before .before .before .before .before .before .before .before .before .before .before .before .before .before .before .before .before .before .before .before .before .before .before .args .query .now) (c .before .before .before .before .before .before .before .before .before .before .before .before .before .before .before .before .before .before .before .before .before .before .before .before .before .args .tables .now) (c .before .before .before .before .before .before .before .before .before .before .before .before .before .before .before .before .before .before .before .before .before .before .before .before .before .args .words .now) (c .before .before .before .before .before .before .before .before .before .before .before .before .before .before .before .before .before .before .before .before .before .before .before .before .before .args .budget) _ _ _ _ _ _ _ _ _ (c .before .before .before .before .before .before .before .before .before .before .before .before .loop .inv) (c .before .before .before .before .before .before .before .before .before .before .before .loop-test .taken) _ (c .before .before .before .before .before .before .before .extent .ensures) _ _ (c .before .before .before .before .before .before .before .before .meet .ensures) (c .before .before .before .before .before .enum-told5 .given .1) (c .before .before .before .before .if4 .taken) (c .before .before .before .if5 .taken) (c .before .before .trace .ensures) _ (c .before .wanted2 .ensures) (c .pass3 .ensures)
+walk-loop-again-2 t c = node-last (c .before .before .before .before .before .before .before .before .before .before .before .before .loop .inv) (c .before .before .before .before .before .before .before .before .before .before .before .loop-test .taken) (c .before .before .before .before .before .before .before .extent .ensures) (c .before .before .before .before .before .before .before .before .meet .ensures) (c .before .before .before .before .before .enum-told5 .given .1) (c .before .before .before .before .if4 .taken) (c .before .before .before .if5 .taken) (c .before .before .trace .ensures) _ (c .before .wanted2 .ensures) (c .pass3 .ensures)
 
 -- the kind of a call: the candidates of a First, or below any other word
 kind : (t : ℕ) (c : walk-lts.At-match-came (rs t) (walk-at t) walk.Post walk-Inv-loop walk-μ-loop walk-Inv-tries walk-μ-tries)
@@ -221,7 +220,7 @@ kind t c = ⊎-elim (λ w. inl (w .1 .given .1, w .2)) (⊎-elim (λ w. inr (w .
 -- its words lie in the row
 called : (t : ℕ) (c : walk-lts.At-match-came (rs t) (walk-at t) walk.Post walk-Inv-loop walk-μ-loop walk-Inv-tries walk-μ-tries)
     → (1 ≤ c .before .extent .result) × (c .before .before .before .before .before .before .loop .at + c .before .extent .result ≤ length (c .before .before .before .before .before .before .before .before .before .before .before .before .before .before .before .before .before .before .before .args .words .now))
-called t c = ⊎-elim (λ k. fits-tries (c .before .before .before .before .before .before .before .before .before .before .before .before .before .before .before .before .before .before .before .args .query .now) (c .before .before .before .before .before .before .before .before .before .before .before .before .before .before .before .before .before .before .before .args .tables .now) (c .before .before .before .before .before .before .before .before .before .before .before .before .before .before .before .before .before .before .before .args .words .now) (c .before .before .before .before .before .before .before .before .before .before .before .before .before .before .before .before .before .before .before .args .budget) _ _ _ _ _ _ _ _ _ (c .before .before .before .before .before .before .loop .inv) (c .before .before .before .before .before .loop-test .taken) _ (c .before .extent .ensures) _ _ (c .before .before .meet .ensures) (k .0)) (λ k. fits-below (c .before .before .before .before .before .before .before .before .before .before .before .before .before .before .before .before .before .before .before .args .query .now) (c .before .before .before .before .before .before .before .before .before .before .before .before .before .before .before .before .before .before .before .args .tables .now) (c .before .before .before .before .before .before .before .before .before .before .before .before .before .before .before .before .before .before .before .args .words .now) (c .before .before .before .before .before .before .before .before .before .before .before .before .before .before .before .before .before .before .before .args .budget) _ _ _ _ _ _ _ _ _ (c .before .before .before .before .before .before .loop .inv) (c .before .before .before .before .before .loop-test .taken) _ (c .before .extent .ensures) _ _ (c .before .before .meet .ensures) (k .0)) (kind t c)
+called t c = ⊎-elim (λ k. fits-tries (c .before .before .before .before .before .before .loop .inv) (c .before .before .before .before .before .loop-test .taken) (c .before .extent .ensures) (c .before .before .meet .ensures) (k .0)) (λ k. fits-below (c .before .before .before .before .before .before .loop .inv) (c .before .before .before .before .before .loop-test .taken) (c .before .extent .ensures) (c .before .before .meet .ensures) (k .0)) (kind t c)
 
 -- its state is ready
 called-ready : (t : ℕ) (c : walk-lts.At-match-came (rs t) (walk-at t) walk.Post walk-Inv-loop walk-μ-loop walk-Inv-tries walk-μ-tries)
@@ -263,7 +262,7 @@ walk-loop-less-3 : (t : ℕ) → walk-lts.Need-loop-less-3 (rs t) (walk-at t) wa
 walk-loop-less-3 t c = let f = called t (c .before .before .before .before .before .before .before .before) in let p = c .pass4 .ensures .further in omega arith
 
 walk-loop-again-3 : (t : ℕ) → walk-lts.Need-loop-again-3 (rs t) (walk-at t) walk.Post walk-Inv-loop walk-μ-loop walk-Inv-tries walk-μ-tries
-walk-loop-again-3 t c = node-missed (c .before .before .before .before .before .before .before .before .before .before .before .before .before .before .before .before .before .before .before .before .before .before .before .before .before .before .before .args .query .now) (c .before .before .before .before .before .before .before .before .before .before .before .before .before .before .before .before .before .before .before .before .before .before .before .before .before .before .before .args .tables .now) (c .before .before .before .before .before .before .before .before .before .before .before .before .before .before .before .before .before .before .before .before .before .before .before .before .before .before .before .args .words .now) (c .before .before .before .before .before .before .before .before .before .before .before .before .before .before .before .before .before .before .before .before .before .before .before .before .before .before .before .args .budget) _ _ _ _ _ _ _ _ _ (c .before .before .before .before .before .before .before .before .before .before .before .before .before .before .loop .inv) (c .before .before .before .before .before .before .before .before .before .before .before .before .before .loop-test .taken) _ (c .before .before .before .before .before .before .before .before .before .extent .ensures) _ _ (c .before .before .before .before .before .before .before .before .before .before .meet .ensures) _ (kind t (c .before .before .before .before .before .before .before .before)) _ _ (c .before .before .before .before .before .walk .ensures) (c .before .before .before .enum-told6 .given .1) (c .pass4 .ensures) (c .before .restore .ensures)
+walk-loop-again-3 t c = node-missed (c .before .before .before .before .before .before .before .before .before .before .before .before .before .before .loop .inv) (c .before .before .before .before .before .before .before .before .before .before .before .before .before .loop-test .taken) (c .before .before .before .before .before .before .before .before .before .extent .ensures) (c .before .before .before .before .before .before .before .before .before .before .meet .ensures) (kind t (c .before .before .before .before .before .before .before .before)) (c .before .before .before .before .before .walk .ensures) (c .before .before .before .enum-told6 .given .1) (c .pass4 .ensures) (c .before .restore .ensures)
 
 walk-unwind-requires : (t : ℕ) → walk-lts.Need-unwind-requires (rs t) (walk-at t) walk.Post walk-Inv-loop walk-μ-loop walk-Inv-tries walk-μ-tries
 walk-unwind-requires t c κs = c .before .before .loop .inv .ready .size
@@ -304,16 +303,16 @@ walk-returns-2 t c = let a = c .before .before .before .before .before .before .
     walked-spent _ (i .2 ∙ runs-spent (a .query .now) (a .budget) _ _ (rw (chosen-length _ _ _ _ (p .0)) (p .1 (c .before .if2 .taken))) (c .before .if2 .taken) _ _ _ (c .before .before .if1 .left) (c .if3 .taken)) (ap (λ (l : List ℕ). length l) (i .1))
 
 walk-returns-3 : (t : ℕ) → walk-lts.Need-returns-3 (rs t) (walk-at t) walk.Post walk-Inv-loop walk-μ-loop walk-Inv-tries walk-μ-tries
-walk-returns-3 t c = walked-broken _ (next-turn t (c .before .before .before .before .before .before .before .before .before .before) ∙ then-broken _ (node-stuck (c .before .before .before .before .before .before .before .before .before .before .before .before .before .before .before .before .before .before .before .before .args .query .now) (c .before .before .before .before .before .before .before .before .before .before .before .before .before .before .before .before .before .before .before .before .args .tables .now) (c .before .before .before .before .before .before .before .before .before .before .before .before .before .before .before .before .before .before .before .before .args .words .now) (c .before .before .before .before .before .before .before .before .before .before .before .before .before .before .before .before .before .before .before .before .args .budget) _ _ _ _ _ _ _ _ _ (c .before .before .before .before .before .before .before .loop .inv) (c .before .before .before .before .before .before .loop-test .taken) _ (c .before .before .extent .ensures) _ _ (c .before .before .before .meet .ensures) (c .enum-told .given .1))) (stored-size (c .before .before .before .meet .ensures .stored) ∙ c .before .before .before .before .before .before .before .loop .inv .ready .size ∙ sym (c .before .before .before .before .before .before .before .before .before .before .before .before .before .before .before .before .before .before .before .before .pre .1 .0 .size))
+walk-returns-3 t c = walked-broken _ (next-turn t (c .before .before .before .before .before .before .before .before .before .before) ∙ then-broken _ (node-stuck (c .before .before .before .before .before .before .before .loop .inv) (c .before .before .before .before .before .before .loop-test .taken) (c .before .before .extent .ensures) (c .before .before .before .meet .ensures) (c .enum-told .given .1))) (stored-size (c .before .before .before .meet .ensures .stored) ∙ c .before .before .before .before .before .before .before .loop .inv .ready .size ∙ sym (c .before .before .before .before .before .before .before .before .before .before .before .before .before .before .before .before .before .before .before .before .pre .1 .0 .size))
 
 walk-returns-4 : (t : ℕ) → walk-lts.Need-returns-4 (rs t) (walk-at t) walk.Post walk-Inv-loop walk-μ-loop walk-Inv-tries walk-μ-tries
-walk-returns-4 t c = walked-found (c .before .before .before .before .meet .result .head) (c .operand .ensures) (next-turn t (c .before .before .before .before .before .before .before .before .before .before .before) ∙ then-covered _ (node-hit (c .before .before .before .before .before .before .before .before .before .before .before .before .before .before .before .before .before .before .before .before .before .args .query .now) (c .before .before .before .before .before .before .before .before .before .before .before .before .before .before .before .before .before .before .before .before .before .args .tables .now) (c .before .before .before .before .before .before .before .before .before .before .before .before .before .before .before .before .before .before .before .before .before .args .words .now) (c .before .before .before .before .before .before .before .before .before .before .before .before .before .before .before .before .before .before .before .before .before .args .budget) _ _ _ _ _ _ _ _ _ (c .before .before .before .before .before .before .before .before .loop .inv) (c .before .before .before .before .before .before .before .loop-test .taken) _ (c .before .before .before .extent .ensures) _ _ (c .before .before .before .before .meet .ensures) (c .before .enum-told2 .given .1))) (stored-size (c .before .before .before .before .meet .ensures .stored) ∙ c .before .before .before .before .before .before .before .before .loop .inv .ready .size ∙ sym (c .before .before .before .before .before .before .before .before .before .before .before .before .before .before .before .before .before .before .before .before .before .pre .1 .0 .size))
+walk-returns-4 t c = walked-found (c .before .before .before .before .meet .result .head) (c .operand .ensures) (next-turn t (c .before .before .before .before .before .before .before .before .before .before .before) ∙ then-covered _ (node-hit (c .before .before .before .before .before .before .before .before .loop .inv) (c .before .before .before .before .before .before .before .loop-test .taken) (c .before .before .before .extent .ensures) (c .before .before .before .before .meet .ensures) (c .before .enum-told2 .given .1))) (stored-size (c .before .before .before .before .meet .ensures .stored) ∙ c .before .before .before .before .before .before .before .before .loop .inv .ready .size ∙ sym (c .before .before .before .before .before .before .before .before .before .before .before .before .before .before .before .before .before .before .before .before .before .pre .1 .0 .size))
 
 walk-returns-5 : (t : ℕ) → walk-lts.Need-returns-5 (rs t) (walk-at t) walk.Post walk-Inv-loop walk-μ-loop walk-Inv-tries walk-μ-tries
 walk-returns-5 t c = let h = c .match2 .keys2 in
     let w = c .before .walk .ensures in
     let nm : (c .before .walk .result .end ≡ Missed → ⊥) = λ m. miss (1 ∷ 2 ∷ 3 ∷ []) 0 tt (rw m at h) in
-    walked-same nm (next-turn t (c .before .before .before .before .before .before .before .before .before .before .before .before .before) ∙ then-found _ nm (node-ends (c .before .before .before .before .before .before .before .before .before .before .before .before .before .before .before .before .before .before .before .before .before .before .before .args .query .now) (c .before .before .before .before .before .before .before .before .before .before .before .before .before .before .before .before .before .before .before .before .before .before .before .args .tables .now) (c .before .before .before .before .before .before .before .before .before .before .before .before .before .before .before .before .before .before .before .before .before .before .before .args .words .now) (c .before .before .before .before .before .before .before .before .before .before .before .before .before .before .before .before .before .before .before .before .before .before .before .args .budget) _ _ _ _ _ _ _ _ _ (c .before .before .before .before .before .before .before .before .before .before .loop .inv) (c .before .before .before .before .before .before .before .before .before .loop-test .taken) _ (c .before .before .before .before .before .extent .ensures) _ _ (c .before .before .before .before .before .before .meet .ensures) _ (kind t (c .before .before .before .before)) _ _ (c .before .walk .ensures) nm) w) w (stored-size (c .before .before .before .before .before .before .meet .ensures .stored) ∙ c .before .before .before .before .before .before .before .before .before .before .loop .inv .ready .size ∙ sym (c .before .before .before .before .before .before .before .before .before .before .before .before .before .before .before .before .before .before .before .before .before .before .before .pre .1 .0 .size))
+    walked-same nm (next-turn t (c .before .before .before .before .before .before .before .before .before .before .before .before .before) ∙ then-found _ nm (node-ends (c .before .before .before .before .before .before .before .before .before .before .loop .inv) (c .before .before .before .before .before .before .before .before .before .loop-test .taken) (c .before .before .before .before .before .extent .ensures) (c .before .before .before .before .before .before .meet .ensures) (kind t (c .before .before .before .before)) (c .before .walk .ensures) nm) w) w (stored-size (c .before .before .before .before .before .before .meet .ensures .stored) ∙ c .before .before .before .before .before .before .before .before .before .before .loop .inv .ready .size ∙ sym (c .before .before .before .before .before .before .before .before .before .before .before .before .before .before .before .before .before .before .before .before .before .before .before .pre .1 .0 .size))
 
 pub +walk-spec : {M : Type 1} → statement M
 +walk-spec = close μ-walk λ t. walk-lts.spec (rs t)
