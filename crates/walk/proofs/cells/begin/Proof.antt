@@ -31,8 +31,10 @@ wide-requires c κs = search needs
 
 returns : tie.Need-returns
 returns c =
-    let p = c .before .before .before .before .before .pre in
-    let t = c .before .before .before .if1 .taken in
+    let c3 = c .before .before .before in
+    let c5 = c3 .before .before in
+    let p = c5 .pre in
+    let t = c3 .if1 .taken in
     begun-first _ _ _ _ (p .0) _ t (p .1 t .0) (p .1 t .1) _ (c .wide .ensures .0)
 
 returns-2 : tie.Need-returns-2
