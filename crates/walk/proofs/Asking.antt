@@ -1,10 +1,9 @@
 -- The query by the tests of the code, and its walk from the state before the first candidate.
-use Prim.Native.Nat.{ℕ, zero, suc, _+_, _-_, _/_, _^_, _≤_, _<_}
-use mathlib.Core.Path.{_≡_, refl, sym, ap, _∙_}
-use mathlib.Core.Bool.{Bool, true, false, cond}
+use Prim.Native.Nat.{ℕ, _+_, _-_, _≤_, _<_}
+use mathlib.Core.Path.{_≡_, refl, sym, _∙_}
+use mathlib.Core.Bool.{false}
 use mathlib.Core.List.{List, [], _∷_}
 use native.Mathlib.Omega.{arith}
-use lib.Dec.{leb, ltb}
 use lib.ListN.{length, getD, take, drop, set, replicate}
 use borrow.Author.Tests.{le-leb, lt-leb, lt-ltb, le-ltb}
 use Rattle.clause.specs.Clause.{Accepted, shape}
@@ -14,11 +13,11 @@ use Rattle.clause.specs.declared.Shape.the-variants.{Faulty, Whole}
 use Rattle.machine.specs.Machine.{State, initial, unfilled}
 use Rattle.machine.proofs.Safe.{initial-safe}
 use Rattle.tree.specs.declared.Refusal.{Refusal}
-use Rattle.tree.specs.declared.Refusal.the-variants.{BadSlice, Broken, BadClause, ShortWitness}
+use Rattle.tree.specs.declared.Refusal.the-variants.{BadSlice, Broken, ShortWitness}
 use Rattle.tree.specs.Laid.{usedOf, region}
 use Rattle.walk.specs.Walk.{Answer, covered, notCovered, spent, broken, upTo}
 use Rattle.walk.specs.Words.{walkWords}
-use Rattle.walk.specs.Query.{machine, Asked, unanswered, told, walkSlice, queryAs, query}
+use Rattle.walk.specs.Query.{machine, unanswered, told, walkSlice, queryAs, query}
 use Rattle.walk.specs.Cells.{placeOf, placed, stateOf, Tables, Ready, entered, seen, toldOut, refusalOf}
 
 -- the cells before the first candidate

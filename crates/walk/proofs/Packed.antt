@@ -1,10 +1,10 @@
 -- The tables of a clause, laid one after another, are those that the walk reads.
 use Prim.Native.Nat.{ℕ, _+_, _≤_, _<_}
-use mathlib.Core.Path.{_≡_, refl, sym, ap, _∙_}
+use mathlib.Core.Path.{_≡_, ap, _∙_}
 use mathlib.Core.List.{List, []}
 use native.Mathlib.Omega.{arith}
 use native.Mathlib.Nat.{zero-add}
-use lib.ListN.{length, getD, take, set, replicate, length-replicate}
+use lib.ListN.{length, getD, set}
 use lib.Seq.{getD-set-same, getD-set-other, take-all}
 use Rattle.clause.specs.Clause.{Accepted, literals, maxWords, maxLiterals, starts}
 use Rattle.clause.specs.Positions.{ends, siblings}

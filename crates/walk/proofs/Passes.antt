@@ -1,18 +1,17 @@
 -- The passes over the words below a node: one from each candidate of a First, or one from the state itself.
 use Prim.Native.Nat.{ℕ, zero, suc, _+_, _-_, _≤_, _<_}
-use mathlib.Core.Path.{_≡_, refl, sym, ap, _∙_}
+use mathlib.Core.Path.{_≡_, refl, _∙_}
 use mathlib.Core.Bool.{Bool, true, false}
 use mathlib.Core.List.{List}
 use native.Mathlib.Omega.{arith}
 use native.Mathlib.Numerals.{add-one}
-use lib.Dec.{leb}
 use lib.ListN.{length}
 use borrow.Author.Tests.{le-leb, lt-leb, lt-ltb}
-use Rattle.clause.specs.Clause.{literals, maxLiterals}
+use Rattle.clause.specs.Clause.{literals}
 use Rattle.machine.specs.Machine.{State, enter, require}
 use Rattle.walk.specs.Walk.{Answer, covered, notCovered, spent, broken, Part, andThen, tries, upTo}
 use Rattle.walk.specs.Query.{machine, shown}
-use Rattle.walk.specs.Cells.{entered, passesOf, startAt, Out, missed, found, exhausted, damaged, seen, outBy, stateOf, Walked}
+use Rattle.walk.specs.Cells.{entered, passesOf, startAt, missed, seen, outBy, stateOf, Walked}
 use Rattle.walk.specs.declared.Finding.{Finding}
 use Rattle.walk.specs.declared.End.{End}
 use Rattle.walk.specs.declared.End.the-variants.{Missed, Found, Broken, Spent}

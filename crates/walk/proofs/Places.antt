@@ -1,21 +1,20 @@
 -- The state in the cells: what a store changes in it, and what a cell says.
 use Prim.Native.Nat.{ℕ, zero, suc, _+_, _-_, _*_, _/_, _%_, _^_, _≤_, _<_}
-use mathlib.Core.Path.{_≡_, refl, sym, ap, _∙_}
+use mathlib.Core.Path.{_≡_, refl, ap, _∙_}
 use mathlib.Core.Bool.{Bool, true, false, cond}
-use mathlib.Core.Option.{Option, none, some}
-use mathlib.Core.List.{List, [], _∷_, _++_, map}
+use mathlib.Core.Option.{none, some}
+use mathlib.Core.List.{List, [], _∷_, map}
 use native.Mathlib.Omega.{arith}
 use native.Mathlib.Numerals.{add-one}
 use lib.Dec.{eqb}
 use lib.ListN.{length, getD, take, drop, set, length-take, length-drop, length-set}
 use lib.Seq.{take-set-le, take-set-lt, drop-set-lt, drop-set-add, take-suc-set, getD-take, getD-drop, getD-set-same, getD-set-other, set-set, set-getD, set-comm}
 use borrow.Author.Tests.{eq-eqb, ne-eqb, eqb-true}
-use Rattle.clause.specs.Clause.{Accepted, literals, startOf}
+use Rattle.clause.specs.Clause.{literals, startOf}
 use Rattle.clause.proofs.Lists.{getD-map-lt}
 use Rattle.clause.proofs.Literals.{accepted}
-use Rattle.machine.specs.Machine.{State, slots, starting, headed, putting, pushing}
-use Rattle.machine.proofs.Safe.{Safe, start-in}
-use Rattle.walk.specs.Cells.{placeOf, placed, stateOf, restored, Stored, nothing, store, traced, unwound, candidate, dropped, startAt, Tables, Ready, Begun}
+use Rattle.machine.proofs.Safe.{start-in}
+use Rattle.walk.specs.Cells.{placeOf, placed, stateOf, restored, Stored, nothing, store, traced, unwound, candidate, dropped, startAt, Ready, Begun}
 
 pub place-none : {x : ℕ} → x ≡ 255 → placeOf x ≡ none
 unfolding placeOf

@@ -1,11 +1,11 @@
 -- The sum of powers and the ceiling's tests, in the terms of the code.
 use Prim.Native.Nat.{ℕ, zero, suc, _+_, _*_, _^_, _≤_, _<_}
-use mathlib.Core.Path.{_≡_, refl, sym, ap, _∙_}
+use mathlib.Core.Path.{_≡_, sym}
 use native.Mathlib.Omega.{arith}
-use native.Mathlib.Nat.{pow-suc, pow-le-pow-left, pow-le-pow-right, pow-zero, le-trans, mul-le-mul}
+use native.Mathlib.Nat.{pow-suc, pow-le-pow-left, pow-le-pow-right, le-trans, mul-le-mul}
 use native.Mathlib.Numerals.{add-one}
 use borrow.Author.Tests.{le-leb, lt-leb}
-use Rattle.walk.specs.Ceiling.{powers, ceiling, ceilingCall}
+use Rattle.walk.specs.Ceiling.{powers, ceilingCall}
 use Rattle.walk.specs.declared.CeilingAnswer.the-variants.{NoCeiling, Ceiling}
 use Rattle.tree.specs.declared.Refusal.the-variants.{BadSize}
 

@@ -1,5 +1,5 @@
 -- Writing a witness word by word, and laying tables.
-use Prim.Native.Nat.{ℕ, zero, suc, _+_, _-_, _*_, _^_, _≤_, _<_}
+use Prim.Native.Nat.{ℕ, zero, suc, _+_, _-_, _≤_, _<_}
 use mathlib.Core.Path.{_≡_, refl, sym, ap, _∙_}
 use mathlib.Core.Bool.{Bool, true, false, not, cond}
 use mathlib.Core.Option.{Option, none, some, Option·some-injective, Option·none-ne-some}
@@ -9,9 +9,8 @@ use native.Mathlib.Numerals.{add-one}
 use native.Mathlib.Decide.{ℕ-discrete, decLt}
 use lib.Dec.{ltb, eqb}
 use borrow.Author.Tests.{lt-ltb, le-ltb}
-use lib.ListN.{length, getD, take, drop, set, length-set, length-take, length-append, length-map}
+use lib.ListN.{length, getD, take, set, length-set, length-take, length-append, length-map}
 use lib.Seq.{getD-set-same, getD-set-other, getD-take, take-all}
-use Rattle.machine.specs.Machine.{State}
 use Rattle.walk.specs.Query.{shown, written}
 use Rattle.walk.specs.Cells.{placeOf, placed, stateOf, Laid}
 use Rattle.walk.proofs.Witnessed.{shown-front, shown-none, shown-position}

@@ -1,26 +1,27 @@
 -- What a visit does to the cells is what the definition's step does to the state.
 use Prim.Native.Nat.{ℕ, zero, suc, _+_, _-_, _*_, _/_, _%_, _^_, _≤_, _<_}
-use mathlib.Core.Path.{_≡_, refl, sym, ap, _∙_}
-use mathlib.Core.Bool.{Bool, true, false, cond}
+use mathlib.Core.Path.{_≡_, refl, sym, _∙_}
+use mathlib.Core.Bool.{true, false}
 use mathlib.Core.Option.{Option, none, some}
-use mathlib.Core.List.{List, [], _∷_, map}
+use mathlib.Core.List.{List}
 use native.Mathlib.Omega.{arith}
-use lib.Dec.{ltb, eqb}
-use lib.ListN.{length, getD, take, drop, set, length-drop}
+use lib.Dec.{eqb}
+use lib.ListN.{length, getD, take, drop, set}
 use lib.Seq.{length-take-le}
 use native.Mathlib.Decide.{ℕ-discrete}
 use borrow.Author.Tests.{lt-ltb, le-ltb, eq-eqb, ne-eqb}
 use Rattle.clause.specs.Word.{arity}
-use Rattle.clause.specs.Clause.{skip, term, termAt}
+use Rattle.clause.specs.Clause.{term, termAt}
 use Rattle.clause.specs.Positions.{jump, rights}
 use Rattle.clause.proofs.Literals.{accepted}
+use Rattle.clause.proofs.Ends.{jump-from, jump-le, term-part}
 use Rattle.clause.proofs.Siblings.{right-inside}
-use Rattle.machine.specs.Machine.{State, Outcome, slots, onto, down, right, next, fails, stuck, given, headed, putting, pushing, require, within, sameTerms, compareTerms, stepAt, stepFrom, step, finish, finishFrom}
+use Rattle.machine.specs.Machine.{State, Outcome, onto, down, right, next, fails, given, headed, putting, pushing, require, within, sameTerms, compareTerms, stepAt, stepFrom, step, finish, finishFrom}
 use Rattle.machine.specs.Instr.{Step, Down, Right, Put, Push, Pop, Check, Compare, Instr, First, Do, Success, instruction}
 use Rattle.walk.specs.Words.{extends}
-use Rattle.walk.specs.Cells.{placeOf, placed, stateOf, Met, bad, hit, firsts, stepped, reached, metAs, meeting, metOf, Stored, nothing, store, Visited, Tables, Ready}
+use Rattle.walk.specs.Cells.{placeOf, placed, stateOf, Met, bad, hit, firsts, stepped, reached, metAs, meeting, metOf, nothing, store, Visited, Tables, Ready}
 use Rattle.walk.specs.declared.Go.{Go}
-use Rattle.walk.specs.declared.Go.the-variants.{Fails, Stuck, Hit, Tries, Below}
+use Rattle.walk.specs.declared.Go.the-variants.{Fails, Stuck, Hit, Below}
 use Rattle.walk.proofs.Region.{instrOf-word}
 use Rattle.walk.proofs.Places.{place-none, place-some, placed-get, state-put, state-push, few-words}
 
@@ -112,25 +113,16 @@ unfolding metOf stepped require
 check-other s a b n = rw (ne-eqb a b n)
 
 -- Compare
-skip-within : (k : ℕ) (ws : List ℕ) → skip k ws ≤ length ws
-unfolding skip
-skip-within k [] = omega arith
-skip-within zero (w ∷ ws) = omega arith
-skip-within (suc k) (w ∷ ws) = let h = skip-within (arity w + k) ws in omega arith
-
 -- the part that a term is
 module _ (d t : List ℕ) (T : Tables d t) (p : ℕ) (h : p < length d) {e : ℕ} (f : e ≡ getD t (8 + p) 0) where
   pub part-start : p ≤ e
-  unfolding jump
-  part-start = rw (f, T .ends p h) (omega arith)
+  part-start = rw (f, T .ends p h) (jump-from d 1 p)
 
   pub part-end : e ≤ length d
-  unfolding jump
-  part-end = let s : skip 1 (drop p d) ≤ length d - p = simp length-drop at (skip-within 1 (drop p d)) in rw (f, T .ends p h) (omega arith)
+  part-end = rw (f, T .ends p h) (jump-le d 1 p (omega arith))
 
   pub part-term : take (e - p) (drop p d) ≡ termAt d p
-  unfolding jump term
-  part-term = let n : e - p ≡ skip 1 (drop p d) = rw (f, T .ends p h) (omega arith) in rw n
+  part-term = rw (f, T .ends p h) (term-part d p)
 
 module _ (d t : List ℕ) (h : ℕ) (l : List ℕ) (R : Ready d t h l) (m k : ℕ) where
   pub compare-over-m : 64 ≤ m → metOf Stuck (stateOf h l) ≡ stepped (stepAt d (Compare m k) (stateOf h l) h)

@@ -1,5 +1,5 @@
 -- The walk along a row: what holds at each word that the loop over siblings meets.
-use Prim.Native.Nat.{ℕ, zero, suc, _+_, _-_, _*_, _/_, _%_, _^_, _≤_, _<_}
+use Prim.Native.Nat.{ℕ, suc, _+_, _-_, _/_, _%_, _^_, _≤_, _<_}
 use mathlib.Core.Path.{_≡_, refl, sym, ap, _∙_}
 use mathlib.Core.Logic.{_⊎_, ⊎-elim}
 use mathlib.Core.Bool.{Bool, true, false, cond}
@@ -8,7 +8,7 @@ use mathlib.Core.List.{List}
 use native.Mathlib.Omega.{arith}
 use native.Mathlib.Decide.{decLt}
 use lib.Dec.{ltb}
-use lib.ListN.{length, getD, take, drop, set, length-set, length-drop}
+use lib.ListN.{length, getD, take, drop, length-set, length-drop}
 use lib.Seq.{getD-set-other, take-all}
 use borrow.Author.Tests.{lt-ltb, le-ltb, ltb-true}
 use Rattle.clause.specs.Clause.{literals, maxLiterals}
@@ -17,18 +17,18 @@ use Rattle.machine.specs.Instr.{Instr, First, Do, Success, instrOf}
 use Rattle.machine.specs.Machine.{State, Outcome, next, fails, stuck, step, finish}
 use Rattle.machine.proofs.Safe.{Safe, step-safe, starting-safe}
 use Rattle.tree.specs.Laid.{keyOf, extentOf}
-use Rattle.walk.specs.Walk.{Answer, covered, notCovered, broken, Part, andThen, upTo}
+use Rattle.walk.specs.Walk.{covered, notCovered, broken, Part, andThen, upTo}
 use Rattle.walk.specs.Words.{extends, walkWords}
-use Rattle.walk.specs.Query.{machine, shown}
-use Rattle.walk.specs.Cells.{placeOf, stateOf, Ready, Met, past, bad, hit, firsts, below, stepped, reached, metAs, meeting, metOf, Stored, nothing, store, Visited, traced, unwound, restored, wantedAt, Passed, candidate, startAt, Begun, Walked, entered, passesOf, outBy, seen}
+use Rattle.walk.specs.Query.{machine}
+use Rattle.walk.specs.Cells.{stateOf, Ready, Met, past, bad, firsts, below, stepped, reached, metAs, meeting, metOf, Stored, nothing, store, Visited, traced, unwound, restored, wantedAt, Passed, startAt, Begun, Walked, entered, passesOf}
 use Rattle.walk.specs.declared.Go.{Go}
 use Rattle.walk.specs.declared.Go.the-variants.{Fails, Stuck, Hit, Tries, Below}
 use Rattle.walk.specs.declared.Visit.{Visit}
 use Rattle.walk.specs.declared.End.the-variants.{Missed}
 use Rattle.walk.specs.declared.Finding.{Finding}
 use Rattle.walk.proofs.Region.{then-nothing, extends-within}
-use Rattle.walk.proofs.Rows.{row-end, extends-some, goingOn, meets}
-use Rattle.walk.proofs.Places.{restored-stored, unwound-none, unwound-traced, candidate-size, candidate-count, few-literals}
+use Rattle.walk.proofs.Rows.{row-end, goingOn, meets}
+use Rattle.walk.proofs.Places.{restored-stored, unwound-none, unwound-traced, candidate-size, candidate-count}
 use Rattle.walk.proofs.Visits.{head-some, chosen-length}
 use Rattle.walk.proofs.Passes.{runs, runs-first, runs-plain, then-on, then-ends, missed-of}
 
@@ -205,8 +205,9 @@ pub walking-end : {d t words : List ℕ} {b : ℕ} {s : State} {n₀ : ℕ} {cel
 walking-end {d = d} {words = words} {b = b} {cells = cells} {n = n} {here = here} {at = at} W h = W .same ∙ row-end (machine d) (upTo b) words at (stateOf here cells) n h
 
 -- at a word: what the visit gives, then the words after it
-module _ (d t words : List ℕ) (b : ℕ) (s : State) (n₀ : ℕ) (cells₀ cells : List ℕ) (n here wanted trail at : ℕ) (W : Walking d t words b s n₀ cells₀ cells n here wanted trail at)
-    (h : at < length words) (x : ℕ) (e : x ≡ extentOf (getD words at 0)) (m : List ℕ) (v : Visit)
+module _
+    {d t words : List ℕ} {b : ℕ} {s : State} {n₀ : ℕ} {cells₀ cells : List ℕ} {n here wanted trail at : ℕ} (W : Walking d t words b s n₀ cells₀ cells n here wanted trail at)
+    (h : at < length words) {x : ℕ} (e : x ≡ extentOf (getD words at 0)) {m : List ℕ} {v : Visit}
     (met : Visited (meeting d (getD words at 0) (length words - at) (stateOf here cells)) cells m v) where
   abbrev part : State → Part State
   part = walkWords (machine d) (upTo b) (take (at + x - (at + 1)) (drop (at + 1) words))
@@ -263,7 +264,8 @@ module _ (d t words : List ℕ) (b : ℕ) (s : State) (n₀ : ℕ) (cells₀ cel
       record { inside = P .inside; ready = R; key = k; undo = u ∙ W .undo; same = f ∙ rw all (passing d t b (v .head) m R words (at + 1) key n k P) }
 
   -- a call on the words below: the candidates of a First, or below any other word
-  module _ (first : Bool) (kind : ((v .go ≡ Tries) × (first ≡ true)) ⊎ ((v .go ≡ Below) × (first ≡ false))) (out : List ℕ) (r : Finding)
+  module _
+      {first : Bool} (kind : ((v .go ≡ Tries) × (first ≡ true)) ⊎ ((v .go ≡ Below) × (first ≡ false))) {out : List ℕ} {r : Finding}
       (walked : Walked (entered d b first part (stateOf (v .head) m) n) m out r) where
     node-call : walkWords (machine d) (upTo b) words s n₀ ≡ andThen (entered d b first part (stateOf (v .head) m) n) rest
     unfolding metOf goingOn entered

@@ -75,7 +75,7 @@ pub fn begin(
         let slot = chosen as usize;
         cells[slot] = j as u8;
         cells[136] = chosen + 1;
-        tables[j] as usize
+        wide(tables[j])
     } else {
         head
     }

@@ -34,7 +34,12 @@ array-write-tables : tie.Need-array-write-tables
 array-write-tables c = search needs
 
 returns : tie.Need-returns
-returns c = packed _ (c .before .before .before .before .before .before .before .before .before .before .before .before .before .before .before .pre) _ (c .before .before .before .before .before .before .before .before .before .before .before .before .before .of .ensures) refl (c .before .before .before .before .before .before .before .lay .ensures) (c .before .before .before .before .lay2 .ensures) (c .before .lay3 .ensures)
+returns c =
+    let c4 = c .before .before .before .before in
+    let c7 = c4 .before .before .before in
+    let c13 = c7 .before .before .before .before .before .before in
+    let c15 = c13 .before .before in
+    packed _ (c15 .pre) _ (c13 .of .ensures) refl (c7 .lay .ensures) (c4 .lay2 .ensures) (c .before .lay3 .ensures)
 
 pub pack-spec : {M : Type 1} → statement M
 pack-spec =

@@ -1,13 +1,11 @@
 use Rattle.walk.proofs.Witnessed.{length-written}
 use mathlib.Core.Path.{_≡_, refl, ap, _∙_}
 use mathlib.Core.List.{List}
-use lib.ListN.{length, getD, take, length-set}
+use lib.ListN.{length, getD, take}
 use Rattle.walk.proofs.Showing.{shown-all, show-one, show-none}
 use mathlib.Core.Logic.{⊎-elim}
-use native.Mathlib.Numerals.{add-one}
 -- `show` meets its contract. The invariant: the first i words to show are written.
 use borrow.Author.Needs.{needs}
-use native.Mathlib.Omega.{arith}
 use Prim.Native.Nat.{ℕ, _+_, _≤_, _-_}
 use Rattle.walk.specs.Cells.{stateOf}
 use Rattle.walk.specs.Query.{shown, written}

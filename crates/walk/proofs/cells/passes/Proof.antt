@@ -1,6 +1,5 @@
 -- `passes` meets its contract.
 use borrow.Author.Needs.{needs}
-use mathlib.Core.Path.{_∙_}
 use Rattle.walk.specs.Cells.{passesOf}
 use Rattle.walk.proofs.cells.passes.Statement.{statement}
 use Rattle.walk.proofs.cells.passes.Tie as tie

@@ -22,7 +22,10 @@ restore-requires-4 c κs = (ap length (c .before .restore3 .ensures) ∙ restore
 
 returns : tie.Need-returns
 unfolding unwound
-returns c = c .restore4 .ensures ∙ rw (c .before .before .restore3 .ensures, c .before .before .before .before .restore2 .ensures, c .before .before .before .before .before .before .restore .ensures)
+returns c =
+    let c4 = c .before .before .before .before in
+    let c6 = c4 .before .before in
+    c .restore4 .ensures ∙ rw (c .before .before .restore3 .ensures, c4 .restore2 .ensures, c6 .restore .ensures)
 
 pub unwind-spec : {M : Type 1} → statement M
 unwind-spec =

@@ -1,6 +1,5 @@
 -- `fits` meets its contract: each answer is the test of the definition.
-use borrow.Author.Tests.{eq-eqb, ne-eqb}
-use mathlib.Core.Path.{sym, _∙_}
+use mathlib.Core.Path.{sym}
 use native.Mathlib.Omega.{arith}
 use Rattle.walk.proofs.Rows.{extends-zero, extends-long, extends-inner, extends-success}
 use borrow.Author.Needs.{needs}

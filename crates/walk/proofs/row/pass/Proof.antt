@@ -1,7 +1,6 @@
 -- `pass` meets its contract. The loop's invariant: only Checks that fail stand between the place where it began and the present one.
 use Prim.Native.Nat.{_≤_, _-_}
 use mathlib.Core.Path.{_≡_, refl}
-use native.Mathlib.Omega.{arith}
 use borrow.Author.Needs.{needs}
 use lib.ListN.{length}
 use Rattle.walk.specs.Cells.{Passed}
@@ -50,9 +49,12 @@ loop-less c = search needs
 
 loop-again : tie.Need-loop-again Inv-loop μ-loop
 loop-again c =
-    let b = c .before .before .before .before .before .before in
+    let c3 = c .before .before .before in
+    let c5 = c3 .before .before in
+    let c6 = c5 .before in
+    let b = c6 in
     let j = b .loop .inv in
-    let p = passed-more _ _ _ (b .loop .i) (j .1) (j .2) (c .before .before .before .before .before .loop-test .taken) (c .before .before .before .if2 .left) (c .before .before .if3 .left) _ refl (c .before .if4 .left) (c .if5 .left) in
+    let p = passed-more _ _ _ (b .loop .i) (j .1) (j .2) (c5 .loop-test .taken) (c3 .if2 .left) (c .before .before .if3 .left) _ refl (c .before .if4 .left) (c .if5 .left) in
     (p .inside, p, j .2)
 
 returns-6 : tie.Need-returns-6 Inv-loop μ-loop

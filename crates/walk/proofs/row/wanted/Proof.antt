@@ -1,6 +1,5 @@
 -- `wanted` meets its contract.
 use borrow.Author.Tests.{lt-ltb, le-ltb}
-use mathlib.Core.Path.{sym}
 use native.Mathlib.Omega.{arith}
 use Rattle.walk.specs.Cells.{wantedAt}
 use borrow.Author.Needs.{needs}

@@ -41,25 +41,41 @@ returns : tie.Need-returns
 returns c = let a = c .before .before .args in let p = c .before .before .pre in stays _ _ _ (act-success (a .query .now) (a .tables .now) (a .head) (a .cells .now) (p .0) (p .1) (a .op) (a .x) (c .match .keys1))
 
 returns-2 : tie.Need-returns-2
-returns-2 c = let a = c .before .before .before .before .args in let p = c .before .before .before .before .pre in rw (act-down (a .query .now) (a .tables .now) (a .head) (a .cells .now) (p .0) (p .1) (a .op) (a .x) (c .before .before .match .keys2), ← c .before .down .ensures) (c .moved .ensures (a .cells .now))
+returns-2 c =
+    let c4 = c .before .before .before .before in
+    let a = c4 .args in let p = c4 .pre in rw (act-down (a .query .now) (a .tables .now) (a .head) (a .cells .now) (p .0) (p .1) (a .op) (a .x) (c .before .before .match .keys2), ← c .before .down .ensures) (c .moved .ensures (a .cells .now))
 
 returns-3 : tie.Need-returns-3
-returns-3 c = let a = c .before .before .before .before .before .args in let p = c .before .before .before .before .before .pre in rw (act-right (a .query .now) (a .tables .now) (a .head) (a .cells .now) (p .0) (p .1) (a .op) (a .x) (c .before .before .before .match .keys3), ← c .before .right .ensures .0) (c .moved2 .ensures (a .cells .now))
+returns-3 c =
+    let c3 = c .before .before .before in
+    let c5 = c3 .before .before in
+    let a = c5 .args in let p = c5 .pre in rw (act-right (a .query .now) (a .tables .now) (a .head) (a .cells .now) (p .0) (p .1) (a .op) (a .x) (c3 .match .keys3), ← c .before .right .ensures .0) (c .moved2 .ensures (a .cells .now))
 
 returns-4 : tie.Need-returns-4
-returns-4 c = let a = c .before .before .before .before .args in let p = c .before .before .before .before .pre in rw (act-put (a .query .now) (a .tables .now) (a .head) (a .cells .now) (p .0) (p .1) (a .op) (a .x) (c .before .before .match .keys4)) (c .put .ensures)
+returns-4 c =
+    let c4 = c .before .before .before .before in
+    let a = c4 .args in let p = c4 .pre in rw (act-put (a .query .now) (a .tables .now) (a .head) (a .cells .now) (p .0) (p .1) (a .op) (a .x) (c .before .before .match .keys4)) (c .put .ensures)
 
 returns-5 : tie.Need-returns-5
-returns-5 c = let a = c .before .before .before .before .before .before .args in let p = c .before .before .before .before .before .before .pre in rw (act-push (a .query .now) (a .tables .now) (a .head) (a .cells .now) (p .0) (p .1) (a .op) (a .x) (c .before .before .before .before .match .keys5), ← c .before .before .right2 .ensures .0) (c .push .ensures)
+returns-5 c =
+    let c4 = c .before .before .before .before in
+    let c6 = c4 .before .before in
+    let a = c6 .args in let p = c6 .pre in rw (act-push (a .query .now) (a .tables .now) (a .head) (a .cells .now) (p .0) (p .1) (a .op) (a .x) (c4 .match .keys5), ← c .before .before .right2 .ensures .0) (c .push .ensures)
 
 returns-6 : tie.Need-returns-6
-returns-6 c = let a = c .before .before .before .before .args in let p = c .before .before .before .before .pre in rw (act-pop (a .query .now) (a .tables .now) (a .head) (a .cells .now) (p .0) (p .1) (a .op) (a .x) (c .before .before .match .keys6)) (c .pop .ensures)
+returns-6 c =
+    let c4 = c .before .before .before .before in
+    let a = c4 .args in let p = c4 .pre in rw (act-pop (a .query .now) (a .tables .now) (a .head) (a .cells .now) (p .0) (p .1) (a .op) (a .x) (c .before .before .match .keys6)) (c .pop .ensures)
 
 returns-7 : tie.Need-returns-7
-returns-7 c = let a = c .before .before .before .args in let p = c .before .before .before .pre in rw (act-check (a .query .now) (a .tables .now) (a .head) (a .cells .now) (p .0) (p .1) (a .op) (a .x) (c .before .match .keys7)) (c .check .ensures (a .cells .now))
+returns-7 c =
+    let c3 = c .before .before .before in
+    let a = c3 .args in let p = c3 .pre in rw (act-check (a .query .now) (a .tables .now) (a .head) (a .cells .now) (p .0) (p .1) (a .op) (a .x) (c .before .match .keys7)) (c .check .ensures (a .cells .now))
 
 returns-8 : tie.Need-returns-8
-returns-8 c = let a = c .before .before .before .before .args in let p = c .before .before .before .before .pre in rw (act-compare (a .query .now) (a .tables .now) (a .head) (a .cells .now) (p .0) (p .1) (a .op) (a .x) (c .before .before .match .keys8)) (c .compare .ensures)
+returns-8 c =
+    let c4 = c .before .before .before .before in
+    let a = c4 .args in let p = c4 .pre in rw (act-compare (a .query .now) (a .tables .now) (a .head) (a .cells .now) (p .0) (p .1) (a .op) (a .x) (c .before .before .match .keys8)) (c .compare .ensures)
 
 returns-9 : tie.Need-returns-9
 returns-9 c = let a = c .before .before .args in let p = c .before .before .pre in stays _ _ _ (act-over (a .query .now) (a .tables .now) (a .head) (a .cells .now) (p .0) (p .1) (a .op) (a .x) (let r = c .match .rest in rest-over (a .op) (r .0 .0 .0 .0 .0 .0 .0 .1) (p .2) (r .0 .0 .0 .0 .0 .0 .1) (r .0 .0 .0 .0 .0 .1) (r .0 .0 .0 .0 .1) (r .0 .0 .0 .1) (r .0 .0 .1) (r .0 .1) (r .1)))

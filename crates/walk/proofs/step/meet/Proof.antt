@@ -2,10 +2,9 @@
 use borrow.Author.Tests.{not-true, not-false}
 use mathlib.Core.Path.{refl, sym, _∙_}
 -- `meet` meets its contract.
-use mathlib.Core.Path.{refl, sym, ap, _∙_}
+use mathlib.Core.Path.{refl, sym, _∙_}
 -- `meet` meets its contract.
-use native.Mathlib.Omega.{arith}
-use mathlib.Core.Path.{sym, ap, _∙_}
+use mathlib.Core.Path.{sym, _∙_}
 use Rattle.walk.specs.Cells.{metOf}
 use Rattle.walk.proofs.Visits.{stays, early, met-unfit, met-word, met-first, met-ninth, chosen-length, head-none}
 use borrow.Author.Needs.{needs}
@@ -27,15 +26,29 @@ element-copy-out-if3 c = search needs
 
 returns-2 : tie.Need-returns-2
 unfolding metOf
-returns-2 c = let r = c .before .before .before .before .before .before .before .pre .0 in stays _ _ _ (sym (met-first _ _ _ _ (sym (c .before .before .before .before .before .fits2 .ensures) ∙ not-false _ (c .before .before .before .before .if1 .left)) (c .before .before .before .operation .ensures) (c .before .before .if2 .taken) (rw (chosen-length _ _ _ _ r) (c .if3 .taken))))
+returns-2 c =
+    let c3 = c .before .before .before in
+    let c4 = c3 .before in
+    let c5 = c4 .before in
+    let c7 = c5 .before .before in
+    let r = c7 .pre .0 in stays _ _ _ (sym (met-first _ _ _ _ (sym (c5 .fits2 .ensures) ∙ not-false _ (c4 .if1 .left)) (c3 .operation .ensures) (c .before .before .if2 .taken) (rw (chosen-length _ _ _ _ r) (c .if3 .taken))))
 
 returns-3 : tie.Need-returns-3
 unfolding metOf
-returns-3 c = let r = c .before .before .before .before .before .before .before .pre .0 in stays _ _ _ (sym (met-ninth _ _ _ _ (sym (c .before .before .before .before .before .fits2 .ensures) ∙ not-false _ (c .before .before .before .before .if1 .left)) (c .before .before .before .operation .ensures) (c .before .before .if2 .taken) (rw (chosen-length _ _ _ _ r) (c .if3 .left))))
+returns-3 c =
+    let c3 = c .before .before .before in
+    let c4 = c3 .before in
+    let c5 = c4 .before in
+    let c7 = c5 .before .before in
+    let r = c7 .pre .0 in stays _ _ _ (sym (met-ninth _ _ _ _ (sym (c5 .fits2 .ensures) ∙ not-false _ (c4 .if1 .left)) (c3 .operation .ensures) (c .before .before .if2 .taken) (rw (chosen-length _ _ _ _ r) (c .if3 .left))))
 
 returns-4 : tie.Need-returns-4
 unfolding metOf
-returns-4 c = let r = c .before .before .before .before .before .before .pre .0 in stays _ _ _ (sym (met-word _ _ _ _ (sym (c .before .before .before .before .fits2 .ensures) ∙ not-false _ (c .before .before .before .if1 .left)) (c .before .before .operation .ensures) refl ∙ early _ _ _ _ (head-none _ _ _ _ r (c .if4 .taken)) (c .before .if2 .left)))
+returns-4 c =
+    let c3 = c .before .before .before in
+    let c4 = c3 .before in
+    let c6 = c4 .before .before in
+    let r = c6 .pre .0 in stays _ _ _ (sym (met-word _ _ _ _ (sym (c4 .fits2 .ensures) ∙ not-false _ (c3 .if1 .left)) (c .before .before .operation .ensures) refl ∙ early _ _ _ _ (head-none _ _ _ _ r (c .if4 .taken)) (c .before .if2 .left)))
 
 operand-requires : tie.Need-operand-requires
 operand-requires c κs = search needs
@@ -44,7 +57,12 @@ act-requires : tie.Need-act-requires
 act-requires c κs = search needs
 
 returns-5 : tie.Need-returns-5
-returns-5 c = let a = c .before .before .before .before .before .before .before .before .before .args in rw (met-word (a .query .now) (a .w) (a .room) _ (sym (c .before .before .before .before .before .before .before .fits2 .ensures) ∙ not-false _ (c .before .before .before .before .before .before .if1 .left)) (c .before .before .before .before .before .operation .ensures) (c .before .before .operand .ensures)) (c .act .ensures)
+returns-5 c =
+    let c5 = c .before .before .before .before .before in
+    let c6 = c5 .before in
+    let c7 = c6 .before in
+    let c9 = c7 .before .before in
+    let a = c9 .args in rw (met-word (a .query .now) (a .w) (a .room) _ (sym (c7 .fits2 .ensures) ∙ not-false _ (c6 .if1 .left)) (c5 .operation .ensures) (c .before .before .operand .ensures)) (c .act .ensures)
 
 pub meet-spec : {M : Type 1} → statement M
 meet-spec =

@@ -1,5 +1,4 @@
 -- `pop` meets its contract.
-use native.Mathlib.Omega.{arith}
 use Rattle.walk.proofs.Visits.{stays, over, pop-visit}
 use borrow.Author.Needs.{needs}
 use Rattle.walk.proofs.step.pop.Statement.{statement}
@@ -21,8 +20,11 @@ moved-requires : tie.Need-moved-requires
 moved-requires c κs = search needs
 
 returns-2 : tie.Need-returns-2
-returns-2 c = let a = c .before .before .before .before .args in
-    let p = pop-visit (a .head) (a .cells .now) (c .before .before .before .before .pre) (a .n) (c .before .before .before .if1 .left) in
+returns-2 c =
+    let c3 = c .before .before .before in
+    let c4 = c3 .before in
+    let a = c4 .args in
+    let p = pop-visit (a .head) (a .cells .now) (c4 .pre) (a .n) (c3 .if1 .left) in
     rw (← p, ← c .before .wide .ensures .0) (c .moved .ensures (a .cells .now))
 
 pub pop-spec : {M : Type 1} → statement M

@@ -1,5 +1,4 @@
 -- `push` meets its contract.
-use native.Mathlib.Omega.{arith}
 use Rattle.walk.proofs.Visits.{stays, over, push-none, push-visit}
 use borrow.Author.Needs.{needs}
 use Rattle.walk.proofs.step.push.Statement.{statement}
@@ -18,9 +17,12 @@ store-requires : tie.Need-store-requires
 store-requires c κs = search needs
 
 returns-3 : tie.Need-returns-3
-returns-3 c = let a = c .before .before .before .before .args in
+returns-3 c =
+    let c3 = c .before .before .before in
+    let c4 = c3 .before in
+    let a = c4 .args in
     let e = c .store .ensures in
-    rw (e .0, e .1) (push-visit (a .head) (a .cells .now) (c .before .before .before .before .pre .0) (a .n) (a .to) (c .before .before .before .if1 .left) (c .before .before .before .before .pre .1) (c .before .before .if2 .left) (e .2))
+    rw (e .0, e .1) (push-visit (a .head) (a .cells .now) (c4 .pre .0) (a .n) (a .to) (c3 .if1 .left) (c4 .pre .1) (c .before .before .if2 .left) (e .2))
 
 pub push-spec : {M : Type 1} → statement M
 push-spec = tie.close (tie.spec returns returns-2 add-slot store-requires returns-3)

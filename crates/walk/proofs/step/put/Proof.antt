@@ -1,5 +1,4 @@
 -- `put` meets its contract.
-use native.Mathlib.Omega.{arith}
 use Rattle.walk.proofs.Visits.{stays, over, put-visit}
 use borrow.Author.Needs.{needs}
 use Rattle.walk.proofs.step.put.Statement.{statement}
@@ -15,9 +14,11 @@ store-requires : tie.Need-store-requires
 store-requires c κs = search needs
 
 returns-2 : tie.Need-returns-2
-returns-2 c = let a = c .before .before .before .args in
+returns-2 c =
+    let c3 = c .before .before .before in
+    let a = c3 .args in
     let e = c .store .ensures in
-    rw (e .0, e .1) (put-visit (a .head) (a .cells .now) (c .before .before .before .pre .0) (a .k) (c .before .before .if1 .left) (c .before .before .before .pre .1) (e .2))
+    rw (e .0, e .1) (put-visit (a .head) (a .cells .now) (c3 .pre .0) (a .k) (c .before .before .if1 .left) (c3 .pre .1) (e .2))
 
 pub put-spec : {M : Type 1} → statement M
 put-spec = tie.close (tie.spec returns add-slot store-requires returns-2)

@@ -25,7 +25,9 @@ returns : tie.Need-returns
 returns c = (right-none _ _ _ _ (c .before .before .before .pre .0) (c .before .before .before .pre .1) (c .if1 .taken), omega arith)
 
 returns-2 : tie.Need-returns-2
-returns-2 c = let p = c .before .before .before .before .before .pre in (right-some _ _ _ _ (p .0) (p .1) (c .before .before .if1 .left) (c .wide .ensures .0) .0, c .wide .ensures .1)
+returns-2 c =
+    let c5 = c .before .before .before .before .before in
+    let p = c5 .pre in (right-some _ _ _ _ (p .0) (p .1) (c .before .before .if1 .left) (c .wide .ensures .0) .0, c .wide .ensures .1)
 
 pub right-spec : {M : Type 1} → statement M
 right-spec =

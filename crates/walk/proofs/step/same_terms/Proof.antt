@@ -54,7 +54,11 @@ same-requires c κs = search needs
 
 returns : tie.Need-returns
 unfolding sameTerms
-returns c = let p = c .before .before .before .before .before .before .before .before .pre in c .same .ensures ∙ ap₂ alike (part-term _ _ (p .1) _ (p .2) (c .before .before .before .before .before .wide .ensures .0)) (part-term _ _ (p .1) _ (p .3) (c .before .before .before .wide2 .ensures .0))
+returns c =
+    let c3 = c .before .before .before in
+    let c5 = c3 .before .before in
+    let c8 = c5 .before .before .before in
+    let p = c8 .pre in c .same .ensures ∙ ap₂ alike (part-term _ _ (p .1) _ (p .2) (c5 .wide .ensures .0)) (part-term _ _ (p .1) _ (p .3) (c3 .wide2 .ensures .0))
 
 pub same-terms-spec : {M : Type 1} → statement M
 same-terms-spec =
