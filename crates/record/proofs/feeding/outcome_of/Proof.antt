@@ -8,6 +8,9 @@ use borrow.Author.Needs.{needs}
 use Rattle.record.proofs.feeding.outcome_of.Statement.{statement}
 use Rattle.record.proofs.feeding.outcome_of.Tie as tie
 
+cast-if1 : tie.Need-cast-if1
+cast-if1 c = search needs
+
 returns : tie.Need-returns
 unfolding finishing
 returns c = record { answer = rw (lt-ltb 64 _ (c .if1 .taken)); marking = refl; steady = c .before .before .before .before .pre .0 }
@@ -33,4 +36,4 @@ returns-2 c =
 pub outcome-of-spec : {M : Type 1} → statement M
 outcome-of-spec =
     tie.close
-    (tie.spec returns slice-aggregate-answer answer-requires same-length same-length-2 returns-2)
+    (tie.spec cast-if1 returns slice-aggregate-answer answer-requires same-length same-length-2 returns-2)
