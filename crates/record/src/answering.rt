@@ -1,9 +1,9 @@
 // What becomes of one record.
 use crate::Outcome;
+use insertion::insert_new;
 use machine::Sequence;
 use machine::compile;
 use tree::CallAnswer;
-use insertion::insert_new;
 use walk::QueryAnswer;
 use walk::Witness;
 use walk::query;

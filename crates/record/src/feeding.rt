@@ -1,5 +1,4 @@
 // The input byte by byte, as it comes in blocks.
-use clause::Clause;
 use crate::Half;
 use crate::Outcome;
 use crate::Progress;
@@ -9,6 +8,7 @@ use crate::Totals;
 use crate::Turn;
 use crate::answering::answer;
 use crate::line::put_line;
+use clause::Clause;
 ghost use mathlib.Core.Path.{_≡_};
 ghost use Prim.Native.Nat.{_+_, _*_, _^_, _≤_, _<_};
 ghost use lib.ListN.{length, take, set};

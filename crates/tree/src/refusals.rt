@@ -1,6 +1,6 @@
 // Document 01's code of a refusal.
-use clause::Fault;
 use crate::Refusal;
+use clause::Fault;
 ghost use mathlib.Core.Path.{_≡_};
 ghost use Rattle.tree.specs.Refusal.{codeOf};
 
