@@ -20,7 +20,7 @@ use Rattle.walk.proofs.Passes.{runs, runs-whole, runs-end, runs-spent, 
 use Rattle.walk.proofs.Places.{candidate-size, candidate-count, dropped-candidate}
 use Rattle.walk.specs.declared.End.the-variants.{Missed}
 use Rattle.machine.specs.Machine.{State}
-use Rattle.walk.proofs.Walking.{Walking, walking-start, walking-end, begun-ready, pass-literal, turn, stored-size, stored-small, node-stuck, node-hit, node-ends, fits-fails, fits-below, fits-tries, visit-below, visit-tries, node-fails, node-last, node-missed}
+use Rattle.walk.proofs.Walking.{Walking, walking-start, walking-end, begun-ready, pass-literal, turn, stored-size, stored-small, node-stuck, node-hit, node-ends, fits-fails, fits-below, fits-tries, visit-below, visit-tries, node-fails, node-plain, node-last, node-missed}
 use Rattle.walk.proofs.Visits.{chosen-length}
 use Rattle.walk.proofs.walk.walk.Reads as walk
 use Rattle.walk.proofs.walk.walk.Kinds as walk-kinds
@@ -81,11 +81,11 @@ rs t = (
 )
 
 abbrev walk-Inv-loop : walk-lts.InvT-loop
-walk-Inv-loop words query tables cells₀ first head count budget last n₀ j kept here₀ key₀ trail₀ at₀ cells n here key trail at =
-    Walking query tables words budget (stateOf here₀ cells₀) n₀ cells₀ cells n here key trail at
+walk-Inv-loop words query tables cells₀ first head count budget last n₀ j kept here₀ trail₀ at₀ cells n here trail at =
+    Walking query tables words budget (stateOf here₀ cells₀) n₀ cells₀ cells n here trail at
 
 abbrev walk-μ-loop : walk-lts.MeasureT-loop
-walk-μ-loop words query tables cells₀ first head count budget last n₀ j kept here₀ key₀ trail₀ at₀ cells n here key trail at = length words - at
+walk-μ-loop words query tables cells₀ first head count budget last n₀ j kept here₀ trail₀ at₀ cells n here trail at = length words - at
 
 abbrev walk-Inv-tries : walk-lts.InvT-tries
 walk-Inv-tries words query tables cells₀ first head count budget last n₀ j₀ cells n j =
@@ -183,14 +183,17 @@ walk-operand-requires t c κs = search needs
 walk-enum-told-3 : (t : ℕ) → walk-lts.Need-enum-told-3 (rs t) (walk-at t) walk.Post walk-Inv-loop walk-μ-loop walk-Inv-tries walk-μ-tries
 walk-enum-told-3 t c = search needs
 
+walk-wanted-requires-2 : (t : ℕ) → walk-lts.Need-wanted-requires-2 (rs t) (walk-at t) walk.Post walk-Inv-loop walk-μ-loop walk-Inv-tries walk-μ-tries
+walk-wanted-requires-2 t c κs = search needs
+
 walk-pass-requires-2 : (t : ℕ) → walk-lts.Need-pass-requires-2 (rs t) (walk-at t) walk.Post walk-Inv-loop walk-μ-loop walk-Inv-tries walk-μ-tries
-walk-pass-requires-2 t c κs = fits-fails (c .before .before .before .before .before .before .before .before .before .before .before .before .before .before .before .before .before .before .before .before .args .query .now) (c .before .before .before .before .before .before .before .before .before .before .before .before .before .before .before .before .before .before .before .before .args .tables .now) (c .before .before .before .before .before .before .before .before .before .before .before .before .before .before .before .before .before .before .before .before .args .words .now) (c .before .before .before .before .before .before .before .before .before .before .before .before .before .before .before .before .before .before .before .before .args .budget) _ _ _ _ _ _ _ _ _ (c .before .before .before .before .before .before .before .loop .inv) (c .before .before .before .before .before .before .loop-test .taken) _ (c .before .before .extent .ensures) _ _ (c .before .before .before .meet .ensures) (c .enum-told3 .given .1) .1
+walk-pass-requires-2 t c κs = fits-fails (c .before .before .before .before .before .before .before .before .before .before .before .before .before .before .before .before .before .before .before .before .before .args .query .now) (c .before .before .before .before .before .before .before .before .before .before .before .before .before .before .before .before .before .before .before .before .before .args .tables .now) (c .before .before .before .before .before .before .before .before .before .before .before .before .before .before .before .before .before .before .before .before .before .args .words .now) (c .before .before .before .before .before .before .before .before .before .before .before .before .before .before .before .before .before .before .before .before .before .args .budget) _ _ _ _ _ _ _ _ (c .before .before .before .before .before .before .before .before .loop .inv) (c .before .before .before .before .before .before .before .loop-test .taken) _ (c .before .before .before .extent .ensures) _ _ (c .before .before .before .before .meet .ensures) (c .before .enum-told3 .given .1) .1
 
 walk-loop-less : (t : ℕ) → walk-lts.Need-loop-less (rs t) (walk-at t) walk.Post walk-Inv-loop walk-μ-loop walk-Inv-tries walk-μ-tries
-walk-loop-less t c = let f = fits-fails (c .before .before .before .before .before .before .before .before .before .before .before .before .before .before .before .before .before .before .before .before .before .args .query .now) (c .before .before .before .before .before .before .before .before .before .before .before .before .before .before .before .before .before .before .before .before .before .args .tables .now) (c .before .before .before .before .before .before .before .before .before .before .before .before .before .before .before .before .before .before .before .before .before .args .words .now) (c .before .before .before .before .before .before .before .before .before .before .before .before .before .before .before .before .before .before .before .before .before .args .budget) _ _ _ _ _ _ _ _ _ (c .before .before .before .before .before .before .before .before .loop .inv) (c .before .before .before .before .before .before .before .loop-test .taken) _ (c .before .before .before .extent .ensures) _ _ (c .before .before .before .before .meet .ensures) (c .before .enum-told3 .given .1) in let p = c .pass2 .ensures .further in omega arith
+walk-loop-less t c = let f = fits-fails (c .before .before .before .before .before .before .before .before .before .before .before .before .before .before .before .before .before .before .before .before .before .before .args .query .now) (c .before .before .before .before .before .before .before .before .before .before .before .before .before .before .before .before .before .before .before .before .before .before .args .tables .now) (c .before .before .before .before .before .before .before .before .before .before .before .before .before .before .before .before .before .before .before .before .before .before .args .words .now) (c .before .before .before .before .before .before .before .before .before .before .before .before .before .before .before .before .before .before .before .before .before .before .args .budget) _ _ _ _ _ _ _ _ (c .before .before .before .before .before .before .before .before .before .loop .inv) (c .before .before .before .before .before .before .before .before .loop-test .taken) _ (c .before .before .before .before .extent .ensures) _ _ (c .before .before .before .before .before .meet .ensures) (c .before .before .enum-told3 .given .1) in let p = c .pass2 .ensures .further in omega arith
 
 walk-loop-again : (t : ℕ) → walk-lts.Need-loop-again (rs t) (walk-at t) walk.Post walk-Inv-loop walk-μ-loop walk-Inv-tries walk-μ-tries
-walk-loop-again t c = node-fails (c .before .before .before .before .before .before .before .before .before .before .before .before .before .before .before .before .before .before .before .before .before .args .query .now) (c .before .before .before .before .before .before .before .before .before .before .before .before .before .before .before .before .before .before .before .before .before .args .tables .now) (c .before .before .before .before .before .before .before .before .before .before .before .before .before .before .before .before .before .before .before .before .before .args .words .now) (c .before .before .before .before .before .before .before .before .before .before .before .before .before .before .before .before .before .before .before .before .before .args .budget) _ _ _ _ _ _ _ _ _ (c .before .before .before .before .before .before .before .before .loop .inv) (c .before .before .before .before .before .before .before .loop-test .taken) _ (c .before .before .before .extent .ensures) _ _ (c .before .before .before .before .meet .ensures) (c .before .enum-told3 .given .1) (c .pass2 .ensures)
+walk-loop-again t c = node-fails (c .before .before .before .before .before .before .before .before .before .before .before .before .before .before .before .before .before .before .before .before .before .before .args .query .now) (c .before .before .before .before .before .before .before .before .before .before .before .before .before .before .before .before .before .before .before .before .before .before .args .tables .now) (c .before .before .before .before .before .before .before .before .before .before .before .before .before .before .before .before .before .before .before .before .before .before .args .words .now) (c .before .before .before .before .before .before .before .before .before .before .before .before .before .before .before .before .before .before .before .before .before .before .args .budget) _ _ _ _ _ _ _ _ (c .before .before .before .before .before .before .before .before .before .loop .inv) (c .before .before .before .before .before .before .before .before .loop-test .taken) _ (c .before .before .before .before .extent .ensures) _ _ (c .before .before .before .before .before .meet .ensures) (c .before .before .enum-told3 .given .1) _ (c .before .wanted2 .ensures) (c .pass2 .ensures)
 
 walk-enum-told-4 : (t : ℕ) → walk-lts.Need-enum-told-4 (rs t) (walk-at t) walk.Post walk-Inv-loop walk-μ-loop walk-Inv-tries walk-μ-tries
 walk-enum-told-4 t c = search needs
@@ -198,30 +201,30 @@ walk-enum-told-4 t c = search needs
 walk-enum-told-5 : (t : ℕ) → walk-lts.Need-enum-told-5 (rs t) (walk-at t) walk.Post walk-Inv-loop walk-μ-loop walk-Inv-tries walk-μ-tries
 walk-enum-told-5 t c = search needs
 
-walk-trace-requires : (t : ℕ) → walk-lts.Need-trace-requires (rs t) (walk-at t) walk.Post walk-Inv-loop walk-μ-loop walk-Inv-tries walk-μ-tries
-walk-trace-requires t c κs = (c .if5 .taken, stored-small (c .before .before .before .before .before .meet .ensures .stored))
-
-walk-wanted-requires-2 : (t : ℕ) → walk-lts.Need-wanted-requires-2 (rs t) (walk-at t) walk.Post walk-Inv-loop walk-μ-loop walk-Inv-tries walk-μ-tries
-walk-wanted-requires-2 t c κs = search needs
-
-walk-pass-requires-3 : (t : ℕ) → walk-lts.Need-pass-requires-3 (rs t) (walk-at t) walk.Post walk-Inv-loop walk-μ-loop walk-Inv-tries walk-μ-tries
-walk-pass-requires-3 t c κs = omega arith
-
 walk-loop-less-2 : (t : ℕ) → walk-lts.Need-loop-less-2 (rs t) (walk-at t) walk.Post walk-Inv-loop walk-μ-loop walk-Inv-tries walk-μ-tries
-walk-loop-less-2 t c = let p = c .pass3 .ensures .further in omega arith
+walk-loop-less-2 t c = omega arith
 
 walk-loop-again-2 : (t : ℕ) → walk-lts.Need-loop-again-2 (rs t) (walk-at t) walk.Post walk-Inv-loop walk-μ-loop walk-Inv-tries walk-μ-tries
-walk-loop-again-2 t c = node-last (c .before .before .before .before .before .before .before .before .before .before .before .before .before .before .before .before .before .before .before .before .before .before .before .before .before .args .query .now) (c .before .before .before .before .before .before .before .before .before .before .before .before .before .before .before .before .before .before .before .before .before .before .before .before .before .args .tables .now) (c .before .before .before .before .before .before .before .before .before .before .before .before .before .before .before .before .before .before .before .before .before .before .before .before .before .args .words .now) (c .before .before .before .before .before .before .before .before .before .before .before .before .before .before .before .before .before .before .before .before .before .before .before .before .before .args .budget) _ _ _ _ _ _ _ _ _ (c .before .before .before .before .before .before .before .before .before .before .before .before .loop .inv) (c .before .before .before .before .before .before .before .before .before .before .before .loop-test .taken) _ (c .before .before .before .before .before .before .before .extent .ensures) _ _ (c .before .before .before .before .before .before .before .before .meet .ensures) (c .before .before .before .before .before .enum-told5 .given .1) (c .before .before .before .before .if4 .taken) (c .before .before .before .if5 .taken) (c .before .before .trace .ensures) _ (c .before .wanted2 .ensures) (c .pass3 .ensures)
+walk-loop-again-2 t c = node-plain (c .before .before .before .before .before .before .before .before .before .before .before .before .before .before .before .before .before .before .before .before .before .before .before .args .query .now) (c .before .before .before .before .before .before .before .before .before .before .before .before .before .before .before .before .before .before .before .before .before .before .before .args .tables .now) (c .before .before .before .before .before .before .before .before .before .before .before .before .before .before .before .before .before .before .before .before .before .before .before .args .words .now) (c .before .before .before .before .before .before .before .before .before .before .before .before .before .before .before .before .before .before .before .before .before .before .before .args .budget) _ _ _ _ _ _ _ _ (c .before .before .before .before .before .before .before .before .before .before .loop .inv) (c .before .before .before .before .before .before .before .before .before .loop-test .taken) _ (c .before .before .before .before .before .extent .ensures) _ _ (c .before .before .before .before .before .before .meet .ensures) (c .before .before .before .enum-told5 .given .1) (c .before .before .if4 .taken) (c .if5 .taken)
+
+walk-trace-requires : (t : ℕ) → walk-lts.Need-trace-requires (rs t) (walk-at t) walk.Post walk-Inv-loop walk-μ-loop walk-Inv-tries walk-μ-tries
+walk-trace-requires t c κs = (c .if6 .taken, stored-small (c .before .before .before .before .before .before .before .meet .ensures .stored))
+
+walk-loop-less-3 : (t : ℕ) → walk-lts.Need-loop-less-3 (rs t) (walk-at t) walk.Post walk-Inv-loop walk-μ-loop walk-Inv-tries walk-μ-tries
+walk-loop-less-3 t c = omega arith
+
+walk-loop-again-3 : (t : ℕ) → walk-lts.Need-loop-again-3 (rs t) (walk-at t) walk.Post walk-Inv-loop walk-μ-loop walk-Inv-tries walk-μ-tries
+walk-loop-again-3 t c = node-last (c .before .before .before .before .before .before .before .before .before .before .before .before .before .before .before .before .before .before .before .before .before .before .before .before .before .args .query .now) (c .before .before .before .before .before .before .before .before .before .before .before .before .before .before .before .before .before .before .before .before .before .before .before .before .before .args .tables .now) (c .before .before .before .before .before .before .before .before .before .before .before .before .before .before .before .before .before .before .before .before .before .before .before .before .before .args .words .now) (c .before .before .before .before .before .before .before .before .before .before .before .before .before .before .before .before .before .before .before .before .before .before .before .before .before .args .budget) _ _ _ _ _ _ _ _ (c .before .before .before .before .before .before .before .before .before .before .before .before .loop .inv) (c .before .before .before .before .before .before .before .before .before .before .before .loop-test .taken) _ (c .before .before .before .before .before .before .before .extent .ensures) _ _ (c .before .before .before .before .before .before .before .before .meet .ensures) (c .before .before .before .before .before .enum-told5 .given .1) (c .before .before .before .before .if4 .taken) (c .before .if6 .taken) (c .trace .ensures)
 
 -- the kind of a call: the candidates of a First, or below any other word
 kind : (t : ℕ) (c : walk-lts.At-match-came (rs t) (walk-at t) walk.Post walk-Inv-loop walk-μ-loop walk-Inv-tries walk-μ-tries)
     → ((c .before .before .meet .result .go ≡ Tries) × (c .match .below ≡ true)) ⊎ ((c .before .before .meet .result .go ≡ Below) × (c .match .below ≡ false))
-kind t c = ⊎-elim (λ w. inl (w .1 .given .1, w .2)) (⊎-elim (λ w. inr (w .1 .given .1, w .4)) (λ w. inr (w .1 .given .1, w .3))) (c .match .came)
+kind t c = ⊎-elim (λ w. inl (w .1 .given .1, w .2)) (⊎-elim (λ w. inr (w .1 .given .1, w .6)) (λ w. inr (w .1 .given .1, w .3))) (c .match .came)
 
 -- its words lie in the row
 called : (t : ℕ) (c : walk-lts.At-match-came (rs t) (walk-at t) walk.Post walk-Inv-loop walk-μ-loop walk-Inv-tries walk-μ-tries)
     → (1 ≤ c .before .extent .result) × (c .before .before .before .before .before .before .loop .at + c .before .extent .result ≤ length (c .before .before .before .before .before .before .before .before .before .before .before .before .before .before .before .before .before .before .before .args .words .now))
-called t c = ⊎-elim (λ k. fits-tries (c .before .before .before .before .before .before .before .before .before .before .before .before .before .before .before .before .before .before .before .args .query .now) (c .before .before .before .before .before .before .before .before .before .before .before .before .before .before .before .before .before .before .before .args .tables .now) (c .before .before .before .before .before .before .before .before .before .before .before .before .before .before .before .before .before .before .before .args .words .now) (c .before .before .before .before .before .before .before .before .before .before .before .before .before .before .before .before .before .before .before .args .budget) _ _ _ _ _ _ _ _ _ (c .before .before .before .before .before .before .loop .inv) (c .before .before .before .before .before .loop-test .taken) _ (c .before .extent .ensures) _ _ (c .before .before .meet .ensures) (k .0)) (λ k. fits-below (c .before .before .before .before .before .before .before .before .before .before .before .before .before .before .before .before .before .before .before .args .query .now) (c .before .before .before .before .before .before .before .before .before .before .before .before .before .before .before .before .before .before .before .args .tables .now) (c .before .before .before .before .before .before .before .before .before .before .before .before .before .before .before .before .before .before .before .args .words .now) (c .before .before .before .before .before .before .before .before .before .before .before .before .before .before .before .before .before .before .before .args .budget) _ _ _ _ _ _ _ _ _ (c .before .before .before .before .before .before .loop .inv) (c .before .before .before .before .before .loop-test .taken) _ (c .before .extent .ensures) _ _ (c .before .before .meet .ensures) (k .0)) (kind t c)
+called t c = ⊎-elim (λ k. fits-tries (c .before .before .before .before .before .before .before .before .before .before .before .before .before .before .before .before .before .before .before .args .query .now) (c .before .before .before .before .before .before .before .before .before .before .before .before .before .before .before .before .before .before .before .args .tables .now) (c .before .before .before .before .before .before .before .before .before .before .before .before .before .before .before .before .before .before .before .args .words .now) (c .before .before .before .before .before .before .before .before .before .before .before .before .before .before .before .before .before .before .before .args .budget) _ _ _ _ _ _ _ _ (c .before .before .before .before .before .before .loop .inv) (c .before .before .before .before .before .loop-test .taken) _ (c .before .extent .ensures) _ _ (c .before .before .meet .ensures) (k .0)) (λ k. fits-below (c .before .before .before .before .before .before .before .before .before .before .before .before .before .before .before .before .before .before .before .args .query .now) (c .before .before .before .before .before .before .before .before .before .before .before .before .before .before .before .before .before .before .before .args .tables .now) (c .before .before .before .before .before .before .before .before .before .before .before .before .before .before .before .before .before .before .before .args .words .now) (c .before .before .before .before .before .before .before .before .before .before .before .before .before .before .before .before .before .before .before .args .budget) _ _ _ _ _ _ _ _ (c .before .before .before .before .before .before .loop .inv) (c .before .before .before .before .before .loop-test .taken) _ (c .before .extent .ensures) _ _ (c .before .before .meet .ensures) (k .0)) (kind t c)
 
 -- its state is ready
 called-ready : (t : ℕ) (c : walk-lts.At-match-came (rs t) (walk-at t) walk.Post walk-Inv-loop walk-μ-loop walk-Inv-tries walk-μ-tries)
@@ -256,14 +259,17 @@ walk-restore-requires : (t : ℕ) → walk-lts.Need-restore-requires (rs t) (wal
 walk-restore-requires t c κs = let v = c .before .before .before .before .before .before .before .before .meet .ensures .stored in
     (ap (λ (l : List ℕ). length l) (c .before .before .before .walk .ensures .back (c .before .enum-told6 .given .1)) ∙ stored-size v ∙ c .before .before .before .before .before .before .before .before .before .before .before .before .loop .inv .ready .size, stored-small v)
 
-walk-pass-requires-4 : (t : ℕ) → walk-lts.Need-pass-requires-4 (rs t) (walk-at t) walk.Post walk-Inv-loop walk-μ-loop walk-Inv-tries walk-μ-tries
-walk-pass-requires-4 t c κs = called t (c .before .before .before .before .before .before .before) .1
+walk-wanted-requires-3 : (t : ℕ) → walk-lts.Need-wanted-requires-3 (rs t) (walk-at t) walk.Post walk-Inv-loop walk-μ-loop walk-Inv-tries walk-μ-tries
+walk-wanted-requires-3 t c κs = search needs
 
-walk-loop-less-3 : (t : ℕ) → walk-lts.Need-loop-less-3 (rs t) (walk-at t) walk.Post walk-Inv-loop walk-μ-loop walk-Inv-tries walk-μ-tries
-walk-loop-less-3 t c = let f = called t (c .before .before .before .before .before .before .before .before) in let p = c .pass4 .ensures .further in omega arith
+walk-pass-requires-3 : (t : ℕ) → walk-lts.Need-pass-requires-3 (rs t) (walk-at t) walk.Post walk-Inv-loop walk-μ-loop walk-Inv-tries walk-μ-tries
+walk-pass-requires-3 t c κs = called t (c .before .before .before .before .before .before .before .before) .1
 
-walk-loop-again-3 : (t : ℕ) → walk-lts.Need-loop-again-3 (rs t) (walk-at t) walk.Post walk-Inv-loop walk-μ-loop walk-Inv-tries walk-μ-tries
-walk-loop-again-3 t c = node-missed (c .before .before .before .before .before .before .before .before .before .before .before .before .before .before .before .before .before .before .before .before .before .before .before .before .before .before .before .args .query .now) (c .before .before .before .before .before .before .before .before .before .before .before .before .before .before .before .before .before .before .before .before .before .before .before .before .before .before .before .args .tables .now) (c .before .before .before .before .before .before .before .before .before .before .before .before .before .before .before .before .before .before .before .before .before .before .before .before .before .before .before .args .words .now) (c .before .before .before .before .before .before .before .before .before .before .before .before .before .before .before .before .before .before .before .before .before .before .before .before .before .before .before .args .budget) _ _ _ _ _ _ _ _ _ (c .before .before .before .before .before .before .before .before .before .before .before .before .before .before .loop .inv) (c .before .before .before .before .before .before .before .before .before .before .before .before .before .loop-test .taken) _ (c .before .before .before .before .before .before .before .before .before .extent .ensures) _ _ (c .before .before .before .before .before .before .before .before .before .before .meet .ensures) _ (kind t (c .before .before .before .before .before .before .before .before)) _ _ (c .before .before .before .before .before .walk .ensures) (c .before .before .before .enum-told6 .given .1) (c .pass4 .ensures) (c .before .restore .ensures)
+walk-loop-less-4 : (t : ℕ) → walk-lts.Need-loop-less-4 (rs t) (walk-at t) walk.Post walk-Inv-loop walk-μ-loop walk-Inv-tries walk-μ-tries
+walk-loop-less-4 t c = let f = called t (c .before .before .before .before .before .before .before .before .before) in let p = c .pass3 .ensures .further in omega arith
+
+walk-loop-again-4 : (t : ℕ) → walk-lts.Need-loop-again-4 (rs t) (walk-at t) walk.Post walk-Inv-loop walk-μ-loop walk-Inv-tries walk-μ-tries
+walk-loop-again-4 t c = node-missed (c .before .before .before .before .before .before .before .before .before .before .before .before .before .before .before .before .before .before .before .before .before .before .before .before .before .before .before .before .args .query .now) (c .before .before .before .before .before .before .before .before .before .before .before .before .before .before .before .before .before .before .before .before .before .before .before .before .before .before .before .before .args .tables .now) (c .before .before .before .before .before .before .before .before .before .before .before .before .before .before .before .before .before .before .before .before .before .before .before .before .before .before .before .before .args .words .now) (c .before .before .before .before .before .before .before .before .before .before .before .before .before .before .before .before .before .before .before .before .before .before .before .before .before .before .before .before .args .budget) _ _ _ _ _ _ _ _ (c .before .before .before .before .before .before .before .before .before .before .before .before .before .before .before .loop .inv) (c .before .before .before .before .before .before .before .before .before .before .before .before .before .before .loop-test .taken) _ (c .before .before .before .before .before .before .before .before .before .before .extent .ensures) _ _ (c .before .before .before .before .before .before .before .before .before .before .before .meet .ensures) _ (kind t (c .before .before .before .before .before .before .before .before .before)) _ _ (c .before .before .before .before .before .before .walk .ensures) (c .before .before .before .before .enum-told6 .given .1) _ (c .before .wanted3 .ensures) (c .pass3 .ensures) (c .before .before .restore .ensures)
 
 walk-unwind-requires : (t : ℕ) → walk-lts.Need-unwind-requires (rs t) (walk-at t) walk.Post walk-Inv-loop walk-μ-loop walk-Inv-tries walk-μ-tries
 walk-unwind-requires t c κs = c .before .before .loop .inv .ready .size
@@ -304,16 +310,16 @@ walk-returns-2 t c = let a = c .before .before .before .before .before .before .
     walked-spent _ (i .2 ∙ runs-spent (a .query .now) (a .budget) _ _ (rw (chosen-length _ _ _ _ (p .0)) (p .1 (c .before .if2 .taken))) (c .before .if2 .taken) _ _ _ (c .before .before .if1 .left) (c .if3 .taken)) (ap (λ (l : List ℕ). length l) (i .1))
 
 walk-returns-3 : (t : ℕ) → walk-lts.Need-returns-3 (rs t) (walk-at t) walk.Post walk-Inv-loop walk-μ-loop walk-Inv-tries walk-μ-tries
-walk-returns-3 t c = walked-broken _ (next-turn t (c .before .before .before .before .before .before .before .before .before .before) ∙ then-broken _ (node-stuck (c .before .before .before .before .before .before .before .before .before .before .before .before .before .before .before .before .before .before .before .before .args .query .now) (c .before .before .before .before .before .before .before .before .before .before .before .before .before .before .before .before .before .before .before .before .args .tables .now) (c .before .before .before .before .before .before .before .before .before .before .before .before .before .before .before .before .before .before .before .before .args .words .now) (c .before .before .before .before .before .before .before .before .before .before .before .before .before .before .before .before .before .before .before .before .args .budget) _ _ _ _ _ _ _ _ _ (c .before .before .before .before .before .before .before .loop .inv) (c .before .before .before .before .before .before .loop-test .taken) _ (c .before .before .extent .ensures) _ _ (c .before .before .before .meet .ensures) (c .enum-told .given .1))) (stored-size (c .before .before .before .meet .ensures .stored) ∙ c .before .before .before .before .before .before .before .loop .inv .ready .size ∙ sym (c .before .before .before .before .before .before .before .before .before .before .before .before .before .before .before .before .before .before .before .before .pre .1 .0 .size))
+walk-returns-3 t c = walked-broken _ (next-turn t (c .before .before .before .before .before .before .before .before .before .before) ∙ then-broken _ (node-stuck (c .before .before .before .before .before .before .before .before .before .before .before .before .before .before .before .before .before .before .before .before .args .query .now) (c .before .before .before .before .before .before .before .before .before .before .before .before .before .before .before .before .before .before .before .before .args .tables .now) (c .before .before .before .before .before .before .before .before .before .before .before .before .before .before .before .before .before .before .before .before .args .words .now) (c .before .before .before .before .before .before .before .before .before .before .before .before .before .before .before .before .before .before .before .before .args .budget) _ _ _ _ _ _ _ _ (c .before .before .before .before .before .before .before .loop .inv) (c .before .before .before .before .before .before .loop-test .taken) _ (c .before .before .extent .ensures) _ _ (c .before .before .before .meet .ensures) (c .enum-told .given .1))) (stored-size (c .before .before .before .meet .ensures .stored) ∙ c .before .before .before .before .before .before .before .loop .inv .ready .size ∙ sym (c .before .before .before .before .before .before .before .before .before .before .before .before .before .before .before .before .before .before .before .before .pre .1 .0 .size))
 
 walk-returns-4 : (t : ℕ) → walk-lts.Need-returns-4 (rs t) (walk-at t) walk.Post walk-Inv-loop walk-μ-loop walk-Inv-tries walk-μ-tries
-walk-returns-4 t c = walked-found (c .before .before .before .before .meet .result .head) (c .operand .ensures) (next-turn t (c .before .before .before .before .before .before .before .before .before .before .before) ∙ then-covered _ (node-hit (c .before .before .before .before .before .before .before .before .before .before .before .before .before .before .before .before .before .before .before .before .before .args .query .now) (c .before .before .before .before .before .before .before .before .before .before .before .before .before .before .before .before .before .before .before .before .before .args .tables .now) (c .before .before .before .before .before .before .before .before .before .before .before .before .before .before .before .before .before .before .before .before .before .args .words .now) (c .before .before .before .before .before .before .before .before .before .before .before .before .before .before .before .before .before .before .before .before .before .args .budget) _ _ _ _ _ _ _ _ _ (c .before .before .before .before .before .before .before .before .loop .inv) (c .before .before .before .before .before .before .before .loop-test .taken) _ (c .before .before .before .extent .ensures) _ _ (c .before .before .before .before .meet .ensures) (c .before .enum-told2 .given .1))) (stored-size (c .before .before .before .before .meet .ensures .stored) ∙ c .before .before .before .before .before .before .before .before .loop .inv .ready .size ∙ sym (c .before .before .before .before .before .before .before .before .before .before .before .before .before .before .before .before .before .before .before .before .before .pre .1 .0 .size))
+walk-returns-4 t c = walked-found (c .before .before .before .before .meet .result .head) (c .operand .ensures) (next-turn t (c .before .before .before .before .before .before .before .before .before .before .before) ∙ then-covered _ (node-hit (c .before .before .before .before .before .before .before .before .before .before .before .before .before .before .before .before .before .before .before .before .before .args .query .now) (c .before .before .before .before .before .before .before .before .before .before .before .before .before .before .before .before .before .before .before .before .before .args .tables .now) (c .before .before .before .before .before .before .before .before .before .before .before .before .before .before .before .before .before .before .before .before .before .args .words .now) (c .before .before .before .before .before .before .before .before .before .before .before .before .before .before .before .before .before .before .before .before .before .args .budget) _ _ _ _ _ _ _ _ (c .before .before .before .before .before .before .before .before .loop .inv) (c .before .before .before .before .before .before .before .loop-test .taken) _ (c .before .before .before .extent .ensures) _ _ (c .before .before .before .before .meet .ensures) (c .before .enum-told2 .given .1))) (stored-size (c .before .before .before .before .meet .ensures .stored) ∙ c .before .before .before .before .before .before .before .before .loop .inv .ready .size ∙ sym (c .before .before .before .before .before .before .before .before .before .before .before .before .before .before .before .before .before .before .before .before .before .pre .1 .0 .size))
 
 walk-returns-5 : (t : ℕ) → walk-lts.Need-returns-5 (rs t) (walk-at t) walk.Post walk-Inv-loop walk-μ-loop walk-Inv-tries walk-μ-tries
 walk-returns-5 t c = let h = c .match2 .keys2 in
     let w = c .before .walk .ensures in
     let nm : (c .before .walk .result .end ≡ Missed → ⊥) = λ m. miss (1 ∷ 2 ∷ 3 ∷ []) 0 tt (rw m at h) in
-    walked-same nm (next-turn t (c .before .before .before .before .before .before .before .before .before .before .before .before .before) ∙ then-found _ nm (node-ends (c .before .before .before .before .before .before .before .before .before .before .before .before .before .before .before .before .before .before .before .before .before .before .before .args .query .now) (c .before .before .before .before .before .before .before .before .before .before .before .before .before .before .before .before .before .before .before .before .before .before .before .args .tables .now) (c .before .before .before .before .before .before .before .before .before .before .before .before .before .before .before .before .before .before .before .before .before .before .before .args .words .now) (c .before .before .before .before .before .before .before .before .before .before .before .before .before .before .before .before .before .before .before .before .before .before .before .args .budget) _ _ _ _ _ _ _ _ _ (c .before .before .before .before .before .before .before .before .before .before .loop .inv) (c .before .before .before .before .before .before .before .before .before .loop-test .taken) _ (c .before .before .before .before .before .extent .ensures) _ _ (c .before .before .before .before .before .before .meet .ensures) _ (kind t (c .before .before .before .before)) _ _ (c .before .walk .ensures) nm) w) w (stored-size (c .before .before .before .before .before .before .meet .ensures .stored) ∙ c .before .before .before .before .before .before .before .before .before .before .loop .inv .ready .size ∙ sym (c .before .before .before .before .before .before .before .before .before .before .before .before .before .before .before .before .before .before .before .before .before .before .before .pre .1 .0 .size))
+    walked-same nm (next-turn t (c .before .before .before .before .before .before .before .before .before .before .before .before .before) ∙ then-found _ nm (node-ends (c .before .before .before .before .before .before .before .before .before .before .before .before .before .before .before .before .before .before .before .before .before .before .before .args .query .now) (c .before .before .before .before .before .before .before .before .before .before .before .before .before .before .before .before .before .before .before .before .before .before .before .args .tables .now) (c .before .before .before .before .before .before .before .before .before .before .before .before .before .before .before .before .before .before .before .before .before .before .before .args .words .now) (c .before .before .before .before .before .before .before .before .before .before .before .before .before .before .before .before .before .before .before .before .before .before .before .args .budget) _ _ _ _ _ _ _ _ (c .before .before .before .before .before .before .before .before .before .before .loop .inv) (c .before .before .before .before .before .before .before .before .before .loop-test .taken) _ (c .before .before .before .before .before .extent .ensures) _ _ (c .before .before .before .before .before .before .meet .ensures) _ (kind t (c .before .before .before .before)) _ _ (c .before .walk .ensures) nm) w) w (stored-size (c .before .before .before .before .before .before .meet .ensures .stored) ∙ c .before .before .before .before .before .before .before .before .before .before .loop .inv .ready .size ∙ sym (c .before .before .before .before .before .before .before .before .before .before .before .before .before .before .before .before .before .before .before .before .before .before .before .pre .1 .0 .size))
 
 pub +walk-spec : {M : Type 1} → statement M
 +walk-spec = close μ-walk λ t. walk-lts.spec (rs t)
@@ -342,16 +348,17 @@ pub +walk-spec : {M : Type 1} → statement M
     (walk-enum-told-2 t)
     (walk-operand-requires t)
     (walk-enum-told-3 t)
+    (walk-wanted-requires-2 t)
     (walk-pass-requires-2 t)
     (walk-loop-less t)
     (walk-loop-again t)
     (walk-enum-told-4 t)
     (walk-enum-told-5 t)
-    (walk-trace-requires t)
-    (walk-wanted-requires-2 t)
-    (walk-pass-requires-3 t)
     (walk-loop-less-2 t)
     (walk-loop-again-2 t)
+    (walk-trace-requires t)
+    (walk-loop-less-3 t)
+    (walk-loop-again-3 t)
     (walk-mul-walk t)
     (walk-sub-walk t)
     (walk-part-walk-start t)
@@ -359,9 +366,10 @@ pub +walk-spec : {M : Type 1} → statement M
     (walk-walk-requires t)
     (walk-enum-told-6 t)
     (walk-restore-requires t)
-    (walk-pass-requires-4 t)
-    (walk-loop-less-3 t)
-    (walk-loop-again-3 t)
+    (walk-wanted-requires-3 t)
+    (walk-pass-requires-3 t)
+    (walk-loop-less-4 t)
+    (walk-loop-again-4 t)
     (walk-unwind-requires t)
     (walk-leave-requires t)
     (walk-add-j t)
