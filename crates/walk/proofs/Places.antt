@@ -171,6 +171,27 @@ unwound-traced t m l h k = go (eqb m 0) refl
         let f : t / 2 ^ 48 ≡ 0 = omega arith in
         rw (e, a, b, c, d, f, g, restored-none)
 
+-- a trail with none, one or two marks
+pub unwound-zero : (t : ℕ) (l : List ℕ) → t ≡ 0 → l ≡ unwound t l
+unwound-zero t l e = rw e (sym (unwound-none l))
+
+pub unwound-one : (t : ℕ) (l m : List ℕ) → t < 65536 → m ≡ restored (t % 2 ^ 16) l → m ≡ unwound t l
+unfolding unwound
+unwound-one t l m h e =
+    let a : t / 2 ^ 48 ≡ 0 = omega arith in
+    let b : t / 2 ^ 32 % 2 ^ 16 ≡ 0 = omega arith in
+    let c : t / 2 ^ 16 % 2 ^ 16 ≡ 0 = omega arith in
+    let n = restored-none (restored (t % 2 ^ 16) l) in
+    rw (a, b, c, n, n, n) e
+
+pub unwound-two : (t : ℕ) (l k m : List ℕ) → t < 4294967296 → k ≡ restored (t % 2 ^ 16) l → m ≡ restored (t / 2 ^ 16 % 2 ^ 16) k → m ≡ unwound t l
+unfolding unwound
+unwound-two t l k m h e f =
+    let a : t / 2 ^ 48 ≡ 0 = omega arith in
+    let b : t / 2 ^ 32 % 2 ^ 16 ≡ 0 = omega arith in
+    let n = restored-none (restored (t / 2 ^ 16 % 2 ^ 16) (restored (t % 2 ^ 16) l)) in
+    rw (a, b, n, n) (f ∙ ap (restored (t / 2 ^ 16 % 2 ^ 16)) e)
+
 -- a query has at most 8 literals and 64 words
 pub few-literals : {d t : List ℕ} {h : ℕ} {l : List ℕ} → Ready d t h l → length (literals d) ≤ 8
 few-literals {d} R = accepted d (R .whole) .few

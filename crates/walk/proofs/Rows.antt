@@ -1,20 +1,22 @@
 -- The walk at a place of a row, in the terms of the loop over siblings: the words from that place on.
 use Prim.Native.Nat.{ℕ, zero, suc, pred, _+_, _-_, _*_, _/_, _%_, _^_, _≤_, _<_}
-use mathlib.Core.Path.{_≡_, refl, sym, _∙_}
-use mathlib.Core.Bool.{Bool, true, false, cond}
+use mathlib.Core.Path.{_≡_, refl, sym, ap, _∙_}
+use mathlib.Core.Bool.{Bool, true, false, _&&_, _||_, not, cond}
 use mathlib.Core.Option.{Option, none, some}
-use mathlib.Core.List.{List, _∷_}
+use mathlib.Core.List.{List, [], _∷_}
 use native.Mathlib.Omega.{arith}
 use native.Mathlib.Numerals.{add-one}
-use lib.Dec.{ltb, eqb}
+use native.Mathlib.Decide.{ℕ-discrete}
+use lib.Dec.{leb, ltb, eqb}
 use lib.ListN.{length, getD, take, drop, length-drop, drop-of-length-le}
 use lib.Seq.{drop-cons, drop-drop}
-use borrow.Author.Tests.{le-leb, lt-leb, eq-eqb, ne-eqb}
+use borrow.Author.Tests.{le-leb, lt-leb, lt-ltb, eq-eqb, ne-eqb}
 use Rattle.clause.specs.Clause.{literals, maxLiterals}
 use Rattle.machine.specs.Instr.{Instr, First, Do, Success, Check, instruction, instrOf}
 use Rattle.machine.specs.Machine.{State, Outcome, next, fails, stuck, step, stepFrom, stepAt, enter, finish, require}
+use Rattle.tree.specs.Keys.{inner}
 use Rattle.tree.specs.Laid.{keyOf, extentOf}
-use Rattle.walk.specs.Walk.{Machine, covered, notCovered, broken, Part, andThen, follow, tries, visitAt, visit, upTo}
+use Rattle.walk.specs.Walk.{Machine, Answer, covered, notCovered, spent, broken, Part, andThen, follow, tries, visitAt, visit, upTo}
 use Rattle.walk.specs.Words.{extends, walkWords}
 use Rattle.walk.specs.Query.{machine}
 use Rattle.walk.specs.Cells.{Met, past, bad, hit, firsts, below, stepped, reached, metAs, meeting, entered, Passed}
@@ -43,6 +45,18 @@ module _ (w room : ℕ) (some-room : 1 ≤ room) where
   unfolding extends
   extends-success l h e =
       rw (le-leb 1 (extentOf w) l, le-leb (extentOf w) (suc (room - 1)) (omega arith), success-word w, eq-eqb (w / 2 ^ 60) 0 e)
+
+-- the same, as `meet` tests it: an extent in the row is right, but on a Success only where it is 1
+module _ (w room : ℕ) (some-room : 1 ≤ room) {x : ℕ} (e : x ≡ extentOf w) (some-words : x ≡ 0 → ⊥) (inside : x ≤ room) where
+  pub extends-in : (w / 2 ^ 60 ≡ 0 → x ≡ 1) → extends w (room - 1) ≡ true
+  extends-in one = go (ℕ-discrete (w / 2 ^ 60) 0)
+    where
+      go : Dec (w / 2 ^ 60 ≡ 0) → extends w (room - 1) ≡ true
+      go (yes z) = extends-success w room some-room (omega arith) (omega arith) z ∙ eq-eqb (extentOf w) 1 (sym e ∙ one z)
+      go (no n) = extends-inner w room some-room (omega arith) (omega arith) n
+
+  pub extends-more : w / 2 ^ 60 ≡ 0 → (x ≡ 1 → ⊥) → extends w (room - 1) ≡ false
+  extends-more z n = extends-success w room some-room (omega arith) (omega arith) z ∙ ne-eqb (extentOf w) 1 (λ o. n (e ∙ o))
 
 -- past the last word of a row
 pub row-end : (M : Machine) (allow : ℕ → Bool) (T : List ℕ) (at : ℕ) (s : M .State) (c : ℕ) → length T ≤ at → walkWords M allow (drop at T) s c ≡ notCovered c
@@ -168,11 +182,11 @@ passed-none T at key h = record { inside = h; further = omega arith; same = λ d
 
 pub passed-more :
     (T : List ℕ) (at key i : ℕ) → Passed T at key i → (key ≡ 0 → ⊥) → i < length T → getD T i 0 / 2 ^ 60 ≡ 7 → (getD T i 0 / 2 ^ 28 ≡ key → ⊥)
-    → (x : ℕ) → x ≡ extentOf (getD T i 0) → (x ≡ 0 → ⊥) → x ≤ length T - i → Passed T at key (i + x)
+    → (x : ℕ) → x ≡ extentOf (getD T i 0) → (x ≡ 0 → ⊥) → i + x ≤ length T → Passed T at key (i + x)
 passed-more T at key i P n h op ne x e z fit =
     record {
       inside = omega arith;
       further = omega arith;
-      same = λ d allow s p c g f. P .same d allow s p c g f ∙ fails-there d allow T i h s p c key g f op ne x e (omega arith) fit;
+      same = λ d allow s p c g f. P .same d allow s p c g f ∙ fails-there d allow T i h s p c key g f op ne x e (omega arith) (omega arith);
       none = λ g. absurd (n g);
     }

@@ -265,6 +265,14 @@ module _ (d : List ℕ) (w room : ℕ) (s : State) where
     unfolding meeting metAs instruction
     met-ninth e f g = rw (ok, instrOf-word w, sym e ∙ f, le-ltb (length (s .chosen)) 8 g)
 
+-- any word but a First before a candidate
+pub met-early : (d : List ℕ) (w room : ℕ) (s : State) {op : ℕ} → op ≡ w / 2 ^ 60 → (op ≡ 1 → ⊥) → s .head ≡ none → meeting d w room s ≡ bad
+met-early d w room s {op} e n h = go (extends w (room - 1)) refl
+  where
+    go : (v : Bool) → extends w (room - 1) ≡ v → meeting d w room s ≡ bad
+    go false f = met-unfit d w room s f
+    go true f = met-word d w room s f e refl ∙ early d op (w / 2 ^ 28 % 2 ^ 32) s h n
+
 -- the operations at a head
 module _ (d t : List ℕ) (h : ℕ) (l : List ℕ) (R : Ready d t h l) (inside : h < length d) (op x : ℕ) where
   at-step : (y : Step) → instruction op x ≡ some (Do y) → metAs d (instruction op x) (stateOf h l) ≡ stepped (stepAt d y (stateOf h l) h)

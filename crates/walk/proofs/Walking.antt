@@ -1,5 +1,5 @@
 -- The walk along a row: what holds at each word that the loop over siblings meets.
-use Prim.Native.Nat.{ℕ, suc, _+_, _-_, _/_, _%_, _^_, _≤_, _<_}
+use Prim.Native.Nat.{ℕ, zero, suc, _+_, _-_, _*_, _/_, _%_, _^_, _≤_, _<_}
 use mathlib.Core.Path.{_≡_, refl, sym, ap, _∙_}
 use mathlib.Core.Logic.{_⊎_, ⊎-elim}
 use mathlib.Core.Bool.{Bool, true, false, cond}
@@ -8,7 +8,7 @@ use mathlib.Core.List.{List}
 use native.Mathlib.Omega.{arith}
 use native.Mathlib.Decide.{decLt}
 use lib.Dec.{ltb}
-use lib.ListN.{length, getD, take, drop, length-set, length-drop}
+use lib.ListN.{length, getD, take, drop, set, length-set, length-drop}
 use lib.Seq.{getD-set-other, take-all}
 use borrow.Author.Tests.{lt-ltb, le-ltb, ltb-true}
 use Rattle.clause.specs.Clause.{literals, maxLiterals}
@@ -17,18 +17,18 @@ use Rattle.machine.specs.Instr.{Instr, First, Do, Success, instrOf}
 use Rattle.machine.specs.Machine.{State, Outcome, next, fails, stuck, step, finish}
 use Rattle.machine.proofs.Safe.{Safe, step-safe, starting-safe}
 use Rattle.tree.specs.Laid.{keyOf, extentOf}
-use Rattle.walk.specs.Walk.{covered, notCovered, broken, Part, andThen, upTo}
+use Rattle.walk.specs.Walk.{Answer, covered, notCovered, broken, Part, andThen, upTo}
 use Rattle.walk.specs.Words.{extends, walkWords}
-use Rattle.walk.specs.Query.{machine}
-use Rattle.walk.specs.Cells.{stateOf, Ready, Met, past, bad, firsts, below, stepped, reached, metAs, meeting, metOf, Stored, nothing, store, Visited, traced, unwound, restored, wantedAt, Passed, startAt, Begun, Walked, entered, passesOf}
+use Rattle.walk.specs.Query.{machine, shown}
+use Rattle.walk.specs.Cells.{placeOf, stateOf, Ready, Met, past, bad, hit, firsts, below, stepped, reached, metAs, meeting, metOf, Stored, nothing, store, Visited, traced, unwound, restored, wantedAt, Passed, candidate, startAt, Begun, Walked, entered, passesOf, outBy, seen}
 use Rattle.walk.specs.declared.Go.{Go}
 use Rattle.walk.specs.declared.Go.the-variants.{Fails, Stuck, Hit, Tries, Below}
 use Rattle.walk.specs.declared.Visit.{Visit}
 use Rattle.walk.specs.declared.End.the-variants.{Missed}
 use Rattle.walk.specs.declared.Finding.{Finding}
 use Rattle.walk.proofs.Region.{then-nothing, extends-within}
-use Rattle.walk.proofs.Rows.{row-end, goingOn, meets}
-use Rattle.walk.proofs.Places.{restored-stored, unwound-none, unwound-traced, candidate-size, candidate-count}
+use Rattle.walk.proofs.Rows.{row-end, extends-some, goingOn, meets}
+use Rattle.walk.proofs.Places.{restored-none, restored-stored, unwound-none, unwound-traced, candidate-size, candidate-count, few-literals}
 use Rattle.walk.proofs.Visits.{head-some, chosen-length}
 use Rattle.walk.proofs.Passes.{runs, runs-first, runs-plain, then-on, then-ends, missed-of}
 
@@ -155,12 +155,11 @@ passing d t b h l R words at wanted n e {r} P = go (decLt h (length d))
     go (yes g) = P .same d (upTo b) (stateOf h l) h n (head-some d t h l R g) (rw (lt-ltb h (length d) g) at e)
     go (no g) = let z : wanted ≡ 0 = rw (le-ltb h (length d) (omega arith)) at e in rw (P .none z)
 
--- at the place `at` of a row: the state in the cells, the Check that fits, the way back to the cells at the row's beginning,
+-- at the place `at` of a row: the state in the cells, the way back to the cells at the row's beginning,
 -- and that the walk of the row from its beginning is the walk from here on
-pub record Walking (d t words : List ℕ) (b : ℕ) (s : State) (n₀ : ℕ) (cells₀ cells : List ℕ) (n here wanted trail at : ℕ) : Type 0 where
+pub record Walking (d t words : List ℕ) (b : ℕ) (s : State) (n₀ : ℕ) (cells₀ cells : List ℕ) (n here trail at : ℕ) : Type 0 where
   pub inside : at ≤ length words
   pub ready : Ready d t here cells
-  pub key : wanted ≡ wantedAt d here
   pub undo : unwound trail cells ≡ cells₀
   pub same : walkWords (machine d) (upTo b) words s n₀ ≡ walkWords (machine d) (upTo b) (drop at words) (stateOf here cells) n
 
@@ -196,18 +195,17 @@ begun-ready d t h l R true j more B =
     }
 
 pub walking-start : (d t words : List ℕ) (b h : ℕ) (l : List ℕ) → Ready d t h l → (n wanted : ℕ) → wanted ≡ wantedAt d h → {r : ℕ} → Passed words 0 wanted r
-    → Walking d t words b (stateOf h l) n l l n h wanted 0 r
-walking-start d t words b h l R n wanted e P = record { inside = P .inside; ready = R; key = e; undo = unwound-none l; same = passing d t b h l R words 0 wanted n e P }
+    → Walking d t words b (stateOf h l) n l l n h 0 r
+walking-start d t words b h l R n wanted e P = record { inside = P .inside; ready = R; undo = unwound-none l; same = passing d t b h l R words 0 wanted n e P }
 
 -- the end of a row
-pub walking-end : {d t words : List ℕ} {b : ℕ} {s : State} {n₀ : ℕ} {cells₀ cells : List ℕ} {n here wanted trail at : ℕ}
-    → Walking d t words b s n₀ cells₀ cells n here wanted trail at → length words ≤ at → walkWords (machine d) (upTo b) words s n₀ ≡ notCovered n
+pub walking-end : {d t words : List ℕ} {b : ℕ} {s : State} {n₀ : ℕ} {cells₀ cells : List ℕ} {n here trail at : ℕ}
+    → Walking d t words b s n₀ cells₀ cells n here trail at → length words ≤ at → walkWords (machine d) (upTo b) words s n₀ ≡ notCovered n
 walking-end {d = d} {words = words} {b = b} {cells = cells} {n = n} {here = here} {at = at} W h = W .same ∙ row-end (machine d) (upTo b) words at (stateOf here cells) n h
 
 -- at a word: what the visit gives, then the words after it
-module _
-    {d t words : List ℕ} {b : ℕ} {s : State} {n₀ : ℕ} {cells₀ cells : List ℕ} {n here wanted trail at : ℕ} (W : Walking d t words b s n₀ cells₀ cells n here wanted trail at)
-    (h : at < length words) {x : ℕ} (e : x ≡ extentOf (getD words at 0)) {m : List ℕ} {v : Visit}
+module _ (d t words : List ℕ) (b : ℕ) (s : State) (n₀ : ℕ) (cells₀ cells : List ℕ) (n here trail at : ℕ) (W : Walking d t words b s n₀ cells₀ cells n here trail at)
+    (h : at < length words) (x : ℕ) (e : x ≡ extentOf (getD words at 0)) (m : List ℕ) (v : Visit)
     (met : Visited (meeting d (getD words at 0) (length words - at) (stateOf here cells)) cells m v) where
   abbrev part : State → Part State
   part = walkWords (machine d) (upTo b) (take (at + x - (at + 1)) (drop (at + 1) words))
@@ -244,28 +242,35 @@ module _
   node-hit g = node ∙ rw g
 
   -- a word that fails
-  pub node-fails : v .go ≡ Fails → {r : ℕ} → Passed words (at + x) wanted r → Walking d t words b s n₀ cells₀ m n here wanted trail r
+  pub node-fails : v .go ≡ Fails → (key : ℕ) → key ≡ wantedAt d here → {r : ℕ} → Passed words (at + x) key r → Walking d t words b s n₀ cells₀ m n here trail r
   unfolding metOf goingOn
-  node-fails g {r} P =
+  node-fails g key k {r} P =
       let c : m ≡ cells = met .still g in
       let f : walkWords (machine d) (upTo b) words s n₀ ≡ rest n = node ∙ rw g in
-      rw c (record { inside = P .inside; ready = W .ready; key = W .key; undo = W .undo; same = f ∙ passing d t b here cells (W .ready) words (at + x) wanted n (W .key) P })
+      rw c (record { inside = P .inside; ready = W .ready; undo = W .undo; same = f ∙ passing d t b here cells (W .ready) words (at + x) key n k P })
 
   -- the last word of a row: what stands below it is the row from here on
-  pub node-last : v .go ≡ Below → at + x ≡ length words → trail < 2 ^ 48 → {to : ℕ} → to ≡ traced trail (v .mark) → (key : ℕ) → key ≡ wantedAt d (v .head) → {r : ℕ} → Passed words (at + 1) key r
-      → Walking d t words b s n₀ cells₀ m n (v .head) key to r
+  node-on : v .go ≡ Below → at + x ≡ length words → (to : ℕ) → unwound to m ≡ unwound trail cells → Walking d t words b s n₀ cells₀ m n (v .head) to (at + 1)
   unfolding metOf goingOn
-  node-last g last room {to} tr key k P =
+  node-on g last to u =
       let R = visit-below d t here cells (W .ready) (getD words at 0) (length words - at) (omega arith) m v met g in
       let all : take (at + x - (at + 1)) (drop (at + 1) words) ≡ drop (at + 1) words = take-all (at + x - (at + 1)) (drop (at + 1) words) (simp length-drop (omega arith)) in
-      let u : unwound to m ≡ unwound trail cells = rw tr (unwound-traced trail (v .mark) m room (stored-small (met .stored)) ∙ rw (restored-stored (met .stored))) in
       let f : walkWords (machine d) (upTo b) words s n₀ ≡ part (stateOf (v .head) m) n =
       node ∙ rw g (then-nothing (part (stateOf (v .head) m) n) rest (λ c. row-end (machine d) (upTo b) words (at + x) (stateOf here cells) c (omega arith))) in
-      record { inside = P .inside; ready = R; key = k; undo = u ∙ W .undo; same = f ∙ rw all (passing d t b (v .head) m R words (at + 1) key n k P) }
+      record { inside = omega arith; ready = R; undo = u ∙ W .undo; same = f ∙ rw all }
+
+  -- it stores nothing
+  pub node-plain : v .go ≡ Below → at + x ≡ length words → v .mark ≡ 0 → Walking d t words b s n₀ cells₀ m n (v .head) trail (at + 1)
+  node-plain g last z =
+      let c : m ≡ cells = sym (restored-none m) ∙ ap (λ (k : ℕ). restored k m) (sym z) ∙ restored-stored (met .stored) in
+      node-on g last trail (ap (unwound trail) c)
+
+  -- its store goes on the trail
+  pub node-last : v .go ≡ Below → at + x ≡ length words → trail < 2 ^ 48 → {to : ℕ} → to ≡ traced trail (v .mark) → Walking d t words b s n₀ cells₀ m n (v .head) to (at + 1)
+  node-last g last room {to} tr = node-on g last to (rw tr (unwound-traced trail (v .mark) m room (stored-small (met .stored)) ∙ rw (restored-stored (met .stored))))
 
   -- a call on the words below: the candidates of a First, or below any other word
-  module _
-      {first : Bool} (kind : ((v .go ≡ Tries) × (first ≡ true)) ⊎ ((v .go ≡ Below) × (first ≡ false))) {out : List ℕ} {r : Finding}
+  module _ (first : Bool) (kind : ((v .go ≡ Tries) × (first ≡ true)) ⊎ ((v .go ≡ Below) × (first ≡ false))) (out : List ℕ) (r : Finding)
       (walked : Walked (entered d b first part (stateOf (v .head) m) n) m out r) where
     node-call : walkWords (machine d) (upTo b) words s n₀ ≡ andThen (entered d b first part (stateOf (v .head) m) n) rest
     unfolding metOf goingOn entered
@@ -277,9 +282,9 @@ module _
     pub node-back : r .end ≡ Missed → restored (v .mark) out ≡ cells
     node-back e = ap (restored (v .mark)) (walked .back e) ∙ restored-stored (met .stored)
 
-    pub node-missed : r .end ≡ Missed → {p : ℕ} → Passed words (at + x) wanted p → {l : List ℕ} → l ≡ restored (v .mark) out → Walking d t words b s n₀ cells₀ l (r .count) here wanted trail p
-    node-missed e P f =
+    pub node-missed : r .end ≡ Missed → (key : ℕ) → key ≡ wantedAt d here → {p : ℕ} → Passed words (at + x) key p → {l : List ℕ} → l ≡ restored (v .mark) out → Walking d t words b s n₀ cells₀ l (r .count) here trail p
+    node-missed e key k P f =
         let c = f ∙ node-back e in
         let g : walkWords (machine d) (upTo b) words s n₀ ≡ rest (r .count) =
         node-call ∙ then-on rest (missed-of (entered d b first part (stateOf (v .head) m) n) (r .end) (r .count) out e (walked .comes)) in
-        rw c (record { inside = P .inside; ready = W .ready; key = W .key; undo = W .undo; same = g ∙ passing d t b here cells (W .ready) words (at + x) wanted (r .count) (W .key) P })
+        rw c (record { inside = P .inside; ready = W .ready; undo = W .undo; same = g ∙ passing d t b here cells (W .ready) words (at + x) key (r .count) k P })

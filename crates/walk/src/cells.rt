@@ -43,8 +43,17 @@ pub fn unwind(cells: &mut [u8; 137], trail: u64)
     requires { ⌜ length (now cells) ≡ 137 ⌝ }
     ensures { λ _. ⌜ now (cells .exit) ≡ unwound trail (now (cells .entry)) ⌝ }
 {
+    if trail == 0 {
+        return;
+    }
     restore(cells, trail % 65536);
+    if trail < 65536 {
+        return;
+    }
     restore(cells, trail / 65536 % 65536);
+    if trail < 4294967296 {
+        return;
+    }
     restore(cells, trail / 4294967296 % 65536);
     restore(cells, trail / 281474976710656);
 }

@@ -1,9 +1,8 @@
 // The words of a row: their fields, and the Checks that fail among them.
 ghost use mathlib.Core.Path.{_≡_};
-ghost use Prim.Native.Nat.{_≤_, _<_, _-_, _/_, _%_, _^_};
+ghost use Prim.Native.Nat.{_≤_, _/_, _%_, _^_};
 ghost use lib.ListN.{length};
 ghost use Rattle.tree.specs.Laid.{extentOf};
-ghost use Rattle.walk.specs.Words.{extends};
 ghost use Rattle.walk.specs.Cells.{wantedAt, Passed};
 
 // How many words a node has, with all below it.
@@ -25,24 +24,6 @@ pub fn operand(w: u64) -> u32
     ensures { λ r. ⌜ r ≡ w / 2 ^ 28 % 2 ^ 32 ⌝ }
 {
     (w / 268435456 % 4294967296) as u32
-}
-
-// Whether the extent of a word is right, with so many words in its row from it on.
-pub fn fits(w: u64, room: usize) -> bool
-    requires { ⌜ 1 ≤ room ⌝ }
-    ensures { λ r. ⌜ r ≡ extends w (room - 1) ⌝ }
-{
-    let words = extent(w);
-    if words == 0 {
-        return false;
-    }
-    if words > room {
-        return false;
-    }
-    if operation(w) == 0 {
-        return words == 1;
-    }
-    true
 }
 
 // The key of the Check that fits at the head.
@@ -77,10 +58,11 @@ pub fn pass(words: &[u64], at: usize, key: u64) -> usize
         if words_below == 0 {
             return i;
         }
-        if words_below > words.len() - i {
+        let to = i + words_below;
+        if to > words.len() {
             return i;
         }
-        i += words_below;
+        i = to;
     }
     i
 }

@@ -265,7 +265,11 @@ pub fn meet(
         head: head,
         mark: 0,
     };
-    if !row::fits(w, room) {
+    let words = row::extent(w);
+    if words == 0 {
+        return stuck;
+    }
+    if words > room {
         return stuck;
     }
     let op = row::operation(w);
@@ -281,6 +285,11 @@ pub fn meet(
     }
     if head >= query.len() {
         return stuck;
+    }
+    if op == 0 {
+        if words != 1 {
+            return stuck;
+        }
     }
     act(op, row::operand(w), query, tables, cells, head)
 }

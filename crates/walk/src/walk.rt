@@ -60,9 +60,8 @@ pub fn walk(
         }
         let kept = held(cells);
         let mut here = begin(query, tables, cells, first, head, j);
-        let mut key = wanted(query, here);
         let mut trail: u64 = 0;
-        let mut at = pass(words, 0, key);
+        let mut at = pass(words, 0, wanted(query, here));
         while at < words.len() {
             let w = words[at];
             let v = meet(w, words.len() - at, query, tables, cells, here);
@@ -79,17 +78,21 @@ pub fn walk(
                     count: n,
                 },
                 Go::Fails => {
-                    at = pass(words, to, key);
+                    at = pass(words, to, wanted(query, here));
                     continue;
                 }
                 Go::Tries => true,
                 Go::Below => {
                     if to == words.len() {
+                        if v.mark == 0 {
+                            here = v.head;
+                            at = from;
+                            continue;
+                        }
                         if trail < 281474976710656 {
                             trail = trace(trail, v.mark);
                             here = v.head;
-                            key = wanted(query, here);
-                            at = pass(words, from, key);
+                            at = from;
                             continue;
                         }
                     }
@@ -112,7 +115,7 @@ pub fn walk(
             };
             restore(cells, v.mark);
             n = finding.count;
-            at = pass(words, to, key);
+            at = pass(words, to, wanted(query, here));
         }
         unwind(cells, trail);
         leave(cells, first, kept);

@@ -35,14 +35,11 @@ returns-3 c = c .before .before .before .before .loop .inv .1
 returns-4 : tie.Need-returns-4 Inv-loop μ-loop
 returns-4 c = c .before .before .before .before .before .loop .inv .1
 
-sub-if5 : tie.Need-sub-if5 Inv-loop μ-loop
-sub-if5 c = search needs
+add-to : tie.Need-add-to Inv-loop μ-loop
+add-to c = search needs
 
 returns-5 : tie.Need-returns-5 Inv-loop μ-loop
 returns-5 c = c .before .before .before .before .before .before .loop .inv .1
-
-add-i : tie.Need-add-i Inv-loop μ-loop
-add-i c = search needs
 
 loop-less : tie.Need-loop-less Inv-loop μ-loop
 loop-less c = search needs
@@ -73,9 +70,8 @@ pass-spec =
     returns-2
     returns-3
     returns-4
-    sub-if5
+    add-to
     returns-5
-    add-i
     loop-less
     loop-again
     returns-6)

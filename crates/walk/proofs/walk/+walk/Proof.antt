@@ -8,18 +8,19 @@ use mathlib.Core.List.{List, [], _∷_}
 use Prim.Native.Nat.{ℕ, _+_, _-_, _≤_, _<_}
 use native.Mathlib.Omega.{arith}
 use types.Run.{miss}
-use lib.ListN.{length, getD, length-take, length-drop}
+use lib.ListN.{length, getD, take, drop, length-take, length-drop}
 use borrow.Author.Needs.{needs}
 use borrow.Fn.Kinds.{In}
 use borrow.Fn.PlainCycle.{Measures, is, falls, and}
-use Rattle.walk.specs.Walk.{andThen, upTo}
+use Rattle.walk.specs.Walk.{Answer, andThen, upTo}
 use Rattle.walk.specs.Words.{walkWords}
 use Rattle.walk.specs.Query.{machine}
 use Rattle.walk.specs.Cells.{stateOf, entered, passesOf, candidate, Ready}
-use Rattle.walk.proofs.Passes.{runs, runs-whole, runs-end, runs-spent, then-on, then-broken, then-covered, then-found, walked-missed, walked-spent, walked-broken, walked-found, walked-same}
+use Rattle.walk.proofs.Passes.{runs, runs-whole, runs-end, runs-spent, then-on, then-ends, then-broken, then-covered, then-found, walked-missed, walked-spent, walked-broken, walked-found, walked-same}
 use Rattle.walk.proofs.Places.{candidate-size, candidate-count, dropped-candidate}
 use Rattle.walk.specs.declared.End.the-variants.{Missed}
-use Rattle.walk.proofs.Walking.{Walking, walking-start, walking-end, begun-ready, pass-literal, turn, stored-size, stored-small, node-stuck, node-hit, node-ends, fits-fails, fits-below, fits-tries, visit-below, visit-tries, node-fails, node-last, node-missed}
+use Rattle.machine.specs.Machine.{State}
+use Rattle.walk.proofs.Walking.{Walking, walking-start, walking-end, begun-ready, pass-literal, turn, stored-size, stored-small, node-stuck, node-hit, node-ends, fits-fails, fits-below, fits-tries, visit-below, visit-tries, node-fails, node-plain, node-last, node-missed}
 use Rattle.walk.proofs.Visits.{chosen-length}
 use Rattle.walk.proofs.walk.walk.Reads as walk
 use Rattle.walk.proofs.walk.walk.Kinds as walk-kinds
@@ -80,11 +81,11 @@ rs t = (
 )
 
 abbrev walk-Inv-loop : walk-lts.InvT-loop
-walk-Inv-loop words query tables cells₀ first head count budget last n₀ j kept here₀ key₀ trail₀ at₀ cells n here key trail at =
-    Walking query tables words budget (stateOf here₀ cells₀) n₀ cells₀ cells n here key trail at
+walk-Inv-loop words query tables cells₀ first head count budget last n₀ j kept here₀ trail₀ at₀ cells n here trail at =
+    Walking query tables words budget (stateOf here₀ cells₀) n₀ cells₀ cells n here trail at
 
 abbrev walk-μ-loop : walk-lts.MeasureT-loop
-walk-μ-loop words query tables cells₀ first head count budget last n₀ j kept here₀ key₀ trail₀ at₀ cells n here key trail at = length words - at
+walk-μ-loop words query tables cells₀ first head count budget last n₀ j kept here₀ trail₀ at₀ cells n here trail at = length words - at
 
 abbrev walk-Inv-tries : walk-lts.InvT-tries
 walk-Inv-tries words query tables cells₀ first head count budget last n₀ j₀ cells n j =
@@ -117,16 +118,12 @@ next-turn : (t : ℕ) (c : walk-lts.After-begin (rs t) (walk-at t) walk.Post wal
     ≡ andThen (k (stateOf (c .begin .result) (c .begin .last .1 .1 .0)) (c .before .before .before .before .if2 .n))
     (runs (a .query .now) (a .budget) (a .first) k s (c .before .before .before .before .before .before .before .passes .result - (j + 1)) (j + 1))
 next-turn t c =
-    let c4 = c .before .before .before .before in
-    let c5 = c4 .before in
-    let c6 = c5 .before in
-    let c10 = c6 .before .before .before .before in
-    let a = c10 .args in
-    let p = c10 .pre .1 in
-    let i = c6 .tries .inv in
+    let a = c .before .before .before .before .before .before .before .before .before .before .args in
+    let p = c .before .before .before .before .before .before .before .before .before .before .pre .1 in
+    let i = c .before .before .before .before .before .before .tries .inv in
     i .2
-    ∙ turn (a .query .now) (a .budget) _ (a .first) (a .head) (a .cells .now) _ (i .1) (λ e. rw (chosen-length _ _ _ _ (p .0)) (p .1 e)) _ _ _ _ (c5 .if1 .left)
-    (⊎-elim (λ w. inl (w .0 .taken, w .1 .left, w .2)) (λ w. inr (w .0 .left, w .1)) (c4 .if2 .came)) _ _ (c .begin .ensures)
+    ∙ turn (a .query .now) (a .budget) _ (a .first) (a .head) (a .cells .now) _ (i .1) (λ e. rw (chosen-length _ _ _ _ (p .0)) (p .1 e)) _ _ _ _ (c .before .before .before .before .before .if1 .left)
+    (⊎-elim (λ w. inl (w .0 .taken, w .1 .left, w .2)) (λ w. inr (w .0 .left, w .1)) (c .before .before .before .before .if2 .came)) _ _ (c .begin .ensures)
 
 walk-passes-requires : (t : ℕ) → walk-lts.Need-passes-requires (rs t) (walk-at t) walk.Post walk-Inv-loop walk-μ-loop walk-Inv-tries walk-μ-tries
 walk-passes-requires t c κs = search needs
@@ -150,12 +147,8 @@ walk-pass-requires : (t : ℕ) → walk-lts.Need-pass-requires (rs t) (walk-at t
 walk-pass-requires t c κs = omega arith
 
 walk-loop-holds : (t : ℕ) → walk-lts.Need-loop-holds (rs t) (walk-at t) walk.Post walk-Inv-loop walk-μ-loop walk-Inv-tries walk-μ-tries
-walk-loop-holds t c =
-    let c7 = c .before .before .before .before .before .before .before in
-    let c8 = c7 .before in
-    let c12 = c8 .before .before .before .before in
-    let a = c12 .args in
-    walking-start (a .query .now) (a .tables .now) (a .words .now) (a .budget) _ _ (begun-ready _ _ _ _ (ready t (c8)) (a .first) _ (more t (c7)) (c .before .before .begin .ensures)) _ _ (c .before .wanted .ensures) (c .pass .ensures)
+walk-loop-holds t c = let a = c .before .before .before .before .before .before .before .before .before .before .before .before .args in
+    walking-start (a .query .now) (a .tables .now) (a .words .now) (a .budget) _ _ (begun-ready _ _ _ _ (ready t (c .before .before .before .before .before .before .before .before)) (a .first) _ (more t (c .before .before .before .before .before .before .before)) (c .before .before .begin .ensures)) _ _ (c .before .wanted .ensures) (c .pass .ensures)
 
 walk-mul-w : (t : ℕ) → walk-lts.Need-mul-w (rs t) (walk-at t) walk.Post walk-Inv-loop walk-μ-loop walk-Inv-tries walk-μ-tries
 walk-mul-w t c = search needs
@@ -190,23 +183,17 @@ walk-operand-requires t c κs = search needs
 walk-enum-told-3 : (t : ℕ) → walk-lts.Need-enum-told-3 (rs t) (walk-at t) walk.Post walk-Inv-loop walk-μ-loop walk-Inv-tries walk-μ-tries
 walk-enum-told-3 t c = search needs
 
+walk-wanted-requires-2 : (t : ℕ) → walk-lts.Need-wanted-requires-2 (rs t) (walk-at t) walk.Post walk-Inv-loop walk-μ-loop walk-Inv-tries walk-μ-tries
+walk-wanted-requires-2 t c κs = search needs
+
 walk-pass-requires-2 : (t : ℕ) → walk-lts.Need-pass-requires-2 (rs t) (walk-at t) walk.Post walk-Inv-loop walk-μ-loop walk-Inv-tries walk-μ-tries
-walk-pass-requires-2 t c κs =
-    let c3 = c .before .before .before in
-    let c6 = c3 .before .before .before in
-    let c7 = c6 .before in
-    fits-fails (c7 .loop .inv) (c6 .loop-test .taken) (c .before .before .extent .ensures) (c3 .meet .ensures) (c .enum-told3 .given .1) .1
+walk-pass-requires-2 t c κs = fits-fails (c .before .before .before .before .before .before .before .before .before .before .before .before .before .before .before .before .before .before .before .before .before .args .query .now) (c .before .before .before .before .before .before .before .before .before .before .before .before .before .before .before .before .before .before .before .before .before .args .tables .now) (c .before .before .before .before .before .before .before .before .before .before .before .before .before .before .before .before .before .before .before .before .before .args .words .now) (c .before .before .before .before .before .before .before .before .before .before .before .before .before .before .before .before .before .before .before .before .before .args .budget) _ _ _ _ _ _ _ _ (c .before .before .before .before .before .before .before .before .loop .inv) (c .before .before .before .before .before .before .before .loop-test .taken) _ (c .before .before .before .extent .ensures) _ _ (c .before .before .before .before .meet .ensures) (c .before .enum-told3 .given .1) .1
 
 walk-loop-less : (t : ℕ) → walk-lts.Need-loop-less (rs t) (walk-at t) walk.Post walk-Inv-loop walk-μ-loop walk-Inv-tries walk-μ-tries
-walk-loop-less t c = let f = fits-fails (c .before .before .before .before .before .before .before .before .loop .inv) (c .before .before .before .before .before .before .before .loop-test .taken) (c .before .before .before .extent .ensures) (c .before .before .before .before .meet .ensures) (c .before .enum-told3 .given .1) in let p = c .pass2 .ensures .further in omega arith
+walk-loop-less t c = let f = fits-fails (c .before .before .before .before .before .before .before .before .before .before .before .before .before .before .before .before .before .before .before .before .before .before .args .query .now) (c .before .before .before .before .before .before .before .before .before .before .before .before .before .before .before .before .before .before .before .before .before .before .args .tables .now) (c .before .before .before .before .before .before .before .before .before .before .before .before .before .before .before .before .before .before .before .before .before .before .args .words .now) (c .before .before .before .before .before .before .before .before .before .before .before .before .before .before .before .before .before .before .before .before .before .before .args .budget) _ _ _ _ _ _ _ _ (c .before .before .before .before .before .before .before .before .before .loop .inv) (c .before .before .before .before .before .before .before .before .loop-test .taken) _ (c .before .before .before .before .extent .ensures) _ _ (c .before .before .before .before .before .meet .ensures) (c .before .before .enum-told3 .given .1) in let p = c .pass2 .ensures .further in omega arith
 
 walk-loop-again : (t : ℕ) → walk-lts.Need-loop-again (rs t) (walk-at t) walk.Post walk-Inv-loop walk-μ-loop walk-Inv-tries walk-μ-tries
-walk-loop-again t c =
-    let c3 = c .before .before .before in
-    let c4 = c3 .before in
-    let c7 = c4 .before .before .before in
-    let c8 = c7 .before in
-    node-fails (c8 .loop .inv) (c7 .loop-test .taken) (c3 .extent .ensures) (c4 .meet .ensures) (c .before .enum-told3 .given .1) (c .pass2 .ensures)
+walk-loop-again t c = node-fails (c .before .before .before .before .before .before .before .before .before .before .before .before .before .before .before .before .before .before .before .before .before .before .args .query .now) (c .before .before .before .before .before .before .before .before .before .before .before .before .before .before .before .before .before .before .before .before .before .before .args .tables .now) (c .before .before .before .before .before .before .before .before .before .before .before .before .before .before .before .before .before .before .before .before .before .before .args .words .now) (c .before .before .before .before .before .before .before .before .before .before .before .before .before .before .before .before .before .before .before .before .before .before .args .budget) _ _ _ _ _ _ _ _ (c .before .before .before .before .before .before .before .before .before .loop .inv) (c .before .before .before .before .before .before .before .before .loop-test .taken) _ (c .before .before .before .before .extent .ensures) _ _ (c .before .before .before .before .before .meet .ensures) (c .before .before .enum-told3 .given .1) _ (c .before .wanted2 .ensures) (c .pass2 .ensures)
 
 walk-enum-told-4 : (t : ℕ) → walk-lts.Need-enum-told-4 (rs t) (walk-at t) walk.Post walk-Inv-loop walk-μ-loop walk-Inv-tries walk-μ-tries
 walk-enum-told-4 t c = search needs
@@ -214,41 +201,30 @@ walk-enum-told-4 t c = search needs
 walk-enum-told-5 : (t : ℕ) → walk-lts.Need-enum-told-5 (rs t) (walk-at t) walk.Post walk-Inv-loop walk-μ-loop walk-Inv-tries walk-μ-tries
 walk-enum-told-5 t c = search needs
 
-walk-trace-requires : (t : ℕ) → walk-lts.Need-trace-requires (rs t) (walk-at t) walk.Post walk-Inv-loop walk-μ-loop walk-Inv-tries walk-μ-tries
-walk-trace-requires t c κs = (c .if5 .taken, stored-small (c .before .before .before .before .before .meet .ensures .stored))
-
-walk-wanted-requires-2 : (t : ℕ) → walk-lts.Need-wanted-requires-2 (rs t) (walk-at t) walk.Post walk-Inv-loop walk-μ-loop walk-Inv-tries walk-μ-tries
-walk-wanted-requires-2 t c κs = search needs
-
-walk-pass-requires-3 : (t : ℕ) → walk-lts.Need-pass-requires-3 (rs t) (walk-at t) walk.Post walk-Inv-loop walk-μ-loop walk-Inv-tries walk-μ-tries
-walk-pass-requires-3 t c κs = omega arith
-
 walk-loop-less-2 : (t : ℕ) → walk-lts.Need-loop-less-2 (rs t) (walk-at t) walk.Post walk-Inv-loop walk-μ-loop walk-Inv-tries walk-μ-tries
-walk-loop-less-2 t c = let p = c .pass3 .ensures .further in omega arith
+walk-loop-less-2 t c = omega arith
 
 walk-loop-again-2 : (t : ℕ) → walk-lts.Need-loop-again-2 (rs t) (walk-at t) walk.Post walk-Inv-loop walk-μ-loop walk-Inv-tries walk-μ-tries
-walk-loop-again-2 t c =
-    let c3 = c .before .before .before in
-    let c4 = c3 .before in
-    let c5 = c4 .before in
-    let c7 = c5 .before .before in
-    let c8 = c7 .before in
-    let c11 = c8 .before .before .before in
-    let c12 = c11 .before in
-    node-last (c12 .loop .inv) (c11 .loop-test .taken) (c7 .extent .ensures) (c8 .meet .ensures) (c5 .enum-told5 .given .1) (c4 .if4 .taken) (c3 .if5 .taken) (c .before .before .trace .ensures) _ (c .before .wanted2 .ensures) (c .pass3 .ensures)
+walk-loop-again-2 t c = node-plain (c .before .before .before .before .before .before .before .before .before .before .before .before .before .before .before .before .before .before .before .before .before .before .before .args .query .now) (c .before .before .before .before .before .before .before .before .before .before .before .before .before .before .before .before .before .before .before .before .before .before .before .args .tables .now) (c .before .before .before .before .before .before .before .before .before .before .before .before .before .before .before .before .before .before .before .before .before .before .before .args .words .now) (c .before .before .before .before .before .before .before .before .before .before .before .before .before .before .before .before .before .before .before .before .before .before .before .args .budget) _ _ _ _ _ _ _ _ (c .before .before .before .before .before .before .before .before .before .before .loop .inv) (c .before .before .before .before .before .before .before .before .before .loop-test .taken) _ (c .before .before .before .before .before .extent .ensures) _ _ (c .before .before .before .before .before .before .meet .ensures) (c .before .before .before .enum-told5 .given .1) (c .before .before .if4 .taken) (c .if5 .taken)
+
+walk-trace-requires : (t : ℕ) → walk-lts.Need-trace-requires (rs t) (walk-at t) walk.Post walk-Inv-loop walk-μ-loop walk-Inv-tries walk-μ-tries
+walk-trace-requires t c κs = (c .if6 .taken, stored-small (c .before .before .before .before .before .before .before .meet .ensures .stored))
+
+walk-loop-less-3 : (t : ℕ) → walk-lts.Need-loop-less-3 (rs t) (walk-at t) walk.Post walk-Inv-loop walk-μ-loop walk-Inv-tries walk-μ-tries
+walk-loop-less-3 t c = omega arith
+
+walk-loop-again-3 : (t : ℕ) → walk-lts.Need-loop-again-3 (rs t) (walk-at t) walk.Post walk-Inv-loop walk-μ-loop walk-Inv-tries walk-μ-tries
+walk-loop-again-3 t c = node-last (c .before .before .before .before .before .before .before .before .before .before .before .before .before .before .before .before .before .before .before .before .before .before .before .before .before .args .query .now) (c .before .before .before .before .before .before .before .before .before .before .before .before .before .before .before .before .before .before .before .before .before .before .before .before .before .args .tables .now) (c .before .before .before .before .before .before .before .before .before .before .before .before .before .before .before .before .before .before .before .before .before .before .before .before .before .args .words .now) (c .before .before .before .before .before .before .before .before .before .before .before .before .before .before .before .before .before .before .before .before .before .before .before .before .before .args .budget) _ _ _ _ _ _ _ _ (c .before .before .before .before .before .before .before .before .before .before .before .before .loop .inv) (c .before .before .before .before .before .before .before .before .before .before .before .loop-test .taken) _ (c .before .before .before .before .before .before .before .extent .ensures) _ _ (c .before .before .before .before .before .before .before .before .meet .ensures) (c .before .before .before .before .before .enum-told5 .given .1) (c .before .before .before .before .if4 .taken) (c .before .if6 .taken) (c .trace .ensures)
 
 -- the kind of a call: the candidates of a First, or below any other word
 kind : (t : ℕ) (c : walk-lts.At-match-came (rs t) (walk-at t) walk.Post walk-Inv-loop walk-μ-loop walk-Inv-tries walk-μ-tries)
     → ((c .before .before .meet .result .go ≡ Tries) × (c .match .below ≡ true)) ⊎ ((c .before .before .meet .result .go ≡ Below) × (c .match .below ≡ false))
-kind t c = ⊎-elim (λ w. inl (w .1 .given .1, w .2)) (⊎-elim (λ w. inr (w .1 .given .1, w .4)) (λ w. inr (w .1 .given .1, w .3))) (c .match .came)
+kind t c = ⊎-elim (λ w. inl (w .1 .given .1, w .2)) (⊎-elim (λ w. inr (w .1 .given .1, w .6)) (λ w. inr (w .1 .given .1, w .3))) (c .match .came)
 
 -- its words lie in the row
 called : (t : ℕ) (c : walk-lts.At-match-came (rs t) (walk-at t) walk.Post walk-Inv-loop walk-μ-loop walk-Inv-tries walk-μ-tries)
     → (1 ≤ c .before .extent .result) × (c .before .before .before .before .before .before .loop .at + c .before .extent .result ≤ length (c .before .before .before .before .before .before .before .before .before .before .before .before .before .before .before .before .before .before .before .args .words .now))
-called t c =
-    let c5 = c .before .before .before .before .before in
-    let c6 = c5 .before in
-    ⊎-elim (λ k. fits-tries (c6 .loop .inv) (c5 .loop-test .taken) (c .before .extent .ensures) (c .before .before .meet .ensures) (k .0)) (λ k. fits-below (c6 .loop .inv) (c5 .loop-test .taken) (c .before .extent .ensures) (c .before .before .meet .ensures) (k .0)) (kind t c)
+called t c = ⊎-elim (λ k. fits-tries (c .before .before .before .before .before .before .before .before .before .before .before .before .before .before .before .before .before .before .before .args .query .now) (c .before .before .before .before .before .before .before .before .before .before .before .before .before .before .before .before .before .before .before .args .tables .now) (c .before .before .before .before .before .before .before .before .before .before .before .before .before .before .before .before .before .before .before .args .words .now) (c .before .before .before .before .before .before .before .before .before .before .before .before .before .before .before .before .before .before .before .args .budget) _ _ _ _ _ _ _ _ (c .before .before .before .before .before .before .loop .inv) (c .before .before .before .before .before .loop-test .taken) _ (c .before .extent .ensures) _ _ (c .before .before .meet .ensures) (k .0)) (λ k. fits-below (c .before .before .before .before .before .before .before .before .before .before .before .before .before .before .before .before .before .before .before .args .query .now) (c .before .before .before .before .before .before .before .before .before .before .before .before .before .before .before .before .before .before .before .args .tables .now) (c .before .before .before .before .before .before .before .before .before .before .before .before .before .before .before .before .before .before .before .args .words .now) (c .before .before .before .before .before .before .before .before .before .before .before .before .before .before .before .before .before .before .before .args .budget) _ _ _ _ _ _ _ _ (c .before .before .before .before .before .before .loop .inv) (c .before .before .before .before .before .loop-test .taken) _ (c .before .extent .ensures) _ _ (c .before .before .meet .ensures) (k .0)) (kind t c)
 
 -- its state is ready
 called-ready : (t : ℕ) (c : walk-lts.At-match-came (rs t) (walk-at t) walk.Post walk-Inv-loop walk-μ-loop walk-Inv-tries walk-μ-tries)
@@ -280,29 +256,20 @@ walk-enum-told-6 : (t : ℕ) → walk-lts.Need-enum-told-6 (rs t) (walk-at t) wa
 walk-enum-told-6 t c = search needs
 
 walk-restore-requires : (t : ℕ) → walk-lts.Need-restore-requires (rs t) (walk-at t) walk.Post walk-Inv-loop walk-μ-loop walk-Inv-tries walk-μ-tries
-walk-restore-requires t c κs =
-    let c3 = c .before .before .before in
-    let c8 = c3 .before .before .before .before .before in
-    let c12 = c8 .before .before .before .before in
-    let v = c8 .meet .ensures .stored in
-    (ap (λ (l : List ℕ). length l) (c3 .walk .ensures .back (c .before .enum-told6 .given .1)) ∙ stored-size v ∙ c12 .loop .inv .ready .size, stored-small v)
+walk-restore-requires t c κs = let v = c .before .before .before .before .before .before .before .before .meet .ensures .stored in
+    (ap (λ (l : List ℕ). length l) (c .before .before .before .walk .ensures .back (c .before .enum-told6 .given .1)) ∙ stored-size v ∙ c .before .before .before .before .before .before .before .before .before .before .before .before .loop .inv .ready .size, stored-small v)
 
-walk-pass-requires-4 : (t : ℕ) → walk-lts.Need-pass-requires-4 (rs t) (walk-at t) walk.Post walk-Inv-loop walk-μ-loop walk-Inv-tries walk-μ-tries
-walk-pass-requires-4 t c κs = called t (c .before .before .before .before .before .before .before) .1
+walk-wanted-requires-3 : (t : ℕ) → walk-lts.Need-wanted-requires-3 (rs t) (walk-at t) walk.Post walk-Inv-loop walk-μ-loop walk-Inv-tries walk-μ-tries
+walk-wanted-requires-3 t c κs = search needs
 
-walk-loop-less-3 : (t : ℕ) → walk-lts.Need-loop-less-3 (rs t) (walk-at t) walk.Post walk-Inv-loop walk-μ-loop walk-Inv-tries walk-μ-tries
-walk-loop-less-3 t c = let f = called t (c .before .before .before .before .before .before .before .before) in let p = c .pass4 .ensures .further in omega arith
+walk-pass-requires-3 : (t : ℕ) → walk-lts.Need-pass-requires-3 (rs t) (walk-at t) walk.Post walk-Inv-loop walk-μ-loop walk-Inv-tries walk-μ-tries
+walk-pass-requires-3 t c κs = called t (c .before .before .before .before .before .before .before .before) .1
 
-walk-loop-again-3 : (t : ℕ) → walk-lts.Need-loop-again-3 (rs t) (walk-at t) walk.Post walk-Inv-loop walk-μ-loop walk-Inv-tries walk-μ-tries
-walk-loop-again-3 t c =
-    let c3 = c .before .before .before in
-    let c5 = c3 .before .before in
-    let c8 = c5 .before .before .before in
-    let c9 = c8 .before in
-    let c10 = c9 .before in
-    let c13 = c10 .before .before .before in
-    let c14 = c13 .before in
-    node-missed (c14 .loop .inv) (c13 .loop-test .taken) (c9 .extent .ensures) (c10 .meet .ensures) (kind t (c8)) (c5 .walk .ensures) (c3 .enum-told6 .given .1) (c .pass4 .ensures) (c .before .restore .ensures)
+walk-loop-less-4 : (t : ℕ) → walk-lts.Need-loop-less-4 (rs t) (walk-at t) walk.Post walk-Inv-loop walk-μ-loop walk-Inv-tries walk-μ-tries
+walk-loop-less-4 t c = let f = called t (c .before .before .before .before .before .before .before .before .before) in let p = c .pass3 .ensures .further in omega arith
+
+walk-loop-again-4 : (t : ℕ) → walk-lts.Need-loop-again-4 (rs t) (walk-at t) walk.Post walk-Inv-loop walk-μ-loop walk-Inv-tries walk-μ-tries
+walk-loop-again-4 t c = node-missed (c .before .before .before .before .before .before .before .before .before .before .before .before .before .before .before .before .before .before .before .before .before .before .before .before .before .before .before .before .args .query .now) (c .before .before .before .before .before .before .before .before .before .before .before .before .before .before .before .before .before .before .before .before .before .before .before .before .before .before .before .before .args .tables .now) (c .before .before .before .before .before .before .before .before .before .before .before .before .before .before .before .before .before .before .before .before .before .before .before .before .before .before .before .before .args .words .now) (c .before .before .before .before .before .before .before .before .before .before .before .before .before .before .before .before .before .before .before .before .before .before .before .before .before .before .before .before .args .budget) _ _ _ _ _ _ _ _ (c .before .before .before .before .before .before .before .before .before .before .before .before .before .before .before .loop .inv) (c .before .before .before .before .before .before .before .before .before .before .before .before .before .before .loop-test .taken) _ (c .before .before .before .before .before .before .before .before .before .before .extent .ensures) _ _ (c .before .before .before .before .before .before .before .before .before .before .before .meet .ensures) _ (kind t (c .before .before .before .before .before .before .before .before .before)) _ _ (c .before .before .before .before .before .before .walk .ensures) (c .before .before .before .before .enum-told6 .given .1) _ (c .before .wanted3 .ensures) (c .pass3 .ensures) (c .before .before .restore .ensures)
 
 walk-unwind-requires : (t : ℕ) → walk-lts.Need-unwind-requires (rs t) (walk-at t) walk.Post walk-Inv-loop walk-μ-loop walk-Inv-tries walk-μ-tries
 walk-unwind-requires t c κs = c .before .before .loop .inv .ready .size
@@ -312,14 +279,10 @@ undone : (t : ℕ) (c : walk-lts.After-unwind (rs t) (walk-at t) walk.Post walk-
 undone t c = c .unwind .ensures ∙ c .before .before .before .loop .inv .undo ∙ c .before .before .before .before .before .before .begin .ensures .cells
 
 walk-leave-requires : (t : ℕ) → walk-lts.Need-leave-requires (rs t) (walk-at t) walk.Post walk-Inv-loop walk-μ-loop walk-Inv-tries walk-μ-tries
-walk-leave-requires t c κs =
-    let c12 = c .before .before .before .before .before .before .before .before .before .before .before .before in
-    let c13 = c12 .before in
-    let c17 = c13 .before .before .before .before in
-    let a = c17 .args in
+walk-leave-requires t c κs = let a = c .before .before .before .before .before .before .before .before .before .before .before .before .before .before .before .before .before .args in
     let u = undone t (c .before) in
-    let r = ready t (c13) in
-    let n = candidate-count (a .first) _ (c13 .tries .j) (r .size) (r .few) (λ e. more t (c12) e .0) in
+    let r = ready t (c .before .before .before .before .before .before .before .before .before .before .before .before .before) in
+    let n = candidate-count (a .first) _ (c .before .before .before .before .before .before .before .before .before .before .before .before .before .tries .j) (r .size) (r .few) (λ e. more t (c .before .before .before .before .before .before .before .before .before .before .before .before) e .0) in
     (ap (λ (l : List ℕ). length l) u ∙ candidate-size (a .first) _ _ ∙ r .size, λ e. (rw u (n .1 e), rw u (n .0)))
 
 walk-add-j : (t : ℕ) → walk-lts.Need-add-j (rs t) (walk-at t) walk.Post walk-Inv-loop walk-μ-loop walk-Inv-tries walk-μ-tries
@@ -338,51 +301,25 @@ walk-tries-again t c = let a = c .before .before .before .before .before .before
     )
 
 walk-returns : (t : ℕ) → walk-lts.Need-returns (rs t) (walk-at t) walk.Post walk-Inv-loop walk-μ-loop walk-Inv-tries walk-μ-tries
-walk-returns t c =
-    let c5 = c .before .before .before .before .before in
-    let a = c5 .args in let i = c .before .tries .inv in walked-missed (i .2 ∙ runs-end (a .query .now) (a .budget) _ _ (a .first) _ _ _ (c .if1 .taken)) (i .1)
+walk-returns t c = let a = c .before .before .before .before .before .args in let i = c .before .tries .inv in walked-missed (i .2 ∙ runs-end (a .query .now) (a .budget) _ _ (a .first) _ _ _ (c .if1 .taken)) (i .1)
 
 walk-returns-2 : (t : ℕ) → walk-lts.Need-returns-2 (rs t) (walk-at t) walk.Post walk-Inv-loop walk-μ-loop walk-Inv-tries walk-μ-tries
-walk-returns-2 t c =
-    let c3 = c .before .before .before in
-    let c7 = c3 .before .before .before .before in
-    let a = c7 .args in
-    let p = c7 .pre .1 in
-    let i = c3 .tries .inv in
+walk-returns-2 t c = let a = c .before .before .before .before .before .before .before .args in
+    let p = c .before .before .before .before .before .before .before .pre .1 in
+    let i = c .before .before .before .tries .inv in
     walked-spent _ (i .2 ∙ runs-spent (a .query .now) (a .budget) _ _ (rw (chosen-length _ _ _ _ (p .0)) (p .1 (c .before .if2 .taken))) (c .before .if2 .taken) _ _ _ (c .before .before .if1 .left) (c .if3 .taken)) (ap (λ (l : List ℕ). length l) (i .1))
 
 walk-returns-3 : (t : ℕ) → walk-lts.Need-returns-3 (rs t) (walk-at t) walk.Post walk-Inv-loop walk-μ-loop walk-Inv-tries walk-μ-tries
-walk-returns-3 t c =
-    let c3 = c .before .before .before in
-    let c6 = c3 .before .before .before in
-    let c7 = c6 .before in
-    let c10 = c7 .before .before .before in
-    let c20 = c10 .before .before .before .before .before .before .before .before .before .before in
-    walked-broken _ (next-turn t (c10) ∙ then-broken _ (node-stuck (c7 .loop .inv) (c6 .loop-test .taken) (c .before .before .extent .ensures) (c3 .meet .ensures) (c .enum-told .given .1))) (stored-size (c3 .meet .ensures .stored) ∙ c7 .loop .inv .ready .size ∙ sym (c20 .pre .1 .0 .size))
+walk-returns-3 t c = walked-broken _ (next-turn t (c .before .before .before .before .before .before .before .before .before .before) ∙ then-broken _ (node-stuck (c .before .before .before .before .before .before .before .before .before .before .before .before .before .before .before .before .before .before .before .before .args .query .now) (c .before .before .before .before .before .before .before .before .before .before .before .before .before .before .before .before .before .before .before .before .args .tables .now) (c .before .before .before .before .before .before .before .before .before .before .before .before .before .before .before .before .before .before .before .before .args .words .now) (c .before .before .before .before .before .before .before .before .before .before .before .before .before .before .before .before .before .before .before .before .args .budget) _ _ _ _ _ _ _ _ (c .before .before .before .before .before .before .before .loop .inv) (c .before .before .before .before .before .before .loop-test .taken) _ (c .before .before .extent .ensures) _ _ (c .before .before .before .meet .ensures) (c .enum-told .given .1))) (stored-size (c .before .before .before .meet .ensures .stored) ∙ c .before .before .before .before .before .before .before .loop .inv .ready .size ∙ sym (c .before .before .before .before .before .before .before .before .before .before .before .before .before .before .before .before .before .before .before .before .pre .1 .0 .size))
 
 walk-returns-4 : (t : ℕ) → walk-lts.Need-returns-4 (rs t) (walk-at t) walk.Post walk-Inv-loop walk-μ-loop walk-Inv-tries walk-μ-tries
-walk-returns-4 t c =
-    let c3 = c .before .before .before in
-    let c4 = c3 .before in
-    let c7 = c4 .before .before .before in
-    let c8 = c7 .before in
-    let c11 = c8 .before .before .before in
-    let c21 = c11 .before .before .before .before .before .before .before .before .before .before in
-    walked-found (c4 .meet .result .head) (c .operand .ensures) (next-turn t (c11) ∙ then-covered _ (node-hit (c8 .loop .inv) (c7 .loop-test .taken) (c3 .extent .ensures) (c4 .meet .ensures) (c .before .enum-told2 .given .1))) (stored-size (c4 .meet .ensures .stored) ∙ c8 .loop .inv .ready .size ∙ sym (c21 .pre .1 .0 .size))
+walk-returns-4 t c = walked-found (c .before .before .before .before .meet .result .head) (c .operand .ensures) (next-turn t (c .before .before .before .before .before .before .before .before .before .before .before) ∙ then-covered _ (node-hit (c .before .before .before .before .before .before .before .before .before .before .before .before .before .before .before .before .before .before .before .before .before .args .query .now) (c .before .before .before .before .before .before .before .before .before .before .before .before .before .before .before .before .before .before .before .before .before .args .tables .now) (c .before .before .before .before .before .before .before .before .before .before .before .before .before .before .before .before .before .before .before .before .before .args .words .now) (c .before .before .before .before .before .before .before .before .before .before .before .before .before .before .before .before .before .before .before .before .before .args .budget) _ _ _ _ _ _ _ _ (c .before .before .before .before .before .before .before .before .loop .inv) (c .before .before .before .before .before .before .before .loop-test .taken) _ (c .before .before .before .extent .ensures) _ _ (c .before .before .before .before .meet .ensures) (c .before .enum-told2 .given .1))) (stored-size (c .before .before .before .before .meet .ensures .stored) ∙ c .before .before .before .before .before .before .before .before .loop .inv .ready .size ∙ sym (c .before .before .before .before .before .before .before .before .before .before .before .before .before .before .before .before .before .before .before .before .before .pre .1 .0 .size))
 
 walk-returns-5 : (t : ℕ) → walk-lts.Need-returns-5 (rs t) (walk-at t) walk.Post walk-Inv-loop walk-μ-loop walk-Inv-tries walk-μ-tries
-walk-returns-5 t c =
-    let c4 = c .before .before .before .before in
-    let c5 = c4 .before in
-    let c6 = c5 .before in
-    let c9 = c6 .before .before .before in
-    let c10 = c9 .before in
-    let c13 = c10 .before .before .before in
-    let c23 = c13 .before .before .before .before .before .before .before .before .before .before in
-    let h = c .match2 .keys2 in
+walk-returns-5 t c = let h = c .match2 .keys2 in
     let w = c .before .walk .ensures in
     let nm : (c .before .walk .result .end ≡ Missed → ⊥) = λ m. miss (1 ∷ 2 ∷ 3 ∷ []) 0 tt (rw m at h) in
-    walked-same nm (next-turn t (c13) ∙ then-found _ nm (node-ends (c10 .loop .inv) (c9 .loop-test .taken) (c5 .extent .ensures) (c6 .meet .ensures) (kind t (c4)) (c .before .walk .ensures) nm) w) w (stored-size (c6 .meet .ensures .stored) ∙ c10 .loop .inv .ready .size ∙ sym (c23 .pre .1 .0 .size))
+    walked-same nm (next-turn t (c .before .before .before .before .before .before .before .before .before .before .before .before .before) ∙ then-found _ nm (node-ends (c .before .before .before .before .before .before .before .before .before .before .before .before .before .before .before .before .before .before .before .before .before .before .before .args .query .now) (c .before .before .before .before .before .before .before .before .before .before .before .before .before .before .before .before .before .before .before .before .before .before .before .args .tables .now) (c .before .before .before .before .before .before .before .before .before .before .before .before .before .before .before .before .before .before .before .before .before .before .before .args .words .now) (c .before .before .before .before .before .before .before .before .before .before .before .before .before .before .before .before .before .before .before .before .before .before .before .args .budget) _ _ _ _ _ _ _ _ (c .before .before .before .before .before .before .before .before .before .before .loop .inv) (c .before .before .before .before .before .before .before .before .before .loop-test .taken) _ (c .before .before .before .before .before .extent .ensures) _ _ (c .before .before .before .before .before .before .meet .ensures) _ (kind t (c .before .before .before .before)) _ _ (c .before .walk .ensures) nm) w) w (stored-size (c .before .before .before .before .before .before .meet .ensures .stored) ∙ c .before .before .before .before .before .before .before .before .before .before .loop .inv .ready .size ∙ sym (c .before .before .before .before .before .before .before .before .before .before .before .before .before .before .before .before .before .before .before .before .before .before .before .pre .1 .0 .size))
 
 pub +walk-spec : {M : Type 1} → statement M
 +walk-spec = close μ-walk λ t. walk-lts.spec (rs t)
@@ -411,16 +348,17 @@ pub +walk-spec : {M : Type 1} → statement M
     (walk-enum-told-2 t)
     (walk-operand-requires t)
     (walk-enum-told-3 t)
+    (walk-wanted-requires-2 t)
     (walk-pass-requires-2 t)
     (walk-loop-less t)
     (walk-loop-again t)
     (walk-enum-told-4 t)
     (walk-enum-told-5 t)
-    (walk-trace-requires t)
-    (walk-wanted-requires-2 t)
-    (walk-pass-requires-3 t)
     (walk-loop-less-2 t)
     (walk-loop-again-2 t)
+    (walk-trace-requires t)
+    (walk-loop-less-3 t)
+    (walk-loop-again-3 t)
     (walk-mul-walk t)
     (walk-sub-walk t)
     (walk-part-walk-start t)
@@ -428,9 +366,10 @@ pub +walk-spec : {M : Type 1} → statement M
     (walk-walk-requires t)
     (walk-enum-told-6 t)
     (walk-restore-requires t)
-    (walk-pass-requires-4 t)
-    (walk-loop-less-3 t)
-    (walk-loop-again-3 t)
+    (walk-wanted-requires-3 t)
+    (walk-pass-requires-3 t)
+    (walk-loop-less-4 t)
+    (walk-loop-again-4 t)
     (walk-unwind-requires t)
     (walk-leave-requires t)
     (walk-add-j t)
