@@ -1,6 +1,5 @@
 -- `act` meets its contract: one law for each operation.
 use Rattle.walk.proofs.Visits.{stays, act-success, act-down, act-right, act-put, act-push, act-pop, act-check, act-compare, act-over, rest-over}
--- `act` meets its contract: one law for each operation.
 use native.Mathlib.Omega.{arith}
 use Rattle.walk.proofs.Places.{few-words}
 use borrow.Author.Needs.{needs}
@@ -10,20 +9,14 @@ use Rattle.walk.proofs.step.act.Tie as tie
 down-requires : tie.Need-down-requires
 down-requires c κs = (c .before .before .pre .1, few-words (c .before .before .pre .0))
 
-moved-requires : tie.Need-moved-requires
-moved-requires c κs = search needs
-
-right-requires : tie.Need-right-requires
-right-requires c κs = search needs
-
-moved-requires-2 : tie.Need-moved-requires-2
-moved-requires-2 c κs = search needs
+sibling-requires : tie.Need-sibling-requires
+sibling-requires c κs = search needs
 
 put-requires : tie.Need-put-requires
 put-requires c κs = (c .before .before .before .pre .0 .few, omega (arith, few-words (c .before .before .before .pre .0)))
 
-right-requires-2 : tie.Need-right-requires-2
-right-requires-2 c κs = search needs
+right-requires : tie.Need-right-requires
+right-requires c κs = search needs
 
 push-requires : tie.Need-push-requires
 push-requires c κs = search needs
@@ -41,16 +34,16 @@ returns : tie.Need-returns
 returns c = let a = c .before .before .args in let p = c .before .before .pre in stays _ _ _ (act-success (a .query .now) (a .tables .now) (a .head) (a .cells .now) (p .0) (p .1) (a .op) (a .x) (c .match .keys1))
 
 returns-2 : tie.Need-returns-2
-returns-2 c = let a = c .before .before .before .before .args in let p = c .before .before .before .before .pre in rw (act-down (a .query .now) (a .tables .now) (a .head) (a .cells .now) (p .0) (p .1) (a .op) (a .x) (c .before .before .match .keys2), ← c .before .down .ensures) (c .moved .ensures (a .cells .now))
+returns-2 c = let a = c .before .before .before .args in let p = c .before .before .before .pre in rw (act-down (a .query .now) (a .tables .now) (a .head) (a .cells .now) (p .0) (p .1) (a .op) (a .x) (c .before .match .keys2)) (c .down .ensures (a .cells .now))
 
 returns-3 : tie.Need-returns-3
-returns-3 c = let a = c .before .before .before .before .before .args in let p = c .before .before .before .before .before .pre in rw (act-right (a .query .now) (a .tables .now) (a .head) (a .cells .now) (p .0) (p .1) (a .op) (a .x) (c .before .before .before .match .keys3), ← c .before .right .ensures .0) (c .moved2 .ensures (a .cells .now))
+returns-3 c = let a = c .before .before .before .before .args in let p = c .before .before .before .before .pre in rw (act-right (a .query .now) (a .tables .now) (a .head) (a .cells .now) (p .0) (p .1) (a .op) (a .x) (c .before .before .match .keys3)) (c .sibling .ensures)
 
 returns-4 : tie.Need-returns-4
 returns-4 c = let a = c .before .before .before .before .args in let p = c .before .before .before .before .pre in rw (act-put (a .query .now) (a .tables .now) (a .head) (a .cells .now) (p .0) (p .1) (a .op) (a .x) (c .before .before .match .keys4)) (c .put .ensures)
 
 returns-5 : tie.Need-returns-5
-returns-5 c = let a = c .before .before .before .before .before .before .args in let p = c .before .before .before .before .before .before .pre in rw (act-push (a .query .now) (a .tables .now) (a .head) (a .cells .now) (p .0) (p .1) (a .op) (a .x) (c .before .before .before .before .match .keys5), ← c .before .before .right2 .ensures .0) (c .push .ensures)
+returns-5 c = let a = c .before .before .before .before .before .before .args in let p = c .before .before .before .before .before .before .pre in rw (act-push (a .query .now) (a .tables .now) (a .head) (a .cells .now) (p .0) (p .1) (a .op) (a .x) (c .before .before .before .before .match .keys5), ← c .before .before .right .ensures .0) (c .push .ensures)
 
 returns-6 : tie.Need-returns-6
 returns-6 c = let a = c .before .before .before .before .args in let p = c .before .before .before .before .pre in rw (act-pop (a .query .now) (a .tables .now) (a .head) (a .cells .now) (p .0) (p .1) (a .op) (a .x) (c .before .before .match .keys6)) (c .pop .ensures)
@@ -69,11 +62,9 @@ act-spec =
     tie.close
     (tie.spec
     down-requires
-    moved-requires
-    right-requires
-    moved-requires-2
+    sibling-requires
     put-requires
-    right-requires-2
+    right-requires
     push-requires
     pop-requires
     check-requires
