@@ -58,6 +58,13 @@ down-some d p h n =
     let f : p + 1 ≡ suc p = omega arith in
     rw (e, f) (place-some {x = suc p} (λ z. omega arith))
 
+pub down-stuck : (d : List ℕ) (h : ℕ) (l : List ℕ) → arity (getD d h 0) ≡ 0 → metOf Stuck (stateOf h l) ≡ stepped (given (down d h) (headed (stateOf h l)))
+down-stuck d h l e = moved-none h l {to = 255} refl ∙ ap (λ (o : Option ℕ). stepped (given o (headed (stateOf h l)))) (down-none d h e)
+
+pub down-below : (d : List ℕ) (h : ℕ) (l : List ℕ) → (h < length d) × (length d ≤ 64) → (arity (getD d h 0) ≡ 0 → ⊥)
+    → metOf Below (stateOf (h + 1) l) ≡ stepped (given (down d h) (headed (stateOf h l)))
+down-below d h l p n = moved-some h l {to = h + 1} (λ z. omega (arith, p)) ∙ ap (λ (o : Option ℕ). stepped (given o (headed (stateOf h l)))) (down-some d h (omega (arith, p)) n)
+
 module _ (d t : List ℕ) (h : ℕ) (l : List ℕ) (R : Ready d t h l) (inside : h < length d) where
   pub right-none : getD t (72 + h) 0 ≡ 0 → placeOf 255 ≡ right d h
   unfolding right onto
@@ -70,6 +77,14 @@ module _ (d t : List ℕ) (h : ℕ) (l : List ℕ) (R : Ready d t h l) (inside :
       let j = right-inside d (accepted d (R .whole)) h (rights d h - 1) inside r in
       let w = few-words R in
       (rw (e, R .tables .ends h inside, r) (place-some {x = jump d 1 h} (λ z. omega arith)), rw (e, R .tables .ends h inside) (omega arith))
+
+  pub right-stuck : getD t (72 + h) 0 ≡ 0 → metOf Stuck (stateOf h l) ≡ stepped (given (right d h) (headed (stateOf h l)))
+  right-stuck e = moved-none h l {to = 255} refl ∙ ap (λ (o : Option ℕ). stepped (given o (headed (stateOf h l)))) (right-none e)
+
+  pub right-below : (getD t (72 + h) 0 ≡ 0 → ⊥) → {x : ℕ} → x ≡ getD t (8 + h) 0 → metOf Below (stateOf x l) ≡ stepped (given (right d h) (headed (stateOf h l)))
+  right-below n {x} e =
+      let r = right-some n {x = x} e in
+      moved-some h l {to = x} (λ z. omega (arith, r .1)) ∙ ap (λ (o : Option ℕ). stepped (given o (headed (stateOf h l)))) (r .0)
 
 -- Put and Push
 module _ (h : ℕ) (l : List ℕ) (few : getD l 136 0 ≤ 8) where

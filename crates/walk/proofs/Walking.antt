@@ -242,12 +242,12 @@ module _ (d t words : List ℕ) (b : ℕ) (s : State) (n₀ : ℕ) (cells₀ cel
   node-hit g = node ∙ rw g
 
   -- a word that fails
-  pub node-fails : v .go ≡ Fails → (key : ℕ) → key ≡ wantedAt d here → {r : ℕ} → Passed words (at + x) key r → Walking d t words b s n₀ cells₀ m n here trail r
+  pub node-fails : v .go ≡ Fails → Walking d t words b s n₀ cells₀ m n here trail (at + x)
   unfolding metOf goingOn
-  node-fails g key k {r} P =
+  node-fails g =
       let c : m ≡ cells = met .still g in
       let f : walkWords (machine d) (upTo b) words s n₀ ≡ rest n = node ∙ rw g in
-      rw c (record { inside = P .inside; ready = W .ready; undo = W .undo; same = f ∙ passing d t b here cells (W .ready) words (at + x) key n k P })
+      rw c (record { inside = fits-fails g .1; ready = W .ready; undo = W .undo; same = f })
 
   -- the last word of a row: what stands below it is the row from here on
   node-on : v .go ≡ Below → at + x ≡ length words → (to : ℕ) → unwound to m ≡ unwound trail cells → Walking d t words b s n₀ cells₀ m n (v .head) to (at + 1)

@@ -15,19 +15,28 @@ ghost use Rattle.machine.specs.Machine as m;
 ghost use Rattle.walk.specs.declared.Go.the-variants.{Below};
 ghost use Rattle.walk.specs.Cells.{placeOf, stateOf, stepped, metAs, meeting, Tables, Ready, Visited};
 
-// To the first argument: 255 where there is none.
-fn down(query: &[u16], head: usize) -> usize
+// To the first argument, if there is one.
+fn down(query: &[u16], head: usize) -> Visit
     requires { ⌜ (head < length (now query)) × (length (now query) ≤ 64) ⌝ }
-    ensures { λ r. ⌜ placeOf r ≡ m.down (now (query .entry)) head ⌝ }
+    ensures { λ r. ⌜ ((l : List ℕ) → Visited (stepped (given (m.down (now (query .entry)) head) (headed (stateOf head l)))) l l r) ⌝ }
 {
     if query[head] / 2048 % 8 == 0 {
-        255
+        Visit {
+            go: Go::Stuck,
+            head: head,
+            mark: 0,
+        }
     } else {
-        head + 1
+        let to = head + 1;
+        Visit {
+            go: Go::Below,
+            head: to,
+            mark: 0,
+        }
     }
 }
 
-// To the right sibling: 255 where there is none.
+// The right sibling: 255 where there is none.
 fn right(query: &[u16], tables: &[u8; 137], cells: &[u8; 137], head: usize) -> usize
     requires { ⌜ Ready (now query) (now tables) head (now cells) × (head < length (now query)) ⌝ }
     ensures { λ r. ⌜ (placeOf r ≡ m.right (now (query .entry)) head) × (r < 256) ⌝ }
@@ -38,6 +47,28 @@ fn right(query: &[u16], tables: &[u8; 137], cells: &[u8; 137], head: usize) -> u
         255
     } else {
         wide(tables[end])
+    }
+}
+
+// To the right sibling, if there is one.
+fn sibling(query: &[u16], tables: &[u8; 137], cells: &[u8; 137], head: usize) -> Visit
+    requires { ⌜ Ready (now query) (now tables) head (now cells) × (head < length (now query)) ⌝ }
+    ensures { λ r. ⌜ Visited (stepped (given (m.right (now (query .entry)) head) (headed (stateOf head (now (cells .entry)))))) (now (cells .entry)) (now (cells .entry)) r ⌝ }
+{
+    let siblings = 72 + head;
+    let end = 8 + head;
+    if tables[siblings] == 0 {
+        Visit {
+            go: Go::Stuck,
+            head: head,
+            mark: 0,
+        }
+    } else {
+        Visit {
+            go: Go::Below,
+            head: wide(tables[end]),
+            mark: 0,
+        }
     }
 }
 
@@ -230,8 +261,8 @@ fn act(
             head: head,
             mark: 0,
         },
-        2 => moved(head, down(query, head)),
-        3 => moved(head, right(query, tables, cells, head)),
+        2 => down(query, head),
+        3 => sibling(query, tables, cells, head),
         4 => put(cells, head, x),
         5 => {
             let to = right(query, tables, cells, head);

@@ -78,7 +78,7 @@ pub fn walk(
                     count: n,
                 },
                 Go::Fails => {
-                    at = pass(words, to, wanted(query, here));
+                    at = to;
                     continue;
                 }
                 Go::Tries => true,

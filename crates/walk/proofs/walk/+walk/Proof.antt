@@ -183,17 +183,11 @@ walk-operand-requires t c κs = search needs
 walk-enum-told-3 : (t : ℕ) → walk-lts.Need-enum-told-3 (rs t) (walk-at t) walk.Post walk-Inv-loop walk-μ-loop walk-Inv-tries walk-μ-tries
 walk-enum-told-3 t c = search needs
 
-walk-wanted-requires-2 : (t : ℕ) → walk-lts.Need-wanted-requires-2 (rs t) (walk-at t) walk.Post walk-Inv-loop walk-μ-loop walk-Inv-tries walk-μ-tries
-walk-wanted-requires-2 t c κs = search needs
-
-walk-pass-requires-2 : (t : ℕ) → walk-lts.Need-pass-requires-2 (rs t) (walk-at t) walk.Post walk-Inv-loop walk-μ-loop walk-Inv-tries walk-μ-tries
-walk-pass-requires-2 t c κs = fits-fails (c .before .before .before .before .before .before .before .before .before .before .before .before .before .before .before .before .before .before .before .before .before .args .query .now) (c .before .before .before .before .before .before .before .before .before .before .before .before .before .before .before .before .before .before .before .before .before .args .tables .now) (c .before .before .before .before .before .before .before .before .before .before .before .before .before .before .before .before .before .before .before .before .before .args .words .now) (c .before .before .before .before .before .before .before .before .before .before .before .before .before .before .before .before .before .before .before .before .before .args .budget) _ _ _ _ _ _ _ _ (c .before .before .before .before .before .before .before .before .loop .inv) (c .before .before .before .before .before .before .before .loop-test .taken) _ (c .before .before .before .extent .ensures) _ _ (c .before .before .before .before .meet .ensures) (c .before .enum-told3 .given .1) .1
-
 walk-loop-less : (t : ℕ) → walk-lts.Need-loop-less (rs t) (walk-at t) walk.Post walk-Inv-loop walk-μ-loop walk-Inv-tries walk-μ-tries
-walk-loop-less t c = let f = fits-fails (c .before .before .before .before .before .before .before .before .before .before .before .before .before .before .before .before .before .before .before .before .before .before .args .query .now) (c .before .before .before .before .before .before .before .before .before .before .before .before .before .before .before .before .before .before .before .before .before .before .args .tables .now) (c .before .before .before .before .before .before .before .before .before .before .before .before .before .before .before .before .before .before .before .before .before .before .args .words .now) (c .before .before .before .before .before .before .before .before .before .before .before .before .before .before .before .before .before .before .before .before .before .before .args .budget) _ _ _ _ _ _ _ _ (c .before .before .before .before .before .before .before .before .before .loop .inv) (c .before .before .before .before .before .before .before .before .loop-test .taken) _ (c .before .before .before .before .extent .ensures) _ _ (c .before .before .before .before .before .meet .ensures) (c .before .before .enum-told3 .given .1) in let p = c .pass2 .ensures .further in omega arith
+walk-loop-less t c = let f = fits-fails (c .before .before .before .before .before .before .before .before .before .before .before .before .before .before .before .before .before .before .before .before .args .query .now) (c .before .before .before .before .before .before .before .before .before .before .before .before .before .before .before .before .before .before .before .before .args .tables .now) (c .before .before .before .before .before .before .before .before .before .before .before .before .before .before .before .before .before .before .before .before .args .words .now) (c .before .before .before .before .before .before .before .before .before .before .before .before .before .before .before .before .before .before .before .before .args .budget) _ _ _ _ _ _ _ _ (c .before .before .before .before .before .before .before .loop .inv) (c .before .before .before .before .before .before .loop-test .taken) _ (c .before .before .extent .ensures) _ _ (c .before .before .before .meet .ensures) (c .enum-told3 .given .1) in omega arith
 
 walk-loop-again : (t : ℕ) → walk-lts.Need-loop-again (rs t) (walk-at t) walk.Post walk-Inv-loop walk-μ-loop walk-Inv-tries walk-μ-tries
-walk-loop-again t c = node-fails (c .before .before .before .before .before .before .before .before .before .before .before .before .before .before .before .before .before .before .before .before .before .before .args .query .now) (c .before .before .before .before .before .before .before .before .before .before .before .before .before .before .before .before .before .before .before .before .before .before .args .tables .now) (c .before .before .before .before .before .before .before .before .before .before .before .before .before .before .before .before .before .before .before .before .before .before .args .words .now) (c .before .before .before .before .before .before .before .before .before .before .before .before .before .before .before .before .before .before .before .before .before .before .args .budget) _ _ _ _ _ _ _ _ (c .before .before .before .before .before .before .before .before .before .loop .inv) (c .before .before .before .before .before .before .before .before .loop-test .taken) _ (c .before .before .before .before .extent .ensures) _ _ (c .before .before .before .before .before .meet .ensures) (c .before .before .enum-told3 .given .1) _ (c .before .wanted2 .ensures) (c .pass2 .ensures)
+walk-loop-again t c = node-fails (c .before .before .before .before .before .before .before .before .before .before .before .before .before .before .before .before .before .before .before .before .args .query .now) (c .before .before .before .before .before .before .before .before .before .before .before .before .before .before .before .before .before .before .before .before .args .tables .now) (c .before .before .before .before .before .before .before .before .before .before .before .before .before .before .before .before .before .before .before .before .args .words .now) (c .before .before .before .before .before .before .before .before .before .before .before .before .before .before .before .before .before .before .before .before .args .budget) _ _ _ _ _ _ _ _ (c .before .before .before .before .before .before .before .loop .inv) (c .before .before .before .before .before .before .loop-test .taken) _ (c .before .before .extent .ensures) _ _ (c .before .before .before .meet .ensures) (c .enum-told3 .given .1)
 
 walk-enum-told-4 : (t : ℕ) → walk-lts.Need-enum-told-4 (rs t) (walk-at t) walk.Post walk-Inv-loop walk-μ-loop walk-Inv-tries walk-μ-tries
 walk-enum-told-4 t c = search needs
@@ -259,17 +253,17 @@ walk-restore-requires : (t : ℕ) → walk-lts.Need-restore-requires (rs t) (wal
 walk-restore-requires t c κs = let v = c .before .before .before .before .before .before .before .before .meet .ensures .stored in
     (ap (λ (l : List ℕ). length l) (c .before .before .before .walk .ensures .back (c .before .enum-told6 .given .1)) ∙ stored-size v ∙ c .before .before .before .before .before .before .before .before .before .before .before .before .loop .inv .ready .size, stored-small v)
 
-walk-wanted-requires-3 : (t : ℕ) → walk-lts.Need-wanted-requires-3 (rs t) (walk-at t) walk.Post walk-Inv-loop walk-μ-loop walk-Inv-tries walk-μ-tries
-walk-wanted-requires-3 t c κs = search needs
+walk-wanted-requires-2 : (t : ℕ) → walk-lts.Need-wanted-requires-2 (rs t) (walk-at t) walk.Post walk-Inv-loop walk-μ-loop walk-Inv-tries walk-μ-tries
+walk-wanted-requires-2 t c κs = search needs
 
-walk-pass-requires-3 : (t : ℕ) → walk-lts.Need-pass-requires-3 (rs t) (walk-at t) walk.Post walk-Inv-loop walk-μ-loop walk-Inv-tries walk-μ-tries
-walk-pass-requires-3 t c κs = called t (c .before .before .before .before .before .before .before .before) .1
+walk-pass-requires-2 : (t : ℕ) → walk-lts.Need-pass-requires-2 (rs t) (walk-at t) walk.Post walk-Inv-loop walk-μ-loop walk-Inv-tries walk-μ-tries
+walk-pass-requires-2 t c κs = called t (c .before .before .before .before .before .before .before .before) .1
 
 walk-loop-less-4 : (t : ℕ) → walk-lts.Need-loop-less-4 (rs t) (walk-at t) walk.Post walk-Inv-loop walk-μ-loop walk-Inv-tries walk-μ-tries
-walk-loop-less-4 t c = let f = called t (c .before .before .before .before .before .before .before .before .before) in let p = c .pass3 .ensures .further in omega arith
+walk-loop-less-4 t c = let f = called t (c .before .before .before .before .before .before .before .before .before) in let p = c .pass2 .ensures .further in omega arith
 
 walk-loop-again-4 : (t : ℕ) → walk-lts.Need-loop-again-4 (rs t) (walk-at t) walk.Post walk-Inv-loop walk-μ-loop walk-Inv-tries walk-μ-tries
-walk-loop-again-4 t c = node-missed (c .before .before .before .before .before .before .before .before .before .before .before .before .before .before .before .before .before .before .before .before .before .before .before .before .before .before .before .before .args .query .now) (c .before .before .before .before .before .before .before .before .before .before .before .before .before .before .before .before .before .before .before .before .before .before .before .before .before .before .before .before .args .tables .now) (c .before .before .before .before .before .before .before .before .before .before .before .before .before .before .before .before .before .before .before .before .before .before .before .before .before .before .before .before .args .words .now) (c .before .before .before .before .before .before .before .before .before .before .before .before .before .before .before .before .before .before .before .before .before .before .before .before .before .before .before .before .args .budget) _ _ _ _ _ _ _ _ (c .before .before .before .before .before .before .before .before .before .before .before .before .before .before .before .loop .inv) (c .before .before .before .before .before .before .before .before .before .before .before .before .before .before .loop-test .taken) _ (c .before .before .before .before .before .before .before .before .before .before .extent .ensures) _ _ (c .before .before .before .before .before .before .before .before .before .before .before .meet .ensures) _ (kind t (c .before .before .before .before .before .before .before .before .before)) _ _ (c .before .before .before .before .before .before .walk .ensures) (c .before .before .before .before .enum-told6 .given .1) _ (c .before .wanted3 .ensures) (c .pass3 .ensures) (c .before .before .restore .ensures)
+walk-loop-again-4 t c = node-missed (c .before .before .before .before .before .before .before .before .before .before .before .before .before .before .before .before .before .before .before .before .before .before .before .before .before .before .before .before .args .query .now) (c .before .before .before .before .before .before .before .before .before .before .before .before .before .before .before .before .before .before .before .before .before .before .before .before .before .before .before .before .args .tables .now) (c .before .before .before .before .before .before .before .before .before .before .before .before .before .before .before .before .before .before .before .before .before .before .before .before .before .before .before .before .args .words .now) (c .before .before .before .before .before .before .before .before .before .before .before .before .before .before .before .before .before .before .before .before .before .before .before .before .before .before .before .before .args .budget) _ _ _ _ _ _ _ _ (c .before .before .before .before .before .before .before .before .before .before .before .before .before .before .before .loop .inv) (c .before .before .before .before .before .before .before .before .before .before .before .before .before .before .loop-test .taken) _ (c .before .before .before .before .before .before .before .before .before .before .extent .ensures) _ _ (c .before .before .before .before .before .before .before .before .before .before .before .meet .ensures) _ (kind t (c .before .before .before .before .before .before .before .before .before)) _ _ (c .before .before .before .before .before .before .walk .ensures) (c .before .before .before .before .enum-told6 .given .1) _ (c .before .wanted2 .ensures) (c .pass2 .ensures) (c .before .before .restore .ensures)
 
 walk-unwind-requires : (t : ℕ) → walk-lts.Need-unwind-requires (rs t) (walk-at t) walk.Post walk-Inv-loop walk-μ-loop walk-Inv-tries walk-μ-tries
 walk-unwind-requires t c κs = c .before .before .loop .inv .ready .size
@@ -348,8 +342,6 @@ pub +walk-spec : {M : Type 1} → statement M
     (walk-enum-told-2 t)
     (walk-operand-requires t)
     (walk-enum-told-3 t)
-    (walk-wanted-requires-2 t)
-    (walk-pass-requires-2 t)
     (walk-loop-less t)
     (walk-loop-again t)
     (walk-enum-told-4 t)
@@ -366,8 +358,8 @@ pub +walk-spec : {M : Type 1} → statement M
     (walk-walk-requires t)
     (walk-enum-told-6 t)
     (walk-restore-requires t)
-    (walk-wanted-requires-3 t)
-    (walk-pass-requires-3 t)
+    (walk-wanted-requires-2 t)
+    (walk-pass-requires-2 t)
     (walk-loop-less-4 t)
     (walk-loop-again-4 t)
     (walk-unwind-requires t)
