@@ -1,0 +1,113 @@
+/*
+ * code_tree.h: a code tree that tells which clauses kept clauses cover (document 01).
+ *
+ * Link libcodetree.a (made by `rt staticlib codetree`, for x86-64). Each function is proved, for all words,
+ * lengths and numbers, to return and write exactly what is said here, to read and write nothing but the slices
+ * that it is handed, and to end (crates/codetree).
+ *
+ * A slice is a pointer and the number of its elements. The pointer must be aligned and valid for all of them;
+ * with 0 elements it may be null. Slices handed to one call must not overlap. No pointer is kept, nothing is
+ * allocated, and there is no other state: calls on different trees may run at the same time.
+ *
+ * Stack (measured, not proved): about 0.1 MB for trees that these calls made. The query calls itself at each
+ * level of the tree, so tree words from elsewhere, which can nest 32,767 levels, take it up to 8 MB.
+ *
+ * Each function returns 0, or the code of the first refusal that applies; a refusal changes no word of a tree
+ * or a witness. `told` gets the values of an answer in its first words, as far as its t words reach. Words for
+ * which there is no value stay as they were.
+ *
+ *   code                    told       refused by
+ *    1  bad slice                      fresh, insert, remove, query: n not 2 to 65,536
+ *    2  broken                         insert, remove, query: the tree's words are not a tree's
+ *    3  bad length                     insert, query: m not 1 to 64
+ *    4  bad clause          position   insert, query: the first word, or the end, that breaks the clause rules
+ *    5  ninth literal       position   insert, query: a ninth head
+ *    6  short witness                  query: k under 72
+ *    7  number taken                   insert
+ *    8  held                number     insert: a variant is kept, under this number
+ *    9  no such number                 remove
+ *   10  list full                      insert: 1,024 clauses are kept
+ *   11  no room                        insert: the tree would need more than n - 1 instruction words
+ *   12  spent               count      query: the walk would take one candidate more than the budget
+ *   13  bad size                       ceiling: kept over 1,024, or q or m not 1 to 8
+ */
+#ifndef CODE_TREE_H
+#define CODE_TREE_H
+
+#include <stddef.h>
+#include <stdint.h>
+
+#ifdef __cplusplus
+extern "C" {
+#endif
+
+/* Limits: words of a tree, words and literals of a clause, kept clauses, words of a witness. */
+#define CT_TREE_LEAST 2
+#define CT_TREE_MOST 65536
+#define CT_CLAUSE_WORDS 64
+#define CT_CLAUSE_LITERALS 8
+#define CT_KEPT_CLAUSES 1024
+#define CT_WITNESS_WORDS 72
+
+/* The refusals. */
+enum {
+    CT_BAD_SLICE = 1,
+    CT_BROKEN = 2,
+    CT_BAD_LENGTH = 3,
+    CT_BAD_CLAUSE = 4,
+    CT_NINTH_LITERAL = 5,
+    CT_SHORT_WITNESS = 6,
+    CT_NUMBER_TAKEN = 7,
+    CT_HELD = 8,
+    CT_NO_SUCH_NUMBER = 9,
+    CT_LIST_FULL = 10,
+    CT_NO_ROOM = 11,
+    CT_SPENT = 12,
+    CT_BAD_SIZE = 13
+};
+
+/*
+ * Makes an empty tree of n words, whatever they hold.
+ * Returns 0 with every word 0, or 1.
+ */
+uint64_t ct_fresh(uint64_t *tree, size_t n);
+
+/*
+ * Keeps a clause of m words under a number in a tree of n words.
+ * Returns 0 with the clause merged into the tree, or 1, 2, 3, 4, 5, 7, 8, 10 or 11
+ * (asked for in the order 1, 3 to 5, 2, 7, 8, 10, 11).
+ * told: the position for 4 and 5, the number under which a variant is kept for 8; else nothing.
+ */
+uint64_t ct_insert(uint64_t *tree, size_t n, const uint16_t *clause, size_t m, uint32_t number,
+                   uint64_t *told, size_t t);
+
+/*
+ * Takes the clause with a number out of a tree of n words.
+ * Returns 0 with the tree closed up, or 1, 2 or 9.
+ */
+uint64_t ct_remove(uint64_t *tree, size_t n, uint32_t number);
+
+/*
+ * Asks whether a clause kept in a tree of n words subsumes a clause of m words, with at most `budget` candidates.
+ * Returns 0, or 1, 2, 3, 4, 5, 6 or 12 (asked for in the order 1, 3 to 6, the header's 2, then 2 or 12 as the
+ * walk meets them).
+ * told: with 0, three values: 1 for covered, or 0; the number of the covering clause, or 0; the count of
+ * candidates tried. The position for 4 and 5, the count for 12; else nothing.
+ * witness (k words, at least 72), only if covered: the query's literal for literal i of the covering clause
+ * at i, the query's position for its Put number j at 8 + j. Its other words stay as they were.
+ */
+uint64_t ct_query(const uint64_t *tree, size_t n, const uint16_t *clause, size_t m, uint64_t budget,
+                  uint16_t *witness, size_t k, uint64_t *told, size_t t);
+
+/*
+ * The most candidates that a query of q literals can take in a tree of `kept` clauses of at most m literals:
+ * kept * (q + q^2 + .. + q^m).
+ * Returns 0, or 13. told: with 0 the ceiling; else nothing.
+ */
+uint64_t ct_ceiling(uint64_t kept, uint64_t q, uint64_t m, uint64_t *told, size_t t);
+
+#ifdef __cplusplus
+}
+#endif
+
+#endif

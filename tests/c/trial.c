@@ -1,0 +1,54 @@
+/* The header, from C and from C++: a trial row of document 01, and told words that are too few. */
+#include "code_tree.h"
+
+#include <stdio.h>
+
+static int failed = 0;
+
+static void expect(const char *what, uint64_t got, uint64_t wanted) {
+    if (got != wanted) {
+        printf("%s: %llu, not %llu\n", what, (unsigned long long)got, (unsigned long long)wanted);
+        failed = 1;
+    }
+}
+
+int main(void) {
+    /* P(x), Q(x) is kept; P(a), P(b), Q(b) is asked for */
+    const uint16_t kept[] = {0x8801, 0x4000, 0x8802, 0x4000};
+    const uint16_t asked[] = {0x8801, 0x0001, 0x8801, 0x0002, 0x8802, 0x0002};
+    const uint16_t cut[] = {0x8801};
+    uint64_t tree[24];
+    uint64_t told[3] = {9, 9, 9};
+    uint16_t witness[CT_WITNESS_WORDS] = {0};
+
+    expect("fresh", ct_fresh(tree, 24), 0);
+    expect("fresh of one word", ct_fresh(tree, 1), CT_BAD_SLICE);
+    expect("insert", ct_insert(tree, 24, kept, 4, 7, NULL, 0), 0);
+    expect("insert again", ct_insert(tree, 24, kept, 4, 8, told, 3), CT_HELD);
+    expect("held number", told[0], 7);
+    expect("told no further", told[1], 9);
+    expect("insert of a cut clause", ct_insert(tree, 24, cut, 1, 8, told, 1), CT_BAD_CLAUSE);
+    expect("position", told[0], 1);
+
+    expect("query", ct_query(tree, 24, asked, 6, 8, witness, CT_WITNESS_WORDS, told, 3), 0);
+    expect("covered", told[0], 1);
+    expect("number", told[1], 7);
+    expect("count", told[2], 8);
+    expect("literals", witness[0] * 10u + witness[1], 12);
+    expect("positions", witness[8] * 10u + witness[9], 35);
+    expect("query without told", ct_query(tree, 24, asked, 6, 8, witness, CT_WITNESS_WORDS, NULL, 0), 0);
+    expect("short budget", ct_query(tree, 24, asked, 6, 7, witness, CT_WITNESS_WORDS, told, 3), CT_SPENT);
+    expect("spent count", told[0], 7);
+    expect("no witness", ct_query(tree, 24, asked, 6, 8, NULL, 0, told, 3), CT_SHORT_WITNESS);
+    expect("no clause", ct_query(tree, 24, NULL, 0, 8, witness, CT_WITNESS_WORDS, told, 3), CT_BAD_LENGTH);
+
+    expect("remove", ct_remove(tree, 24, 7), 0);
+    expect("remove again", ct_remove(tree, 24, 7), CT_NO_SUCH_NUMBER);
+    expect("ceiling", ct_ceiling(1024, 8, 8, told, 1), 0);
+    expect("ceiling's value", told[0], 19634135040u);
+    expect("ceiling of no literal", ct_ceiling(1, 0, 1, told, 1), CT_BAD_SIZE);
+    if (!failed) {
+        printf("ok\n");
+    }
+    return failed;
+}

@@ -1,0 +1,362 @@
+//! Document 01's trial rows, every refusal with its values, and told words that are too few.
+use code_tree::{ceiling, fresh, insert, query, raw, remove, Cover, Refusal, WITNESS_WORDS};
+
+const P3: u16 = 0x9801;
+const P2: u16 = 0x9001;
+const P1: u16 = 0x8801;
+const Q1: u16 = 0x8802;
+const F: u16 = 0x0803;
+const A: u16 = 0x0001;
+const B: u16 = 0x0002;
+const X: u16 = 0x4000;
+const Y: u16 = 0x4001;
+const Z: u16 = 0x4002;
+
+const PXAX: &[u16] = &[P3, X, A, X];
+const PXXB: &[u16] = &[P3, X, X, B];
+const PXQX: &[u16] = &[P1, X, Q1, X];
+const LONG: &[u16] = &[P2, X, F, Y, P2, Z, F, F, Z];
+const SHORT: &[u16] = &[P2, Y, F, F, Y];
+
+// A tree of n words with clauses kept under 1, 2, ..
+fn tree(n: usize, clauses: &[&[u16]]) -> Vec<u64> {
+    let mut words = vec![!0; n];
+    assert_eq!(fresh(&mut words), Ok(()));
+    for (i, clause) in clauses.iter().enumerate() {
+        assert_eq!(insert(&mut words, clause, i as u32 + 1), Ok(()));
+    }
+    words
+}
+
+// The answer and the witness of a query; what a witness held before is 9.
+fn ask(tree: &[u64], clause: &[u16], budget: u64) -> (Result<Cover, Refusal>, Vec<u16>) {
+    let mut witness = vec![9; WITNESS_WORDS];
+    (query(tree, clause, budget, &mut witness), witness)
+}
+
+fn answer(tree: &[u64], clause: &[u16], budget: u64) -> Result<Cover, Refusal> {
+    ask(tree, clause, budget).0
+}
+
+// A witness of 9s with literals and positions written.
+fn shown(literals: &[u16], positions: &[u16]) -> Vec<u16> {
+    let mut witness = vec![9; WITNESS_WORDS];
+    witness[..literals.len()].copy_from_slice(literals);
+    witness[8..8 + positions.len()].copy_from_slice(positions);
+    witness
+}
+
+fn covered(number: u32, count: u64) -> Result<Cover, Refusal> {
+    Ok(Cover::Covered { number, count })
+}
+
+fn not_covered(count: u64) -> Result<Cover, Refusal> {
+    Ok(Cover::NotCovered { count })
+}
+
+#[test]
+fn merged_tree() {
+    let words = tree(24, &[PXAX, PXXB]);
+    let extents: Vec<u64> = words[1..16].iter().map(|w| w & 0xFFF_FFFF).collect();
+    assert_eq!(extents, [15, 14, 13, 12, 11, 5, 4, 3, 2, 1, 5, 4, 3, 2, 1]);
+    assert_eq!(words[0], 15 << 32 | 2);
+    assert_eq!(words[16..], [0; 8]);
+    // First, Check P, Down, Put 0, Right; Put 1, Right, Check b, Compare 0 1, Success 2; Check a, Right, Put 1, Compare 0 1, Success 1
+    let keys: Vec<(u64, u64)> = words[1..16]
+        .iter()
+        .map(|w| (w >> 60, w >> 28 & 0xFFFF_FFFF))
+        .collect();
+    let begin = [(1, 0), (7, P3 as u64), (2, 0), (4, 0), (3, 0)];
+    let second = [(4, 1), (3, 0), (7, B as u64), (8, 1), (0, 2)];
+    let first = [(7, A as u64), (3, 0), (4, 1), (8, 1), (0, 1)];
+    assert_eq!(keys, [begin, second, first].concat());
+}
+
+#[test]
+fn starred_rows() {
+    let both = tree(24, &[PXAX, PXXB]);
+    assert_eq!(
+        ask(&both, &[P3, B, A, B], 100),
+        (covered(1, 1), shown(&[0], &[1, 3]))
+    );
+    let pxqx = tree(24, &[PXQX]);
+    let three = &[P1, A, P1, B, Q1, B];
+    assert_eq!(
+        ask(&pxqx, three, 100),
+        (covered(1, 8), shown(&[1, 2], &[3, 5]))
+    );
+    assert_eq!(
+        ask(&pxqx, three, 8),
+        (covered(1, 8), shown(&[1, 2], &[3, 5]))
+    );
+    assert_eq!(
+        ask(&pxqx, three, 7),
+        (Err(Refusal::Spent { count: 7 }), shown(&[], &[]))
+    );
+    assert_eq!(
+        ask(&pxqx, &[P1, A, Q1, B], 100),
+        (not_covered(4), shown(&[], &[]))
+    );
+    assert_eq!(answer(&tree(24, &[LONG]), SHORT, 100), covered(1, 2));
+    assert_eq!(answer(&tree(24, &[SHORT]), LONG, 100), covered(1, 2));
+    assert_eq!(
+        answer(&tree(24, &[&[P1, A]]), &[P1, X], 100),
+        not_covered(1)
+    );
+}
+
+#[test]
+fn budget_rows() {
+    assert_eq!(answer(&tree(24, &[]), PXAX, 0), not_covered(0));
+    assert_eq!(
+        answer(&tree(24, &[PXAX]), PXAX, 0),
+        Err(Refusal::Spent { count: 0 })
+    );
+    assert_eq!(answer(&tree(24, &[PXAX]), PXAX, u64::MAX), covered(1, 1));
+}
+
+#[test]
+fn room_rows() {
+    tree(11, &[PXAX]);
+    assert_eq!(insert(&mut tree(10, &[]), PXAX, 1), Err(Refusal::NoRoom));
+    tree(16, &[PXAX, PXXB]);
+    let mut words = tree(15, &[PXAX]);
+    let before = words.clone();
+    assert_eq!(insert(&mut words, PXXB, 2), Err(Refusal::NoRoom));
+    assert_eq!(words, before);
+    assert_eq!(remove(&mut words, 1), Ok(()));
+    assert_eq!(words, [0; 15]);
+    assert_eq!(insert(&mut words, PXXB, 2), Ok(()));
+}
+
+#[test]
+fn limit_rows() {
+    // seven literals of 8 words and one of 8, or of 9: P with seven arguments
+    let p7 = 0x8000 | 7 << 11 | 1;
+    let sixty_four: Vec<u16> = (0..8).flat_map(|_| [p7, A, A, A, A, A, A, A]).collect();
+    let mut sixty_five = sixty_four.clone();
+    sixty_five.push(A);
+    let mut words = tree(200, &[&sixty_four]);
+    assert_eq!(answer(&words, &sixty_four, 8), covered(1, 8));
+    assert_eq!(answer(&words, &sixty_five, 100), Err(Refusal::BadLength));
+    assert_eq!(insert(&mut words, &sixty_five, 2), Err(Refusal::BadLength));
+    let eight = [0x8001; 8];
+    let nine = [0x8001; 9];
+    assert_eq!(insert(&mut words, &eight, 2), Ok(()));
+    assert_eq!(
+        insert(&mut words, &nine, 3),
+        Err(Refusal::NinthLiteral { position: 8 })
+    );
+    assert_eq!(
+        answer(&words, &nine, 9),
+        Err(Refusal::NinthLiteral { position: 8 })
+    );
+    assert_eq!(
+        query(&words, &eight, 99, &mut [0; 71]),
+        Err(Refusal::ShortWitness)
+    );
+    assert_eq!(query(&words, &eight, 99, &mut [0; 72]), covered(2, 8));
+}
+
+#[test]
+fn refusals_of_slices() {
+    for n in [0, 1, 65537] {
+        let mut words = vec![7; n];
+        assert_eq!(fresh(&mut words), Err(Refusal::BadSlice));
+        assert_eq!(insert(&mut words, PXAX, 1), Err(Refusal::BadSlice));
+        assert_eq!(remove(&mut words, 1), Err(Refusal::BadSlice));
+        assert_eq!(answer(&words, PXAX, 1), Err(Refusal::BadSlice));
+        assert_eq!(words, vec![7; n]);
+    }
+    for n in [2, 65536] {
+        let mut words = vec![7; n];
+        assert_eq!(insert(&mut words, PXAX, 1), Err(Refusal::Broken));
+        assert_eq!(remove(&mut words, 1), Err(Refusal::Broken));
+        assert_eq!(words, vec![7; n]);
+        assert_eq!(answer(&vec![!0; n], PXAX, 1), Err(Refusal::Broken));
+        assert_eq!(fresh(&mut words), Ok(()));
+        assert_eq!(words, vec![0; n]);
+    }
+}
+
+#[test]
+fn refusals_of_clauses() {
+    let mut words = tree(50, &[]);
+    let mut both = |clause: &[u16], refusal: Refusal| {
+        assert_eq!(insert(&mut words, clause, 1), Err(refusal));
+        assert_eq!(answer(&words, clause, 9), Err(refusal));
+        assert_eq!(words, [0; 50]);
+    };
+    both(&[], Refusal::BadLength);
+    both(&[0x8001; 65], Refusal::BadLength);
+    both(&[X], Refusal::BadClause { position: 0 });
+    both(&[P2, A], Refusal::BadClause { position: 2 });
+    both(&[P2, A, P1, A], Refusal::BadClause { position: 2 });
+    both(&[P1, X | 1 << 11, A], Refusal::BadClause { position: 1 });
+    both(&[0x8001; 9], Refusal::NinthLiteral { position: 8 });
+}
+
+#[test]
+fn refusals_of_numbers() {
+    let mut words = tree(24, &[PXAX]);
+    let before = words.clone();
+    assert_eq!(insert(&mut words, PXXB, 1), Err(Refusal::NumberTaken));
+    assert_eq!(
+        insert(&mut words, &[P3, Y, A, Y], 5),
+        Err(Refusal::Held { number: 1 })
+    );
+    assert_eq!(remove(&mut words, 5), Err(Refusal::NoSuchNumber));
+    assert_eq!(words, before);
+    assert_eq!(remove(&mut words, 1), Ok(()));
+    assert_eq!(insert(&mut words, PXAX, u32::MAX), Ok(()));
+    assert_eq!(
+        insert(&mut words, PXAX, 0),
+        Err(Refusal::Held { number: u32::MAX })
+    );
+    assert_eq!(answer(&words, PXAX, 9), covered(u32::MAX, 1));
+}
+
+#[test]
+fn list_full() {
+    let mut words = tree(65536, &[]);
+    for number in 0..1024 {
+        assert_eq!(
+            insert(&mut words, &[0x8000 | number], number as u32),
+            Ok(())
+        );
+    }
+    assert_eq!(
+        insert(&mut words, &[0x8000 | 1024], 1024),
+        Err(Refusal::ListFull)
+    );
+    assert_eq!(
+        insert(&mut words, &[0x8000 | 5], 1024),
+        Err(Refusal::Held { number: 5 })
+    );
+    assert_eq!(words[0], 2049 << 32 | 1024);
+    assert_eq!(remove(&mut words, 77), Ok(()));
+    assert_eq!(insert(&mut words, &[0x8000 | 1024], 77), Ok(()));
+    assert_eq!(answer(&words, &[0x8000 | 1024], 9), covered(77, 1));
+}
+
+#[test]
+fn ceilings() {
+    assert_eq!(ceiling(0, 1, 1), Ok(0));
+    assert_eq!(ceiling(3, 2, 3), Ok(3 * (2 + 4 + 8)));
+    assert_eq!(ceiling(1024, 8, 8), Ok(19_634_135_040));
+    for (kept, q, m) in [
+        (1025, 1, 1),
+        (1, 0, 1),
+        (1, 9, 1),
+        (1, 1, 0),
+        (1, 1, 9),
+        (u64::MAX, 1, 1),
+        (1, u64::MAX, 1),
+        (1, 1, u64::MAX),
+    ] {
+        assert_eq!(ceiling(kept, q, m), Err(Refusal::BadSize));
+    }
+}
+
+// The number returned, and the told words, of which there are t and which held 9.
+fn told(t: usize, call: impl Fn(&mut [u64]) -> u64) -> (u64, Vec<u64>) {
+    let mut words = vec![9; t];
+    (call(&mut words), words)
+}
+
+#[test]
+fn told_as_far_as_it_reaches() {
+    let pxqx = tree(24, &[PXQX]);
+    let rows: [(&[u16], u64, u64, &[u64]); 6] = [
+        (&[P1, A, P1, B, Q1, B], 100, 0, &[1, 1, 8]),
+        (&[P1, A, Q1, B], 100, 0, &[0, 0, 4]),
+        (&[P1, A, P1, B, Q1, B], 7, 12, &[7]),
+        (&[P2, A], 7, 4, &[2]),
+        (&[0x8001; 9], 7, 5, &[8]),
+        (&[], 7, 3, &[]),
+    ];
+    for t in 0..6 {
+        let so_far =
+            |values: &[u64]| -> Vec<u64> { (0..t).map(|i| *values.get(i).unwrap_or(&9)).collect() };
+        for (clause, budget, code, values) in rows {
+            let answer = told(t, |words| {
+                raw::query(&pxqx, clause, budget, &mut [0; 72], words)
+            });
+            assert_eq!(answer, (code, so_far(values)));
+        }
+        assert_eq!(
+            told(t, |words| raw::query(&pxqx, PXQX, 9, &mut [0; 71], words)),
+            (6, so_far(&[]))
+        );
+        assert_eq!(
+            told(t, |words| raw::query(
+                &[9 << 32, 0],
+                PXQX,
+                9,
+                &mut [0; 72],
+                words
+            )),
+            (2, so_far(&[]))
+        );
+        let inserted = |clause: &[u16], number: u32| {
+            told(t, |words| {
+                raw::insert(&mut pxqx.clone(), clause, number, words)
+            })
+        };
+        assert_eq!(inserted(PXAX, 2), (0, so_far(&[])));
+        assert_eq!(inserted(PXAX, 1), (7, so_far(&[])));
+        assert_eq!(inserted(PXQX, 3), (8, so_far(&[1])));
+        assert_eq!(inserted(&[P2, A], 3), (4, so_far(&[2])));
+        assert_eq!(inserted(&[0x8001; 9], 3), (5, so_far(&[8])));
+        assert_eq!(
+            told(t, |words| raw::ceiling(3, 2, 3, words)),
+            (0, so_far(&[42]))
+        );
+        assert_eq!(
+            told(t, |words| raw::ceiling(3, 2, 9, words)),
+            (13, so_far(&[]))
+        );
+    }
+}
+
+// Nested words, each with so many siblings after it that cannot be taken: a First, Puts, and a Check that fails.
+fn nested(levels: usize, siblings: usize) -> Vec<u64> {
+    let each = 1 + siblings;
+    let mut words = vec![0; 65536];
+    words[0] = ((levels * each) as u64) << 32;
+    for level in 0..levels {
+        let key: u64 = if level == 0 { 1 << 32 } else { 4 << 32 };
+        words[1 + level] = key << 28 | (each * (levels - level) - siblings) as u64;
+    }
+    for word in &mut words[levels..=levels * each] {
+        *word = (7 << 32 | 0xFFFF) << 28 | 1;
+    }
+    words
+}
+
+#[test]
+fn deepest_trees() {
+    let calls = || {
+        // the topmost Check comes before a candidate
+        assert_eq!(
+            answer(&nested(32767, 1), &[0x8001], 99),
+            Err(Refusal::Broken)
+        );
+        assert_eq!(answer(&nested(65535, 0), &[0x8001], 99), not_covered(1));
+        let mut words = nested(65535, 0);
+        assert_eq!(insert(&mut words, &[0x8001], 1), Err(Refusal::Broken));
+        // the same with a Success at the end is well laid
+        words[0] |= 1;
+        words[65535] = 5 << 28 | 1;
+        assert_eq!(insert(&mut words, &[0x8001], 1), Err(Refusal::NoRoom));
+        assert_eq!(remove(&mut words, 1), Err(Refusal::NoSuchNumber));
+        assert_eq!(remove(&mut words, 5), Ok(()));
+        assert_eq!(words, [0; 65536]);
+    };
+    std::thread::Builder::new()
+        .stack_size(8 << 20)
+        .spawn(calls)
+        .unwrap()
+        .join()
+        .unwrap();
+}
