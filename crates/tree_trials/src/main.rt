@@ -319,7 +319,7 @@ fn room() {
     insert(b"P(x,a,x)", &mut fifteen, &[P3, X, A, X], 1);
 }
 
-// Document 01's two clauses merged in both orders, and removed again.
+// Document 01's two clauses merged, and removed again.
 fn merging() {
     heading(b"P(x,a,x), then P(x,x,b)");
     let mut words = [0u64; 16];
@@ -332,7 +332,12 @@ fn merging() {
     show(&words);
     remove(&mut words, 2);
     show_zeros(&words);
+}
+
+// The same in the other order.
+fn merging_back() {
     heading(b"P(x,x,b), then P(x,a,x)");
+    let mut words = [0u64; 16];
     insert(b"P(x,x,b)", &mut words, &[P3, X, X, B], 2);
     insert(b"P(x,a,x)", &mut words, &[P3, X, A, X], 1);
     show(&words);
@@ -343,7 +348,7 @@ fn merging() {
     show_zeros(&words);
 }
 
-// A sequence that is the beginning of another, in both orders.
+// A sequence and then one of which it is the beginning.
 fn beginnings() {
     heading(b"P, then P or Q");
     let mut words = [0u64; 12];
@@ -354,7 +359,12 @@ fn beginnings() {
     show(&words);
     remove(&mut words, 2);
     show_zeros(&words);
+}
+
+// The same in the other order.
+fn beginnings_back() {
     heading(b"P or Q, then P");
+    let mut words = [0u64; 12];
     insert(b"P or Q", &mut words, &[P, Q], 2);
     insert(b"P", &mut words, &[P], 1);
     show(&words);
@@ -510,6 +520,10 @@ fn unmade() {
     show(&tops);
     remove(&mut tops, 5);
     show(&tops);
+}
+
+// More slices that no clauses made.
+fn unmade_too() {
     heading(b"A Check at the top, and Put 99 below it");
     let mut checks: [u64; 8] = [
         0x00000003_00000001,
@@ -543,7 +557,7 @@ fn unmade() {
     show(&firsts);
 }
 
-// A number that stands twice.
+// A number that stands twice: the first is meant.
 fn twice() {
     heading(b"A number twice");
     let mut words: [u64; 9] = [
@@ -663,6 +677,44 @@ fn broken_extents() {
     altered(b"Extent past its parent's", 8, 0x7_00000002_0000003);
     altered(b"Extent over its right sibling", 6, 0x7_00000001_0000003);
     altered(b"Extent short of what is below", 5, 0x3_00000000_0000004);
+}
+
+// An extent past its parent's that takes in the next topmost word, so that each row by itself is one.
+fn broken_nesting() {
+    both(
+        b"An extent up to its parent's",
+        &mut [
+            0x00000007_00000003,
+            0x1_00000000_0000005,
+            0x7_00008002_0000002,
+            0x0_00000001_0000001,
+            0x7_00008003_0000002,
+            0x0_00000002_0000001,
+            0x7_00008004_0000002,
+            0x0_00000004_0000001,
+            0,
+            0,
+        ],
+    );
+    both(
+        b"An extent past its parent's, over the next topmost word",
+        &mut [
+            0x00000007_00000003,
+            0x1_00000000_0000005,
+            0x7_00008002_0000002,
+            0x0_00000001_0000001,
+            0x7_00008003_0000004,
+            0x0_00000002_0000001,
+            0x7_00008004_0000002,
+            0x0_00000004_0000001,
+            0,
+            0,
+        ],
+    );
+}
+
+// Extents of 1 on other words than Success, and larger ones on Success.
+fn broken_leaves() {
     altered(b"Extent of 1, not on a Success", 6, 0x7_00000001_0000001);
     altered(b"Extent of 2 on a Success", 7, 0x0_00000001_0000002);
     both(
@@ -722,17 +774,6 @@ fn broken_orders() {
         ],
     );
     both(
-        b"Two Successes at the top",
-        &mut [
-            0x00000002_00000002,
-            0x0_00000001_0000001,
-            0x0_00000002_0000001,
-            0,
-            0,
-            0,
-        ],
-    );
-    both(
         b"A Check, then a Success among siblings",
         &mut [
             0x00000004_00000002,
@@ -740,6 +781,21 @@ fn broken_orders() {
             0x7_00008002_0000002,
             0x0_00000001_0000001,
             0x0_00000002_0000001,
+            0,
+            0,
+        ],
+    );
+}
+
+// Topmost words that rise, and some that do not.
+fn broken_tops() {
+    both(
+        b"Two Successes at the top",
+        &mut [
+            0x00000002_00000002,
+            0x0_00000001_0000001,
+            0x0_00000002_0000001,
+            0,
             0,
             0,
         ],
@@ -837,18 +893,24 @@ fn main() {
     long_slices();
     room();
     merging();
+    merging_back();
     beginnings();
+    beginnings_back();
     siblings();
     numbers();
     full_list();
     full_slice();
     most_laid();
     unmade();
+    unmade_too();
     twice();
     broken_headers();
     broken_keys();
     broken_extents();
+    broken_nesting();
+    broken_leaves();
     broken_orders();
+    broken_tops();
     broken_ends();
     faults();
 }
