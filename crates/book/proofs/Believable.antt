@@ -1,5 +1,6 @@
 -- The definitions' laws, each by its theorem.
 use Rattle.clause.proofs.Accepted.{clause-laws}
+use Rattle.clause.proofs.Order.{subsumes-refl, subsumes-trans}
 use Rattle.machine.proofs.Matching.{matching}
 use Rattle.tree.proofs.Laws.{tree-laws}
 use Rattle.walk.proofs.Laws.{walk-laws, full-budget}
@@ -11,6 +12,8 @@ pub believable : Believable
 believable =
     record {
       clauses = clause-laws;
+      reflexive = subsumes-refl;
+      transitive = subsumes-trans;
       matching = matching;
       trees = tree-laws;
       walks = walk-laws;

@@ -1,5 +1,8 @@
 -- What is claimed of the definitions themselves, gathered: each crate's laws, document 01's starred rows, the readings.
+use mathlib.Core.List.{List}
+use Prim.Native.Nat.{ℕ}
 use Rattle.clause.specs.Lists.{Hold}
+use Rattle.clause.specs.Clause.{Subsumes}
 use Rattle.clause.specs.Accepted.{ClauseLaws}
 use Rattle.machine.specs.Matching.{Matching}
 use Rattle.tree.specs.Laws.{TreeLaws}
@@ -12,6 +15,9 @@ use Rattle.book.specs.Readings.{readings}
 -- the claim
 pub record Believable : Type 0 where
   pub clauses : ClauseLaws
+  -- every clause subsumes itself, and one that subsumes a clause subsumes what that subsumes
+  pub reflexive : (c : List ℕ) → Subsumes c c
+  pub transitive : (c d e : List ℕ) → Subsumes c d → Subsumes d e → Subsumes c e
   pub matching : Matching
   pub trees : TreeLaws
   pub walks : WalkLaws
