@@ -5,7 +5,7 @@ use Prim.Native.Nat.{ℕ, zero, suc, _<_, _≤_}
 use native.Mathlib.Decide.{ℕ-discrete, decLt}
 use native.Mathlib.Omega.{arith}
 use lib.ListN.{length, getD, set, replicate, length-append, length-take, length-set, length-replicate, List·getD-append, List·getD-eq-default}
-use lib.Seq.{ext-getD, getD-take, getD-append-seam, getD-set-same, getD-set-other, take-all}
+use lib.Seq.{ext-getD, getD-take, getD-append-seam, getD-set-same, getD-set-other}
 use Rattle.clause.specs.Tables.{padded}
 use Rattle.clause.proofs.Lists.{length-snoc}
 
@@ -29,10 +29,6 @@ padded-get n l i h = getD-take n (l ++ replicate n 0) i 0 h ∙ getD-zeros l n i
 pub padded-is : (n : ℕ) (t l : List ℕ) → length t ≡ n → ((i : ℕ) → i < n → getD t i 0 ≡ getD l i 0) → t ≡ padded n l
 padded-is n t l e h =
     ext-getD 0 t (padded n l) (e ∙ sym (length-padded n l)) (λ i g. let b : i < n = omega arith in h i b ∙ sym (padded-get n l i b))
-
-pub padded-none : (n : ℕ) → replicate n 0 ≡ padded n []
-unfolding padded
-padded-none n = let h : length {A = ℕ} (replicate n 0) ≤ n = simp length-replicate (omega arith) in sym (take-all n (replicate n 0) h)
 
 -- one more element; past the table's length it is left out
 pub padded-snoc : (n : ℕ) (l : List ℕ) (x : ℕ) → set (padded n l) (length l) x ≡ padded n (l ++ (x ∷ []))

@@ -1,4 +1,4 @@
--- Reading a clause literal by literal: what stands at a literal's start, past its head and arguments, and on.
+-- Reading a clause: at a literal's start, down to its arguments, past each of them and right to the next one.
 use mathlib.Core.Path.{_≡_, refl, sym, _∙_}
 use mathlib.Core.Bool.{true, false}
 use mathlib.Core.List.{List, [], _∷_}
@@ -10,46 +10,39 @@ use lib.Seq.{drop-cons}
 use borrow.Author.Tests.{lt-ltb, le-ltb}
 use Rattle.clause.specs.Word.{arity, Sort, symbol, variable, head, wrong, sort, isHead}
 use Rattle.clause.specs.Clause.{maxWords, maxLiterals, scanWord, scan, shape}
-use Rattle.clause.specs.Cursor.{headAt, firstOf, goDown, pass, passArguments, passLiteral}
+use Rattle.clause.specs.Cursor.{headAt, firstOf, goDown, goRight, goPast}
 use Rattle.clause.specs.declared.Cursor.{Cursor}
+use Rattle.clause.specs.declared.Move.{Move}
 use Rattle.clause.specs.declared.Move.the-variants.{To, Nowhere}
 use Rattle.clause.specs.declared.Passed.the-variants.{At, Off}
 use Rattle.clause.specs.declared.Fault.the-variants.{BadLength, Bad, Ninth}
+use Rattle.clause.specs.declared.Shape.{Shape}
 use Rattle.clause.specs.declared.Shape.the-variants.{Faulty, Whole}
-use Rattle.clause.proofs.Passing.{pass-none, pass-at, scanOn, scan-split}
+use Rattle.clause.proofs.Passing.{scan-past}
+
+-- the reading from a position on, where an argument with its right siblings or, with none, a literal is to come
+abbrev pub readOn : List ℕ → (at lits : ℕ) → Move → Shape
+readOn q at lits Nowhere = scan (drop at q) 0 lits at
+readOn q at lits (To c) = scan (drop (c .at) q) (suc (c .left)) lits (c .at)
+
+-- some terms to come, the first of which stands there
+read-first : (q : List ℕ) (at lits n : ℕ) → readOn q at lits (firstOf n at) ≡ scan (drop at q) n lits at
+read-first q at lits zero = refl
+read-first q at lits (suc k) = refl
+
+pub first-at : (n at : ℕ) (c : Cursor) → firstOf n at ≡ To c → c .at ≡ at
+first-at zero at c e = let z : _≡_ {A = ℕ} 0 1 = cc in absurd (omega arith)
+first-at (suc k) at c e = let z : record { at = at; left = k } ≡ c = cc in rw (← z)
+
+-- past an argument, and right
+module _ (q : List ℕ) (c : Cursor) (lits : ℕ) where
+  pub read-off : (p : ℕ) → goPast q c ≡ Off p → readOn q (c .at) lits (To c) ≡ Faulty (Bad p)
+  read-off p e = scan-past q c lits ∙ rw e
+
+  pub read-right : (n : Cursor) → goPast q c ≡ At n → readOn q (c .at) lits (To c) ≡ readOn q (n .at) lits (goRight (n .at) c)
+  read-right n e = scan-past q c lits ∙ rw e (sym (read-first q (n .at) lits (c .left)))
 
 module _ (q : List ℕ) (at : ℕ) where
-  -- no head, but the end
-  pub literal-end : length q ≤ at → passLiteral (drop at q) at ≡ Off at
-  unfolding passLiteral
-  literal-end h = rw (drop-of-length-le q h)
-
-  module _ (inside : at < length q) where
-    literal-here : passLiteral (drop at q) at ≡ pass (drop (suc at) q) (arity (getD q at 0)) (suc at) 0
-    unfolding passLiteral
-    literal-here = rw (drop-cons q at 0)
-
-    -- a head with no arguments
-    pub literal-alone : goDown q (headAt at) ≡ Nowhere → passLiteral (drop at q) at ≡ At (headAt (at + 1))
-    literal-alone e = literal-here ∙ rw add-one (go (arity (getD q at 0)) e)
-      where
-        go : (n : ℕ) → firstOf n (suc at) ≡ Nowhere → pass (drop (suc at) q) n (suc at) 0 ≡ At (headAt (suc at))
-        go zero e = pass-none (drop (suc at) q) (suc at) 0
-        go (suc k) e = let z : _≡_ {A = ℕ} 0 1 = cc in absurd (omega arith)
-
-    -- a head with arguments
-    pub literal-more : (a : Cursor) → goDown q (headAt at) ≡ To a → passLiteral (drop at q) at ≡ passArguments q a
-    unfolding passArguments
-    literal-more a e = literal-here ∙ go (arity (getD q at 0)) e
-      where
-        go : (n : ℕ) → firstOf n (suc at) ≡ To a → pass (drop (suc at) q) n (suc at) 0 ≡ passArguments q a
-        go zero e = let z : _≡_ {A = ℕ} 0 1 = cc in absurd (omega arith)
-        go (suc k) e = let z : record { at = suc at; left = k } ≡ a = cc in rw (← z)
-
-    -- a literal has a word
-    pub literal-on : (n : Cursor) → passLiteral (drop at q) at ≡ At n → at < n .at
-    literal-on n e = omega (arith, pass-at (drop (suc at) q) (arity (getD q at 0)) (suc at) 0 n (sym literal-here ∙ e))
-
   module _ (lits : ℕ) where
     -- the end
     pub scan-end : length q ≤ at → scan (drop at q) 0 lits at ≡ Whole lits
@@ -87,12 +80,11 @@ module _ (q : List ℕ) (at : ℕ) where
         unfolding scanWord
         scan-ninth h = scan-here ∙ rw (is-head, le-ltb lits maxLiterals h)
 
-        -- another head: past its literal, and on
-        pub scan-literal : lits < maxLiterals → scan (drop at q) 0 lits at ≡ scanOn q (lits + 1) (passLiteral (drop at q) at)
+        -- another head, and down
+        pub scan-head : lits < maxLiterals → scan (drop at q) 0 lits at ≡ readOn q (at + 1) (lits + 1) (goDown q (headAt at))
         unfolding scanWord
-        scan-literal h =
-            scan-here
-            ∙ rw (is-head, lt-ltb lits maxLiterals h, literal-here inside, add-one) (scan-split q (drop (suc at) q) (arity (getD q at 0)) (suc lits) (suc at) 0 refl)
+        scan-head h =
+            scan-here ∙ rw (is-head, lt-ltb lits maxLiterals h, add-one, add-one) (sym (read-first q (suc at) (suc lits) (arity (getD q at 0))))
 
 -- ---- the length
 

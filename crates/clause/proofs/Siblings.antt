@@ -76,7 +76,7 @@ total (n ∷ due) = n + total due
 abbrev pub Positive : List ℕ → Type 0
 Positive = All (λ n. 0 < n)
 
-push-append : (n : ℕ) (due rest : List ℕ) → pushDue n (due ++ rest) ≡ pushDue n due ++ rest
+pub push-append : (n : ℕ) (due rest : List ℕ) → pushDue n (due ++ rest) ≡ pushDue n due ++ rest
 unfolding pushDue
 push-append zero due rest = refl
 push-append (suc n) due rest = refl
@@ -90,11 +90,6 @@ pub push-positive : (n : ℕ) {due : List ℕ} → Positive due → Positive (pu
 unfolding pushDue
 push-positive zero p = p
 push-positive (suc n) p = also {x = suc n} (omega arith) p
-
-pub passed-positive : {due : List ℕ} → Positive due → Positive (passed due)
-passed-positive none = none
-passed-positive (also {x = zero} h p) = p
-passed-positive (also {x = suc n} h p) = push-positive n p
 
 -- words that are all the arguments still to come
 clear : {n : ℕ} {u : List ℕ} → Shaped n u → (due rest : List ℕ) → Positive due → n ≡ total due → dueAfter u (due ++ rest) ≡ rest
@@ -170,7 +165,7 @@ reached-enough due ws R h = go due (R .positive) (rw append-nil at (shaped-enoug
     go (suc n ∷ due) p e l = enough-fewer e (suc n) (omega arith)
 
 -- the literals before literal j
-starts-before : (ws : List ℕ) (j : ℕ) → j < length (literals ws) → take (startOf ws j) ws ≡ before ws ++ flatten (take j (literals ws))
+pub starts-before : (ws : List ℕ) (j : ℕ) → j < length (literals ws) → take (startOf ws j) ws ≡ before ws ++ flatten (take j (literals ws))
 unfolding starts literals before flatten
 starts-before [] j h = absurd (omega arith)
 starts-before (w ∷ ws) j h = go (sort w) j h (starts-before ws)
@@ -206,7 +201,7 @@ module _ (d : List ℕ) (D : Clause d) where
       let h : Shaped (length (literals d)) d = rw (D .whole) at (shaped-literals (D .all)) in
       reached-at [] d (record { positive = none; others = length (literals d); shaped = rw (zero-add (length (literals d))) h }) p
 
-  no-words-before : before d ≡ []
+  pub no-words-before : before d ≡ []
   no-words-before = append-cancel-right (before d) [] (flatten (literals d)) (joined d ∙ sym (D .whole))
 
   -- at every position a whole term stands, and as many right siblings after it as it has

@@ -37,15 +37,6 @@ pass (w ∷ ws) (suc k) at left = ifInside (sort w) (pass ws (arity w + k) (suc 
 unfoldable pub goPast : List ℕ → Cursor → Passed
 goPast ws c = pass (drop (c .at) ws) 1 (c .at) (c .left)
 
--- past the term at a cursor and its right siblings
-unfoldable pub passArguments : List ℕ → Cursor → Passed
-passArguments ws c = pass (drop (c .at) ws) (suc (c .left)) (c .at) 0
-
--- past a head, which stands first, and its arguments
-unfoldable pub passLiteral : List ℕ → ℕ → Passed
-passLiteral [] at = Off at
-passLiteral (w ∷ ws) at = pass ws (arity w) (suc at) 0
-
 -- the position after the terms, or of what breaks the rules
 abbrev pub positionOf : Passed → ℕ
 positionOf (At c) = c .at

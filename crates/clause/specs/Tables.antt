@@ -1,7 +1,7 @@
 -- The tables of a clause: where its literals start, where its terms end and how many right siblings they have.
-use mathlib.Core.List.{List, [], _++_}
+use mathlib.Core.List.{List, [], _∷_, _++_}
 use Prim.Native.Nat.{ℕ}
-use lib.ListN.{length, take, replicate}
+use lib.ListN.{length, take, drop, replicate}
 use Rattle.clause.specs.Clause.{maxWords, maxLiterals, starts}
 use Rattle.clause.specs.Positions.{ends, siblings}
 use Rattle.clause.specs.declared.Clause.{Clause}
@@ -10,16 +10,18 @@ use Rattle.clause.specs.declared.Clause.{Clause}
 unfoldable pub padded : ℕ → List ℕ → List ℕ
 padded n l = take n (l ++ replicate n 0)
 
--- the tables of at most 64 words
-unfoldable pub tablesOf : List ℕ → Clause
-tablesOf d =
-    record {
-      literals = length (starts d);
-      starts = padded maxLiterals (starts d);
-      ends = padded maxWords (ends d);
-      siblings = padded maxWords (siblings d []);
-    }
+-- tables one after another: of the literals, of the ends, of the right siblings, and the number of literals
+unfoldable pub packed : (starts ends siblings : List ℕ) (count : ℕ) → List ℕ
+packed s e r n = padded maxLiterals s ++ padded maxWords e ++ padded maxWords r ++ (n ∷ [])
 
--- the tables of the first 64 words
+-- the tables of a clause
+unfoldable pub tablesOf : List ℕ → List ℕ
+tablesOf d = packed (starts d) (ends d) (siblings d []) (length (starts d))
+
+-- the same as a struct
 abbrev pub clauseOf : List ℕ → Clause
-clauseOf ws = tablesOf (take maxWords ws)
+clauseOf d = record { tables = tablesOf d }
+
+-- the ends and the right siblings from a position on, as if the clause began there
+unfoldable pub tablesFrom : List ℕ → ℕ → List ℕ
+tablesFrom d p = packed [] (replicate p 0 ++ drop p (ends d)) (replicate p 0 ++ siblings (drop p d) []) 0

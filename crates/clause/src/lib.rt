@@ -6,7 +6,6 @@ mod tables;
 mod word;
 
 pub use equality::same;
-pub use equality::same_terms;
 pub use reader::read;
 
 // What is wrong with a clause: its length (code 3), a word or the end that breaks the rules (4) or a ninth head (5), each with its position.
@@ -40,16 +39,28 @@ pub enum Passed {
     Off(usize),
 }
 
-// An accepted clause's tables: where each literal starts, where the term at each position ends and how many right siblings it has.
+// An accepted clause's tables: where each literal starts, where the term at each position ends, how many right siblings it has,
+// and the number of literals.
 pub struct Clause {
-    pub literals: usize,
-    pub starts: [u8; 8],
-    pub ends: [u8; 64],
-    pub siblings: [u8; 64],
+    pub tables: [u8; Clause::TABLES],
 }
 
 impl Clause {
+    // The most words of a clause.
     pub const WORDS: usize = 64;
 
+    // The most literals of a clause.
     pub const LITERALS: usize = 8;
+
+    // Where the ends stand in the tables.
+    pub const ENDS: usize = 8;
+
+    // Where the right siblings stand in the tables.
+    pub const SIBLINGS: usize = 72;
+
+    // Where the number of literals stands in the tables.
+    pub const COUNT: usize = 136;
+
+    // How many entries the tables have.
+    pub const TABLES: usize = 137;
 }

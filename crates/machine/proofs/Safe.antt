@@ -109,6 +109,41 @@ module _ (d : List ℕ) (D : Clause d) (s : State) (S : Safe d s) where
       go none f e = absurd (stuck≢next e)
       go (some c) f e = stepAt-safe x c (S .head c f) e
 
+-- a step that goes on leaves a head
+module _ (d : List ℕ) (s : State) (p : ℕ) (h : s .head ≡ some p) where
+  abbrev Headed : State → Type 0
+  Headed t = (q : ℕ) × (t .head ≡ some q)
+
+  given-headed : (o : Option ℕ) {t : State} → given o (headed s) ≡ next t → Headed t
+  given-headed o e = let (q, f, g) = given-next o (headed s) e in (q, ap (λ (t : State). t .head) (sym g))
+
+  same-headed : {t u : State} → next u ≡ next t → u .head ≡ some p → Headed t
+  same-headed {t} {u} e f = let g : u ≡ t = cc in (p, ap (λ (t : State). t .head) (sym g) ∙ f)
+
+  compare-headed : (a b : Option ℕ) {t : State} → compareTerms d s a b ≡ next t → Headed t
+  unfolding compareTerms
+  compare-headed none b e = absurd (stuck≢next e)
+  compare-headed (some a) none e = absurd (stuck≢next e)
+  compare-headed (some a) (some b) e = same-headed (goes fails _ _ (λ t. fails≢next) e) h
+
+  stepAt-headed : (x : Step) (c : ℕ) {t : State} → stepAt d x s c ≡ next t → Headed t
+  unfolding stepAt
+  stepAt-headed Down c e = given-headed (down d c) e
+  stepAt-headed Right c e = given-headed (right d c) e
+  stepAt-headed (Put k) c e = same-headed (goes stuck _ _ (λ t. stuck≢next) e) h
+  stepAt-headed (Push n) c e = let (q, f, g) = given-next (right d c) (pushing s n) (goes stuck _ _ (λ t. stuck≢next) e) in (p, ap (λ (t : State). t .head) (sym g) ∙ h)
+  stepAt-headed (Pop n) c e = given-headed (getD (s .pushes) n none) (goes stuck _ _ (λ t. stuck≢next) e)
+  stepAt-headed (Check w) c e = same-headed (goes fails _ _ (λ t. fails≢next) e) h
+  stepAt-headed (Compare m k) c e = compare-headed _ _ (goes stuck _ _ (λ t. stuck≢next) (goes stuck _ _ (λ t. stuck≢next) e))
+
+pub step-headed : (d : List ℕ) (s : State) (x : Step) {t : State} → step d x s ≡ next t → (q : ℕ) × (t .head ≡ some q)
+unfolding step stepFrom
+step-headed d s x {t} e = go (s .head) refl e
+  where
+    go : (o : Option ℕ) → s .head ≡ o → stepFrom d x s o ≡ next t → (q : ℕ) × (t .head ≡ some q)
+    go none f e = absurd (stuck≢next e)
+    go (some c) f e = stepAt-headed d s c f x c e
+
 pub initial-safe : (d : List ℕ) → Safe d initial
 initial-safe d =
     record {

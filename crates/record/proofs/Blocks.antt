@@ -2,12 +2,11 @@
 use mathlib.Core.Path.{_≡_, refl, ap, _∙_}
 use mathlib.Core.List.{List, [], _∷_, _++_, append-assoc, append-nil}
 use mathlib.Core.Bool.{Bool, true, false, cond}
-use Prim.Native.Nat.{ℕ, zero, suc, _+_, _*_, _≤_, _<_}
+use Prim.Native.Nat.{ℕ, zero, suc, _+_, _-_, _*_, _≤_, _<_}
 use native.Mathlib.Omega.{arith}
-use native.Mathlib.Numerals.{add-one}
 use lib.Dec.{ltb, eqb}
-use lib.ListN.{length, take, getD}
-use lib.Seq.{take-suc}
+use lib.ListN.{length, take, drop, getD, length-take}
+use lib.Seq.{take-add, take-take}
 use borrow.Author.Tests.{lt-ltb, le-ltb, eq-eqb, ne-eqb}
 use Rattle.record.specs.Text.{Written, written}
 use Rattle.record.specs.Line.{lineOf}
@@ -103,13 +102,22 @@ unfolding feed
 feed-append [] b s m = refl
 feed-append (x ∷ a) b s m = rw (feed-append a b (takeByte s m x .session) (takeByte s m x .store), append-assoc)
 
--- one byte more
-pub feed-more : (input : List ℕ) (i : ℕ) (s : Session) (m : Store) → i < length input
-    → feed s m (take (i + 1) input) ≡ andThen (feed s m (take i input)) (λ s′ m′. takeByte s′ m′ (getD input i 0))
+-- one byte
+pub feed-one : (input : List ℕ) (s : Session) (m : Store) → 0 < length input → feed s m (take 1 input) ≡ takeByte s m (getD input 0 0)
 unfolding feed
-feed-more input i s m h =
-    rw (add-one, take-suc input i 0, feed-append (take i input) (getD input i 0 ∷ []) s m)
-    (rw append-nil)
+feed-one [] s m h = absurd (omega arith)
+feed-one (b ∷ input) s m h = rw append-nil
+
+-- some bytes more
+feed-on : (input : List ℕ) (i k : ℕ) (s : Session) (m : Store)
+    → feed s m (take (i + k) input) ≡ andThen (feed s m (take i input)) (λ s′ m′. feed s′ m′ (take k (drop i input)))
+feed-on input i k s m = rw (take-add i k input) (feed-append (take i input) (take k (drop i input)) s m)
+
+-- at most as many records are counted as bytes are fed
+feed-records : (bs : List ℕ) (s : Session) (m : Store) → recordsIn (feed s m bs .session .totals) ≤ recordsIn (s .totals) + length bs
+unfolding feed
+feed-records [] s m = omega arith
+feed-records (b ∷ bs) s m = omega (arith, few-records (s .half) (s .stage) (s .totals) m b, feed-records bs (takeByte s m b .session) (takeByte s m b .store))
 
 -- what was fed, and then more, put into the output
 pub placed-then : (f : Fed) (k : Session → Store → Fed) (o : List ℕ) (at : ℕ) {s : Session} {m : Store} {w : Written}
@@ -163,28 +171,30 @@ feeding-none s m input o h =
     }
 
 module _ (s₀ : Session) (m₀ : Store) (input o₀ : List ℕ) {s : Session} {m : Store} {o : List ℕ} {i at : ℕ} (f : Feeding s₀ m₀ input o₀ s m o i at) where
-  pub feeding-more : {s′ : Session} {m′ : Store} {o′ : List ℕ} {at′ : ℕ} → i < length input → at + 45 ≤ length o → at′ ≤ at + 45
-      → Took (takeByte s m (getD input i 0)) o at s′ m′ (record { next = at′; output = o′ })
+  pub feeding-more : {s′ : Session} {m′ : Store} {o′ : List ℕ} {k at′ : ℕ} → 0 < k → i + k ≤ length input → at + 45 ≤ length o → at′ ≤ at + 45
+      → Took (feed s m (take k (take (length input - i) (drop i input)))) o at s′ m′ (record { next = at′; output = o′ })
       → length o′ ≡ length o → length (m′ .words) ≡ length (m .words) → length (m′ .slice) ≡ length (m .slice) → length (m′ .marks) ≡ length (m .marks)
-      → Feeding s₀ m₀ input o₀ s′ m′ o′ (i + 1) at′
-  feeding-more {s′} h room short t lo lw ls lm =
-      let b : ℕ = getD input i 0 in
-      let e : s′ ≡ takeByte s m b .session = ap (λ (p : Placed). p .session) (t .placed) in
-      let k : recordsIn (s′ .totals) ≤ recordsIn (s .totals) + 1 = rw e (few-records (s .half) (s .stage) (s .totals) m b) in
+      → Feeding s₀ m₀ input o₀ s′ m′ o′ (i + k) at′
+  feeding-more {s′} {k = k} some h room short t lo lw ls lm =
+      let bs : List ℕ = take k (drop i input) in
+      let e : take k (take (length input - i) (drop i input)) ≡ bs = take-take k (length input - i) (drop i input) (omega arith) in
+      let u : s′ ≡ feed s m bs .session = ap (λ (p : Placed). p .session) (t .placed) ∙ ap (λ (l : List ℕ). feed s m l .session) e in
+      let l : length bs ≤ k = simp length-take (omega arith) in
+      let n : recordsIn (s′ .totals) ≤ recordsIn (s .totals) + length bs = rw u (feed-records bs s m) in
       record {
         took =
-            took-as (feed-more input i s₀ m₀ h)
+            took-as (feed-on input i k s₀ m₀)
             (record {
-              placed = t .placed ∙ placed-then (feed s₀ m₀ (take i input)) (λ s″ m″. takeByte s″ m″ b) o₀ 0 (f .took .placed);
+              placed = t .placed ∙ ap (λ (l : List ℕ). placedAt (feed s m l) o at) e ∙ placed-then (feed s₀ m₀ (take i input)) (λ s″ m″. feed s″ m″ bs) o₀ 0 (f .took .placed);
               steady = t .steady;
             });
-        inside = omega arith;
+        inside = h;
         fits = omega (arith, f .output);
         output = lo ∙ f .output;
         words = lw ∙ f .words;
         slice = ls ∙ f .slice;
         marks = lm ∙ f .marks;
-        records = omega (arith, f .records, k);
+        records = omega (arith, f .records, n);
         first = λ z. absurd (omega arith);
       }
 

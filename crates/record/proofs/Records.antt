@@ -5,7 +5,7 @@ use mathlib.Core.Bool.{Bool, true, false, cond}
 use Prim.Native.Nat.{ℕ, zero, suc, _+_, _-_, _*_, _≤_, _<_}
 use native.Mathlib.Omega.{arith}
 use native.Mathlib.Decide.{decLe, decLt}
-use lib.Dec.{leb, ltb, eqb}
+use lib.Dec.{leb}
 use lib.ListN.{length, take, drop, replicate, length-drop, length-replicate}
 use lib.Seq.{sets, sets-eq, length-sets, take-at, length-take-le}
 use borrow.Author.Tests.{le-leb, lt-leb, leb-false, lt-ltb, le-ltb}
@@ -14,7 +14,6 @@ use Rattle.clause.specs.declared.Shape.{Shape}
 use Rattle.clause.specs.declared.Shape.the-variants.{Faulty, Whole}
 use Rattle.clause.specs.declared.Fault.the-variants.{BadLength}
 use mathlib.Core.Option.{Option, none as nobody, some}
-use native.Mathlib.Numerals.{add-one}
 use Rattle.tree.specs.Forest.{size, leaves, ins, find, holder}
 use Rattle.tree.specs.Laid.{maxKept, sized, wellLaid, decode}
 use Rattle.tree.specs.Entries.{Entry, entry}
@@ -29,8 +28,9 @@ use Rattle.walk.specs.Query.{witnessWords, query}
 use Rattle.record.specs.Line.{lineOf, totalsLine}
 use Rattle.record.specs.Answer.{treeWords, budget, Record, Answered, answeredAs, answered}
 use Rattle.record.specs.Output.{fields, recordsFor, recordsOf, State, Printed, counted, step, run, none, start, outputOf}
-use Rattle.record.specs.Feed.{Store, Fed, finishing, finished, going, storing, marked, takeField, andThen, feed, opened, WholeInput}
-use Rattle.record.proofs.Blocks.{at-count, at-empty, at-word, at-last, feed-append}
+use Rattle.record.specs.Feed.{Store, Fed, finishing, finished, storing, marked, takeField, andThen, feed, opened, WholeInput}
+use Rattle.record.proofs.Blocks.{at-count, at-empty, at-word, feed-append}
+use Rattle.record.proofs.Whole.{feedFields, even-after, filling, collect}
 use Rattle.record.specs.declared.Outcome.the-variants.{Kept}
 use Rattle.record.specs.declared.Totals.{Totals}
 use Rattle.record.specs.declared.Half.the-variants.{Even}
@@ -39,29 +39,6 @@ use Rattle.record.specs.declared.Stage.the-variants.{AtNumber, AtCount, 
 use Rattle.record.specs.declared.Session.{Session}
 
 -- ---- field by field
-
--- one field after another
-unfoldable feedFields : Stage → Totals → Store → List ℕ → Fed
-feedFields g t m [] = record { session = record { half = Even; stage = g; totals = t }; store = m; text = [] }
-feedFields g t m (w ∷ ws) = andThen (takeField g t m w) (λ s m′. feedFields (s .stage) (s .totals) m′ ws)
-
--- after a whole field the next byte is a first one
-even-after : (g : Stage) (t : Totals) (m : Store) (w : ℕ)
-    → takeField g t m w .session ≡ record { half = Even; stage = takeField g t m w .session .stage; totals = takeField g t m w .session .totals }
-unfolding takeField finished
-even-after AtNumber t m w = refl
-even-after (AtCount n) t m w = go (eqb w 0)
-  where
-    go : (b : Bool) → cond b (finished n 0 t m) (going (AtWord n w 0) t m) .session
-        ≡ record { half = Even; stage = cond b (finished n 0 t m) (going (AtWord n w 0) t m) .session .stage; totals = cond b (finished n 0 t m) (going (AtWord n w 0) t m) .session .totals }
-    go true = refl
-    go false = refl
-even-after (AtWord n count i) t m w = go (ltb (i + 1) count)
-  where
-    go : (b : Bool) → cond b (going (AtWord n count (i + 1)) t (storing m i w)) (finished n count t (storing m i w)) .session
-        ≡ record { half = Even; stage = cond b (going (AtWord n count (i + 1)) t (storing m i w)) (finished n count t (storing m i w)) .session .stage; totals = cond b (going (AtWord n count (i + 1)) t (storing m i w)) (finished n count t (storing m i w)) .session .totals }
-    go true = refl
-    go false = refl
 
 -- what is printed: the text, and the totals after it
 record Prints : Type 0 where
@@ -84,31 +61,7 @@ by-fields (a ∷ b ∷ bs) g t m =
 
 -- ---- the words of a record, one after another
 
--- some words stored from a place on
-abbrev filling : Store → (at : ℕ) (words : List ℕ) → Store
-filling m i ws = record { words = sets (m .words) i ws; slice = m .slice; marks = m .marks }
-
--- the words that are still to come are there
-collect : (ws : List ℕ) (n count i : ℕ) (t : Totals) (m : Store) → i < count → count ≤ i + length ws
-    → feedFields (AtWord n count i) t m ws
-    ≡ andThen (finished n count t (filling m i (take (count - i) ws))) (λ s m′. feedFields (s .stage) (s .totals) m′ (drop (count - i) ws))
-unfolding feedFields
-collect [] n count i t m h k = absurd (omega arith)
-collect (w ∷ ws) n count i t m h k = go (decLt (i + 1) count) (collect ws n count (i + 1) t (storing m i w))
-  where
-    go : Dec (i + 1 < count)
-        → (i + 1 < count → count ≤ i + 1 + length ws → feedFields (AtWord n count (i + 1)) t (storing m i w) ws
-        ≡ andThen (finished n count t (filling (storing m i w) (i + 1) (take (count - (i + 1)) ws))) (λ s m′. feedFields (s .stage) (s .totals) m′ (drop (count - (i + 1)) ws)))
-        → andThen (takeField (AtWord n count i) t m w) (λ s m′. feedFields (s .stage) (s .totals) m′ ws)
-        ≡ andThen (finished n count t (filling m i (take (count - i) (w ∷ ws)))) (λ s m′. feedFields (s .stage) (s .totals) m′ (drop (count - i) (w ∷ ws)))
-    go (yes l) ih =
-        let e : count - i ≡ suc (count - (i + 1)) = omega arith in
-        rw (at-word t m w n count i refl l, e) (ih l (omega arith) ∙ rw add-one)
-    go (no l) ih =
-        let e : count - i ≡ 1 = omega arith in
-        rw (at-last t m w n count i refl (omega arith), e)
-
--- they are not all there
+-- the words of a record that are not all there
 cut : (ws : List ℕ) (n count i : ℕ) (t : Totals) (m : Store) → i + length ws < count
     → shows (feedFields (AtWord n count i) t m ws) ≡ record { text = []; totals = t }
 unfolding feedFields

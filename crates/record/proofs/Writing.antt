@@ -1,5 +1,5 @@
 -- The digits of a number without fuel, and text put into the output piece by piece.
-use mathlib.Core.Path.{_≡_, sym, ap, _∙_}
+use mathlib.Core.Path.{_≡_, refl, sym, ap, _∙_}
 use mathlib.Core.List.{List, [], _∷_, _++_}
 use mathlib.Core.Bool.{Bool, true, false}
 use Prim.Native.Nat.{ℕ, zero, suc, _+_, _/_, _%_, _^_, _≤_, _<_}
@@ -7,7 +7,7 @@ use native.Mathlib.Omega.{arith}
 use native.Mathlib.Decide.{decLt}
 use native.Mathlib.Numerals.{add-one}
 use lib.ListN.{length, take, getD, length-append, set}
-use lib.Seq.{sets, length-sets, take-suc, length-take-le}
+use lib.Seq.{sets, set-comm, length-sets, take-suc, length-take-le}
 use borrow.Author.Tests.{lt-ltb, le-ltb}
 use Rattle.record.specs.Text.{digitsFor, decimal, Written, written}
 
@@ -55,10 +55,6 @@ pub placed : (t o : List ℕ) (at : ℕ) {r : ℕ} {p : List ℕ} → _≡_ {A =
     → (r ≡ at + length t) × (length p ≡ length o)
 placed t o at e = (ap (λ (w : Written). w .next) e, ap (λ (w : Written). length (w .output)) e ∙ length-sets o at t)
 
-pub put-inside : (t o : List ℕ) (at : ℕ) {r : ℕ} {p : List ℕ} → _≡_ {A = Written} (record { next = r; output = p }) (written t o at)
-    → at + length t < length o → r < length p
-put-inside t o at e h = omega (arith, placed t o at e)
-
 -- ---- a number, digit after digit
 
 pub length-small : (n : ℕ) → n < 10 → length (decimal n) ≡ 1
@@ -67,15 +63,29 @@ length-small n h = ap length (decimal-small n h)
 pub length-large : (n : ℕ) → 10 ≤ n → length (decimal n) ≡ length (decimal (n / 10)) + 1
 length-large n h = ap length (decimal-large n h) ∙ length-append (decimal (n / 10)) ((48 + n % 10) ∷ [])
 
-pub put-small : (n : ℕ) (o : List ℕ) (at : ℕ) → n < 10
-    → _≡_ {A = Written} (record { next = at + 1; output = set o at (48 + n) }) (written (decimal n) o at)
-put-small n o at h = rw (decimal-small n h)
+-- every number has a digit
+pub decimal-some : (n : ℕ) → 0 < length (decimal n)
+decimal-some n = go (decLt n 10)
+  where
+    go : Dec (n < 10) → 0 < length (decimal n)
+    go (yes s) = omega (arith, length-small n s)
+    go (no s) = omega (arith, length-large n (omega arith))
 
-pub put-large : (n at : ℕ) (o : List ℕ) {r : ℕ} {p : List ℕ} → 10 ≤ n → _≡_ {A = Written} (record { next = r; output = p }) (written (decimal (n / 10)) o at)
-    → _≡_ {A = Written} (record { next = r + 1; output = set p r (48 + n % 10) }) (written (decimal n) o at)
-put-large n at o h e =
-    ap (λ (w : Written). written ((48 + n % 10) ∷ []) (w .output) (w .next)) e
-    ∙ sym (written-append (decimal (n / 10)) ((48 + n % 10) ∷ []) o at) ∙ sym (rw (decimal-large n h))
+-- a byte after some text may be put before the text
+sets-set : (t o : List ℕ) (at i b : ℕ) → at + length t ≤ i → set (sets o at t) i b ≡ sets (set o i b) at t
+sets-set [] o at i b h = refl
+sets-set (a ∷ t) o at i b h = sets-set t (set o at a) (suc at) i b (omega arith) ∙ rw (set-comm o at i a b (λ e. omega arith))
+
+-- a number's last digit first, and then the digits before it
+pub put-last : (n : ℕ) (o : List ℕ) (at last : ℕ) → 10 ≤ n → last + 1 ≡ at + length (decimal n)
+    → sets o at (decimal n) ≡ sets (set o last (48 + n % 10)) at (decimal (n / 10))
+put-last n o at last h e =
+    let l : at + length (decimal (n / 10)) ≡ last = omega (arith, length-large n h) in
+    rw (decimal-large n h, sets-append, l) (sets-set (decimal (n / 10)) o at last (48 + n % 10) (omega arith))
+
+-- the only digit
+pub put-only : (n : ℕ) (o : List ℕ) (at last : ℕ) → n < 10 → last + 1 ≡ at + length (decimal n) → sets o at (decimal n) ≡ set o last (48 + n)
+put-only n o at last h e = let l : last ≡ at = omega (arith, length-small n h) in rw (l, decimal-small n h)
 
 -- ---- a text, byte after byte
 

@@ -131,6 +131,14 @@ pub record Took (expected : Fed) (output : List ℕ) (at : ℕ) (session : Sessi
   pub placed : record { session = session; store = store; written = written } ≡ placedAt expected output at
   pub steady : Steady (store .slice) (store .marks)
 
+-- the input begins with a whole record of at most 64 words
+pub record WholeRecord (session : Session) (input : List ℕ) (count : ℕ) : Type 0 where
+  pub half : session .half ≡ Even
+  pub stage : session .stage ≡ AtNumber
+  pub few : count ≤ 64
+  pub inside : 4 + count * 2 ≤ length input
+  pub counts : count ≡ getD input 2 0 * 256 + getD input 3 0
+
 -- how many records were counted
 abbrev pub recordsIn : Totals → ℕ
 recordsIn t = t .kept + t .struck + t .refused

@@ -8,22 +8,24 @@ use walk::QueryAnswer;
 use walk::Witness;
 use walk::query;
 ghost use mathlib.Core.Path.{_≡_};
+ghost use Prim.Native.Nat.{_≤_};
+ghost use lib.ListN.{length};
 ghost use Rattle.clause.specs.Clause.{Accepted};
+ghost use Rattle.machine.specs.Compiled.{maxKeys};
 ghost use Rattle.tree.specs.Calls.{insertion};
 ghost use Rattle.record.specs.Answer.{inserted, answered};
 ghost use Rattle.record.specs.Feed.{Steady, Answers};
 
 // Inserts a record that is not covered. The caller holds the slice well laid, with the marks of its numbers, and the clause is accepted.
-fn keep(tree: &mut [u64], marks: &mut [u8], words: &[u16], number: u16) -> Outcome
-    requires { ⌜ Steady (now tree) (now marks) × Accepted (now words) ⌝ }
+fn keep(tree: &mut [u64], marks: &mut [u8], keys: &mut [u64], words: &[u16], number: u16) -> Outcome
+    requires { ⌜ Steady (now tree) (now marks) × Accepted (now words) × (maxKeys ≤ length (now keys)) ⌝ }
     ensures { λ r. ⌜ Answers (inserted (insertion (now (tree .entry)) (now (words .entry)) number)) number (now (marks .entry)) r (now (tree .exit)) (now (marks .exit)) ⌝ }
 {
     let mark = number as usize;
     if marks[mark] > 0 {
         return Outcome::Refused(7);
     }
-    let mut keys = [0u64; Sequence::KEYS];
-    let count = compile(words, &mut keys);
+    let count = compile(words, keys);
     let answer = insert_new(tree, &keys[..count], number as u32);
     let CallAnswer::Refused(refusal) = answer else {
         marks[mark] = 1;
@@ -33,7 +35,13 @@ fn keep(tree: &mut [u64], marks: &mut [u8], words: &[u16], number: u16) -> Outco
 }
 
 // Queries a record, and inserts it where it is not covered. The caller holds the slice well laid, with the marks of its numbers.
-pub(crate) fn answer(tree: &mut [u64], marks: &mut [u8], words: &[u16], number: u16) -> Outcome
+pub(crate) fn answer(
+    tree: &mut [u64],
+    marks: &mut [u8],
+    keys: &mut [u64; Sequence::KEYS],
+    words: &[u16],
+    number: u16,
+) -> Outcome
     requires { ⌜ Steady (now tree) (now marks) ⌝ }
     ensures { λ r. ⌜ Answers (answered (now (tree .entry)) (record { number = number; words = now (words .entry) })) number (now (marks .entry)) r (now (tree .exit)) (now (marks .exit)) ⌝ }
 {
@@ -41,6 +49,6 @@ pub(crate) fn answer(tree: &mut [u64], marks: &mut [u8], words: &[u16], number: 
     match query(tree, words, 1000000000, &mut witness) {
         QueryAnswer::Unanswered(refusal) => Outcome::Refused(refusal.code()),
         QueryAnswer::Covered(covering, candidates) => Outcome::Struck(covering, candidates),
-        QueryAnswer::NotCovered(_) => keep(tree, marks, words, number),
+        QueryAnswer::NotCovered(_) => keep(tree, marks, keys, words, number),
     }
 }

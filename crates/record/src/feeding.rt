@@ -9,11 +9,13 @@ use crate::Turn;
 use crate::answering::answer;
 use crate::line::put_line;
 use clause::Clause;
+use machine::Sequence;
 ghost use mathlib.Core.Path.{_≡_};
 ghost use Prim.Native.Nat.{_+_, _*_, _^_, _≤_, _<_};
-ghost use lib.ListN.{length, take, set};
-ghost use Rattle.record.specs.Output.{counted};
-ghost use Rattle.record.specs.Feed.{storeOf, finishing, finished, takeField, takeByte, Steady, Answers, Took, Bounds, recordsIn, opening, WholeInput};
+ghost use lib.ListN.{length, take, getD, set};
+ghost use lib.Seq.{sets};
+ghost use Rattle.record.specs.Output.{fields, counted};
+ghost use Rattle.record.specs.Feed.{storeOf, finishing, finished, takeField, takeByte, Steady, Answers, Took, WholeRecord, Bounds, recordsIn, opening, WholeInput};
 ghost use Rattle.record.specs.Feed.{feed as Feed·feed};
 
 // The session before the first byte.
@@ -56,7 +58,14 @@ fn count_outcome(totals: Totals, outcome: Outcome) -> Totals
 }
 
 // What becomes of a whole record of `count` words; one of more than 64 was skipped over.
-fn outcome_of(tree: &mut [u64], marks: &mut [u8], words: &[u16], number: u16, count: u16) -> Outcome
+fn outcome_of(
+    tree: &mut [u64],
+    marks: &mut [u8],
+    keys: &mut [u64; Sequence::KEYS],
+    words: &[u16],
+    number: u16,
+    count: u16,
+) -> Outcome
     requires { ⌜ Steady (now tree) (now marks) × (length (now words) ≡ 64) ⌝ }
     ensures { λ r. ⌜ Answers (finishing number count (now (words .entry)) (now (tree .entry))) number (now (marks .entry)) r (now (tree .exit)) (now (marks .exit)) ⌝ }
 {
@@ -64,13 +73,14 @@ fn outcome_of(tree: &mut [u64], marks: &mut [u8], words: &[u16], number: u16, co
         return Outcome::Refused(3);
     }
     let end = count as usize;
-    answer(tree, marks, &words[..end], number)
+    answer(tree, marks, keys, &words[..end], number)
 }
 
 // Ends a whole record: what becomes of it, its line, the totals.
 fn finish(
     tree: &mut [u64],
     marks: &mut [u8],
+    keys: &mut [u64; Sequence::KEYS],
     words: &[u16],
     number: u16,
     count: u16,
@@ -83,7 +93,7 @@ fn finish(
         (r .session) (storeOf (now (words .entry)) (now (tree .exit)) (now (marks .exit))) (record { next = r .next; output = now (output .exit) }) ⌝ }
     ensures short { λ r. ⌜ r .next ≤ at + 45 ⌝ }
 {
-    let outcome = outcome_of(tree, marks, words, number, count);
+    let outcome = outcome_of(tree, marks, keys, words, number, count);
     let next = put_line(output, at, number, outcome);
     let after = count_outcome(totals, outcome);
     Turn {
@@ -123,6 +133,7 @@ fn store(words: &mut [u16], at: usize, word: u16)
 fn take_field(
     tree: &mut [u64],
     marks: &mut [u8],
+    keys: &mut [u64; Sequence::KEYS],
     words: &mut [u16],
     stage: Stage,
     totals: Totals,
@@ -141,22 +152,30 @@ fn take_field(
             if field > 0 {
                 return going(Stage::AtWord(number, field, 0), totals, at);
             }
-            finish(tree, marks, words, number, 0, totals, output, at)
+            finish(tree, marks, keys, words, number, 0, totals, output, at)
         }
         Stage::AtWord(number, count, read) => {
             store(words, read as usize, field);
             if (read as usize) + 1 < count as usize {
                 return going(Stage::AtWord(number, count, read + 1), totals, at);
             }
-            finish(tree, marks, words, number, count, totals, output, at)
+            finish(tree, marks, keys, words, number, count, totals, output, at)
         }
     }
+}
+
+// The field of two bytes, the most significant first.
+fn field_of(high: u8, low: u8) -> u16
+    ensures { λ r. ⌜ r ≡ high * 256 + low ⌝ }
+{
+    high as u16 * 256 + low as u16
 }
 
 // Takes one more byte.
 fn take_byte(
     tree: &mut [u64],
     marks: &mut [u8],
+    keys: &mut [u64; Sequence::KEYS],
     words: &mut [u16],
     session: Session,
     byte: u8,
@@ -183,17 +202,135 @@ fn take_byte(
         Half::Odd(high) => take_field(
             tree,
             marks,
+            keys,
             words,
             stage,
             totals,
-            high as u16 * 256 + byte as u16,
+            field_of(high, byte),
             output,
             at,
         ),
     }
 }
 
-// Takes the bytes of a block one after another, as long as the output has room for a line. The caller's session and lent words are those that
+// The field at a place of the block.
+fn field_at(input: &[u8], at: usize) -> u16
+    requires { ⌜ at + 1 < length (now input) ⌝ }
+    ensures { λ r. ⌜ r ≡ getD (now (input .entry)) at 0 * 256 + getD (now (input .entry)) (at + 1) 0 ⌝ }
+{
+    let next = at + 1;
+    field_of(input[at], input[next])
+}
+
+// How many words the record has that the block begins with; 65 where it does not begin with a record, where not all of the record is in the block,
+// or where the record has more than 64 words.
+fn words_ahead(input: &[u8], session: Session) -> usize
+    ensures { λ r. ⌜ (r ≤ 64 → WholeRecord session (now (input .entry)) r) ⌝ }
+{
+    let half = session.half;
+    let stage = session.stage;
+    let Half::Even = half else {
+        return 65;
+    };
+    let Stage::AtNumber = stage else {
+        return 65;
+    };
+    if input.len() < 4 {
+        return 65;
+    }
+    let count = field_at(input, 2) as usize;
+    if count > Clause::WORDS {
+        return 65;
+    }
+    if input.len() - 4 < count * 2 {
+        return 65;
+    }
+    count
+}
+
+// Reads the words that the input begins with.
+fn read_words(input: &[u8], words: &mut [u16], count: usize)
+    requires { ⌜ (count * 2 ≤ length (now input)) × (count ≤ length (now words)) ⌝ }
+    ensures { λ _. ⌜ now (words .exit) ≡ sets (now (words .entry)) 0 (fields (take (count * 2) (now (input .entry)))) ⌝ }
+{
+    let mut i = 0;
+    let mut at = 0;
+    while i < count {
+        words[i] = field_at(input, at);
+        i += 1;
+        at += 2;
+    }
+}
+
+// Takes the record of `count` words that the block begins with.
+fn take_record(
+    input: &[u8],
+    session: Session,
+    count: usize,
+    tree: &mut [u64],
+    marks: &mut [u8],
+    keys: &mut [u64; Sequence::KEYS],
+    words: &mut [u16],
+    output: &mut [u8],
+    at: usize,
+) -> Turn
+    requires { ⌜ Steady (now tree) (now marks) × (length (now words) ≡ 64) × (recordsIn (session .totals) + 1 < 2 ^ 64) × (at + 45 ≤ length (now output)) × WholeRecord session (now input) count ⌝ }
+    ensures took { λ r. ⌜ Took (Feed·feed session (storeOf (now (words .entry)) (now (tree .entry)) (now (marks .entry))) (take (4 + count * 2) (now (input .entry)))) (now (output .entry)) at
+        (r .session) (storeOf (now (words .exit)) (now (tree .exit)) (now (marks .exit))) (record { next = r .next; output = now (output .exit) }) ⌝ }
+    ensures short { λ r. ⌜ r .next ≤ at + 45 ⌝ }
+{
+    let number = field_at(input, 0);
+    read_words(&input[4..], words, count);
+    let outcome = answer(tree, marks, keys, &words[..count], number);
+    let next = put_line(output, at, number, outcome);
+    let totals = session.totals;
+    let after = count_outcome(totals, outcome);
+    Turn {
+        session: Session {
+            half: Half::Even,
+            stage: Stage::AtNumber,
+            totals: after,
+        },
+        next: next,
+    }
+}
+
+// Takes the record that the block begins with, if all of it is there, and else one byte.
+fn take_some(
+    input: &[u8],
+    session: Session,
+    tree: &mut [u64],
+    marks: &mut [u8],
+    keys: &mut [u64; Sequence::KEYS],
+    words: &mut [u16],
+    output: &mut [u8],
+    at: usize,
+) -> Progress
+    requires { ⌜ Steady (now tree) (now marks) × (length (now words) ≡ 64) × (recordsIn (session .totals) + 1 < 2 ^ 64) × (at + 45 ≤ length (now output)) × (0 < length (now input)) ⌝ }
+    ensures took { λ r. ⌜ Took (Feed·feed session (storeOf (now (words .entry)) (now (tree .entry)) (now (marks .entry))) (take (r .taken) (now (input .entry)))) (now (output .entry)) at
+        (r .session) (storeOf (now (words .exit)) (now (tree .exit)) (now (marks .exit))) (record { next = r .next; output = now (output .exit) }) ⌝ }
+    ensures bounds { λ r. ⌜ (0 < r .taken) × (r .taken ≤ length (now (input .entry))) × (r .next ≤ at + 45) ⌝ }
+{
+    let count = words_ahead(input, session);
+    if count > Clause::WORDS {
+        let turn = take_byte(tree, marks, keys, words, session, input[0], output, at);
+        let after = turn.session;
+        return Progress {
+            session: after,
+            taken: 1,
+            next: turn.next,
+        };
+    }
+    let turn = take_record(input, session, count, tree, marks, keys, words, output, at);
+    let after = turn.session;
+    Progress {
+        session: after,
+        taken: 4 + count * 2,
+        next: turn.next,
+    }
+}
+
+// Takes the records and bytes of a block one after another, as long as the output has room for a line. The caller's session and lent words are those that
 // the blocks before have left.
 pub fn feed(
     input: &[u8],
@@ -209,6 +346,7 @@ pub fn feed(
     ensures whole { λ _. ⌜ WholeInput ⌝ }
     ensures bounds { λ r. ⌜ Bounds (length (now (input .entry))) (length (now (output .entry))) (session .totals) (r .taken) (r .next) (r .session .totals) ⌝ }
 {
+    let mut keys = [0u64; Sequence::KEYS];
     let mut here = session;
     let mut taken = 0;
     let mut at = 0;
@@ -216,11 +354,20 @@ pub fn feed(
         if output.len() - at < 45 {
             break;
         }
-        let turn = take_byte(tree, marks, words, here, input[taken], output, at);
-        let next = turn.session;
-        here = next;
-        at = turn.next;
-        taken += 1;
+        let step = take_some(
+            &input[taken..],
+            here,
+            tree,
+            marks,
+            &mut keys,
+            words,
+            output,
+            at,
+        );
+        let after = step.session;
+        here = after;
+        at = step.next;
+        taken += step.taken;
     }
     Progress {
         session: here,

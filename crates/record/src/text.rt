@@ -5,18 +5,34 @@ ghost use Prim.Native.Nat.{_+_, _≤_};
 ghost use lib.ListN.{length};
 ghost use Rattle.record.specs.Text.{decimal, written};
 
-// Puts the digits of a number in base ten at a place of the output, and gives the place after them.
+// How many digits a number has in base ten.
+fn digits(number: u64) -> usize
+    ensures { λ r. ⌜ r ≡ length (decimal number) ⌝ }
+{
+    let mut left = number;
+    let mut count: usize = 1;
+    while left >= 10 {
+        left /= 10;
+        count += 1;
+    }
+    count
+}
+
+// Puts the digits of a number in base ten at a place of the output, the last one first, and gives the place after them.
 pub(crate) fn put_decimal(output: &mut [u8], at: usize, number: u64) -> usize
     requires { ⌜ at + length (decimal number) ≤ length (now output) ⌝ }
     ensures { λ r. ⌜ record { next = r; output = now (output .exit) } ≡ written (decimal number) (now (output .entry)) at ⌝ }
 {
-    if number < 10 {
-        output[at] = 48 + number as u8;
-        return at + 1;
+    let end = at + digits(number);
+    let mut left = number;
+    let mut last = end - 1;
+    while left >= 10 {
+        output[last] = 48 + (left % 10) as u8;
+        left /= 10;
+        last -= 1;
     }
-    let last = put_decimal(output, at, number / 10);
-    output[last] = 48 + (number % 10) as u8;
-    last + 1
+    output[last] = 48 + left as u8;
+    end
 }
 
 // Puts some text at a place of the output, and gives the place after it.

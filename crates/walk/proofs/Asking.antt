@@ -18,11 +18,11 @@ use Rattle.tree.specs.Laid.{usedOf, region}
 use Rattle.walk.specs.Walk.{Answer, covered, notCovered, spent, broken, upTo}
 use Rattle.walk.specs.Words.{walkWords}
 use Rattle.walk.specs.Query.{machine, unanswered, told, walkSlice, queryAs, query}
-use Rattle.walk.specs.Cells.{placeOf, placed, stateOf, Tables, Ready, entered, seen, toldOut, refusalOf}
+use Rattle.walk.specs.Cells.{placeOf, placed, stateOf, Tables, Ready, seen, toldOut, refusalOf}
 
 -- the cells before the first candidate
 abbrev pub fresh : List ℕ
-fresh = set (replicate 137 255) 136 0
+fresh = set (replicate 256 255) 136 0
 
 fresh-state : stateOf 255 fresh ≡ initial
 unfolding placeOf placed unfilled
@@ -45,8 +45,7 @@ used-part [] h e = absurd (omega arith)
 used-part (w ∷ ws) h {e} f = let n : e - 1 ≡ usedOf w = omega arith in rw n
 
 pub searched : (T d : List ℕ) (b : ℕ) (W : List ℕ) → 1 ≤ length T → {e : ℕ} → e ≡ usedOf (getD T 0 0) + 1
-    → toldOut b W (seen (entered d b false (walkWords (machine d) (upTo b) (take (e - 1) (drop 1 T))) (stateOf 255 fresh) 0)) ≡ told b W (walkSlice T d b)
-unfolding entered
+    → toldOut b W (seen (walkWords (machine d) (upTo b) (take (e - 1) (drop 1 T)) (stateOf 255 fresh) 0)) ≡ told b W (walkSlice T d b)
 searched T d b W h f = rw (used-part T h f, fresh-state) (told-seen b W (walkSlice T d b))
 
 -- the tests one after another

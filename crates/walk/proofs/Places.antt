@@ -7,6 +7,7 @@ use mathlib.Core.List.{List, [], _∷_, map}
 use native.Mathlib.Omega.{arith}
 use native.Mathlib.Numerals.{add-one}
 use lib.Dec.{eqb}
+use Rattle.walk.specs.declared.Go.{Go}
 use lib.ListN.{length, getD, take, drop, set, length-take, length-drop, length-set}
 use lib.Seq.{take-set-le, take-set-lt, drop-set-lt, drop-set-add, take-suc-set, getD-take, getD-drop, getD-set-same, getD-set-other, set-set, set-getD, set-comm}
 use borrow.Author.Tests.{eq-eqb, ne-eqb, eqb-true}
@@ -14,7 +15,7 @@ use Rattle.clause.specs.Clause.{literals, startOf}
 use Rattle.clause.proofs.Lists.{getD-map-lt}
 use Rattle.clause.proofs.Literals.{accepted}
 use Rattle.machine.proofs.Safe.{start-in}
-use Rattle.walk.specs.Cells.{placeOf, placed, stateOf, restored, Stored, nothing, store, traced, unwound, candidate, dropped, startAt, Ready, Begun}
+use Rattle.walk.specs.Cells.{placeOf, placed, stateOf, restored, Marked, plain, store, unwound, reserved, candidate, released, keptIn, headAt, startAt, Ready}
 
 pub place-none : {x : ℕ} → x ≡ 255 → placeOf x ≡ none
 unfolding placeOf
@@ -68,65 +69,109 @@ module _ (h : ℕ) (l : List ℕ) (few : getD l 136 0 ≤ 8) where
   state-push n x g v =
       rw (chosen-other (72 + n) x (omega arith) (omega arith), placed-behind 8 l (72 + n) x (omega arith), placed-at 72 l n x g, place-some {x = x} (λ e. omega arith))
 
--- a candidate begins
-module _ (d t : List ℕ) (h : ℕ) (l : List ℕ) (R : Ready d t h l) (j : ℕ) where
-  pub begun-other : {first : Bool} → first ≡ false → Begun d first h j l l h
-  unfolding candidate startAt
-  begun-other e = record { state = rw e; cells = rw e }
+-- the cells while the candidates of a First are tried, with x as the latest
+abbrev pub waiting : Bool → ℕ → List ℕ → List ℕ
+waiting first x l = candidate first x (reserved first l)
 
+-- the place for a candidate
+module _ (l : List ℕ) (size : length l ≡ 256) (few : getD l 136 0 < 8) where
+  open-count : getD (set l 136 (getD l 136 0 + 1)) 136 0 ≡ getD l 136 0 + 1
+  open-count = getD-set-same l 136 (getD l 136 0 + 1) 0 (omega arith)
+
+  -- the place is the one after the earlier candidates
+  waiting-cells : (x : ℕ) → waiting true x l ≡ set (set l 136 (getD l 136 0 + 1)) (getD l 136 0) x
+  unfolding reserved candidate
+  waiting-cells x = let e : getD l 136 0 + 1 - 1 ≡ getD l 136 0 = omega arith in rw (open-count, e)
+
+  waiting-count : (x : ℕ) → getD (waiting true x l) 136 0 ≡ getD l 136 0 + 1
+  waiting-count x =
+      rw (waiting-cells x) (getD-set-other (set l 136 (getD l 136 0 + 1)) (getD l 136 0) 136 x 0 (λ e. omega arith) ∙ open-count)
+
+-- a place is made, filled anew, and taken away again
+module _ (first : Bool) (l : List ℕ) (size : length l ≡ 256) (few : first ≡ true → getD l 136 0 < 8) where
+  pub waiting-reserve : reserved first l ≡ waiting first (keptIn first l) l
+  unfolding reserved candidate keptIn
+  waiting-reserve = go first refl
+    where
+      go : (b : Bool) → first ≡ b → reserved b l ≡ waiting b (keptIn b l) l
+      go false e = refl
+      go true e =
+          let n = getD l 136 0 in
+          let o : getD (set l 136 (n + 1)) n 0 ≡ getD l n 0 = getD-set-other l 136 n (n + 1) 0 (λ z. omega (arith, few e)) in
+          sym (waiting-cells l size (few e) (getD l n 0) ∙ rw (← o, set-getD (set l 136 (n + 1)) n 0))
+
+  pub waiting-next : (x j : ℕ) → candidate first j (waiting first x l) ≡ waiting first j l
+  unfolding candidate
+  waiting-next x j = go first refl
+    where
+      go : (b : Bool) → first ≡ b → candidate b j (waiting b x l) ≡ waiting b j l
+      go false e = refl
+      go true e =
+          let n = getD l 136 0 in
+          let z : n + 1 - 1 ≡ n = omega arith in
+          rw (waiting-count l size (few e) x, z, waiting-cells l size (few e) x, waiting-cells l size (few e) j, set-set (set l 136 (n + 1)) n x j)
+
+  pub waiting-release : (x : ℕ) → released first (keptIn first l) (waiting first x l) ≡ l
+  unfolding reserved candidate released keptIn
+  waiting-release x = go first refl
+    where
+      go : (b : Bool) → first ≡ b → released b (keptIn b l) (waiting b x l) ≡ l
+      go false e = refl
+      go true e =
+          let n = getD l 136 0 in
+          let z : n + 1 - 1 ≡ n = omega arith in
+          rw (
+            waiting-count l size (few e) x,
+            z,
+            waiting-cells l size (few e) x,
+            set-set (set l 136 (n + 1)) n x (getD l n 0),
+            set-comm l 136 n (n + 1) (getD l n 0) (λ y. omega (arith, few e)),
+            set-getD l n 0,
+            set-set l 136 (n + 1) n,
+            set-getD l 136 0,
+          )
+
+  pub waiting-size : (x : ℕ) → length (waiting first x l) ≡ length l
+  unfolding reserved candidate
+  waiting-size x = go first
+    where
+      go : (b : Bool) → length (waiting b x l) ≡ length l
+      go false = refl
+      go true = simp length-set
+
+  pub waiting-few : getD l 136 0 ≤ 8 → (x : ℕ) → (getD (waiting first x l) 136 0 ≤ 8) × (first ≡ true → 1 ≤ getD (waiting first x l) 136 0)
+  unfolding reserved candidate
+  waiting-few low x = go first refl
+    where
+      go : (b : Bool) → first ≡ b → (getD (waiting b x l) 136 0 ≤ 8) × (b ≡ true → 1 ≤ getD (waiting b x l) 136 0)
+      go false e = (low, λ f. let z : _≡_ {A = ℕ} 0 1 = cc in absurd (omega arith))
+      go true e = let n = waiting-count l size (few e) x in (omega (arith, n, few e), λ f. omega (arith, n))
+
+-- a candidate begins: its state
+module _ (d t : List ℕ) (h : ℕ) (l : List ℕ) (R : Ready d t h l) (j : ℕ) where
   pub start-small : j < length (literals d) → startOf d j < 64
   start-small g = let C = accepted d (R .whole) in omega (arith, start-in d C j g, C .fits)
 
-  pub begun-first : {first : Bool} → first ≡ true → getD l 136 0 < 8 → j < length (literals d) → (r : ℕ) → r ≡ getD t j 0 → Begun d first h j l (set (set l (getD l 136 0) j) 136 (getD l 136 0 + 1)) r
-  unfolding candidate startAt
-  begun-first e g m r f =
+  pub waiting-state : (first : Bool) → (first ≡ true → (getD l 136 0 < 8) × (j < length (literals d))) → stateOf (headAt d first h j) (waiting first j l) ≡ startAt d first j (stateOf h l)
+  unfolding reserved candidate headAt startAt
+  waiting-state false m = refl
+  waiting-state true m =
       let n = getD l 136 0 in
       let s = R .size in
-      let c : getD (set (set l n j) 136 (n + 1)) 136 0 ≡ suc n = getD-set-same (set l n j) 136 (n + 1) 0 (simp length-set (omega arith)) ∙ add-one n in
-      let p : placeOf r ≡ some (startOf d j) = rw (f, R .tables .starts j m) (place-some {x = startOf d j} (λ z. omega (arith, start-small m))) in
-      record {
-        state =
-            rw (
-              e,
-              c,
-              p,
-              take-set-le (suc n) (set l n j) 136 (n + 1) (omega arith),
-              take-suc-set l n j (omega arith),
-              placed-behind 8 (set l n j) 136 (n + 1) (omega arith),
-              placed-before 8 l n j (omega arith),
-              placed-behind 72 (set l n j) 136 (n + 1) (omega arith),
-              placed-before 72 l n j (omega arith),
-            );
-        cells = rw e;
-      }
-
--- a candidate is gone again
-pub dropped-candidate : (first : Bool) (l : List ℕ) (j : ℕ) → length l ≡ 137 → (first ≡ true → getD l 136 0 < 8) → {m : List ℕ} → m ≡ candidate first j l
-    → dropped first (getD l (getD l 136 0) 0) m ≡ l
-unfolding candidate dropped
-dropped-candidate false l j s few e = e
-dropped-candidate true l j s few e =
-    let n = getD l 136 0 in
-    let g : n < 8 = few refl in
-    let c : getD (set (set l n j) 136 (n + 1)) 136 0 ≡ n + 1 = getD-set-same (set l n j) 136 (n + 1) 0 (simp length-set (omega arith)) in
-    let f : n + 1 - 1 ≡ n = omega arith in
-    rw (e, c, f, set-comm (set l n j) 136 n (n + 1) (getD l n 0) (λ z. omega arith), set-set l n j (getD l n 0), set-getD l n 0, set-set l 136 (n + 1) n, set-getD l 136 0)
-
-pub candidate-size : (first : Bool) (l : List ℕ) (j : ℕ) → length (candidate first j l) ≡ length l
-unfolding candidate
-candidate-size false l j = refl
-candidate-size true l j = simp length-set
-
--- the count of the candidates after one begins
-pub candidate-count : (first : Bool) (l : List ℕ) (j : ℕ) → length l ≡ 137 → getD l 136 0 ≤ 8 → (first ≡ true → getD l 136 0 < 8)
-    → (getD (candidate first j l) 136 0 ≤ 8) × (first ≡ true → 1 ≤ getD (candidate first j l) 136 0)
-unfolding candidate
-candidate-count false l j s few more = (few, λ e. let z : _≡_ {A = ℕ} 0 1 = cc in absurd (omega arith))
-candidate-count true l j s few more =
-    let n = getD l 136 0 in
-    let c : getD (set (set l n j) 136 (n + 1)) 136 0 ≡ n + 1 = getD-set-same (set l n j) 136 (n + 1) 0 (simp length-set (omega arith)) in
-    let g : n < 8 = more refl in
-    (rw c (omega arith), λ e. rw c (omega arith))
+      let g : n < 8 = m refl .0 in
+      let c : getD (set (set l 136 (n + 1)) n j) 136 0 ≡ suc n = rw (← waiting-cells l s g j) (waiting-count l s g j) ∙ add-one n in
+      let p : placeOf (startOf d j) ≡ some (startOf d j) = place-some {x = startOf d j} (λ z. omega (arith, start-small (m refl .1))) in
+      rw (
+        waiting-cells l s g j,
+        c,
+        p,
+        take-suc-set (set l 136 (n + 1)) n j (simp length-set (omega arith)),
+        take-set-le n l 136 (n + 1) (omega arith),
+        placed-before 8 (set l 136 (n + 1)) n j (omega arith),
+        placed-behind 8 l 136 (n + 1) (omega arith),
+        placed-before 72 (set l 136 (n + 1)) n j (omega arith),
+        placed-behind 72 l 136 (n + 1) (omega arith),
+      )
 
 -- storing back
 pub restored-none : (l : List ℕ) → restored 0 l ≡ l
@@ -137,16 +182,25 @@ pub restored-size : (m : ℕ) (l : List ℕ) → length (restored m l) ≡ lengt
 unfolding restored
 restored-size m l = go (eqb m 0)
   where
-    go : (b : Bool) → length (cond b l (set l (m / 256) (m % 256))) ≡ length l
+    go : (b : Bool) → length (cond b l (set l (m / 256 % 256) (m % 256))) ≡ length l
     go true = refl
-    go false = length-set l (m / 256) (m % 256)
+    go false = length-set l (m / 256 % 256) (m % 256)
 
-pub restored-stored : {l after : List ℕ} {m : ℕ} → Stored l m after → restored m after ≡ l
+-- a number that isn't 0 stores back by its lowest 16 bits
+pub restored-low : (t m : ℕ) (l : List ℕ) → m < 2 ^ 16 → (m ≡ 0 → ⊥) → restored (t * 2 ^ 16 + m) l ≡ restored m l
 unfolding restored
-restored-stored nothing = refl
-restored-stored {l} (store i x low high small) =
+restored-low t m l h n =
+    let e : (t * 2 ^ 16 + m) / 256 % 256 ≡ m / 256 % 256 = omega arith in
+    let f : (t * 2 ^ 16 + m) % 256 ≡ m % 256 = omega arith in
+    rw (ne-eqb (t * 2 ^ 16 + m) 0 (λ z. n (omega arith)), ne-eqb m 0 n, e, f)
+
+-- what a visit stored over is stored back
+pub restored-marked : {l after : List ℕ} {g : Go} {m : ℕ} → Marked l g m after → restored m after ≡ l
+unfolding restored
+restored-marked (plain g n) = refl
+restored-marked {l} (store i x low high small) =
     let v = getD l i 0 in
-    let e : (i * 256 + v) / 256 ≡ i = omega arith in
+    let e : (i * 256 + v) / 256 % 256 ≡ i = omega arith in
     let f : (i * 256 + v) % 256 ≡ v = omega arith in
     let g : eqb (i * 256 + v) 0 ≡ false = ne-eqb (i * 256 + v) 0 (λ z. omega arith) in
     rw (g, e, f, set-set l i x v, set-getD l i 0)
@@ -155,42 +209,19 @@ pub unwound-none : (l : List ℕ) → unwound 0 l ≡ l
 unfolding unwound restored
 unwound-none l = refl
 
-pub unwound-traced : (t m : ℕ) (l : List ℕ) → t < 2 ^ 48 → m < 2 ^ 16 → unwound (traced t m) l ≡ unwound t (restored m l)
-unfolding traced unwound
-unwound-traced t m l h k = go (eqb m 0) refl
-  where
-    go : (b : Bool) → eqb m 0 ≡ b → unwound (traced t m) l ≡ unwound t (restored m l)
-    go true e = let z : m ≡ 0 = eqb-true m 0 e in rw (e, z, restored-none)
-    go false e =
-        let a : (t * 2 ^ 16 + m) % 2 ^ 16 ≡ m = omega arith in
-        let b : (t * 2 ^ 16 + m) / 2 ^ 16 ≡ t = omega arith in
-        let c : (t * 2 ^ 16 + m) / 2 ^ 32 ≡ t / 2 ^ 16 = omega arith in
-        let d : (t * 2 ^ 16 + m) / 2 ^ 48 ≡ t / 2 ^ 32 = omega arith in
-        let small : t / 2 ^ 32 < 2 ^ 16 = omega arith in
-        let g : t / 2 ^ 32 % 2 ^ 16 ≡ t / 2 ^ 32 = omega arith in
-        let f : t / 2 ^ 48 ≡ 0 = omega arith in
-        rw (e, a, b, c, d, f, g, restored-none)
-
--- a trail with none, one or two marks
-pub unwound-zero : (t : ℕ) (l : List ℕ) → t ≡ 0 → l ≡ unwound t l
-unwound-zero t l e = rw e (sym (unwound-none l))
-
-pub unwound-one : (t : ℕ) (l m : List ℕ) → t < 65536 → m ≡ restored (t % 2 ^ 16) l → m ≡ unwound t l
+-- the latest mark first, then the others
+pub unwound-next : (t : ℕ) (l : List ℕ) → t < 2 ^ 64 → unwound t l ≡ unwound (t / 2 ^ 16) (restored t l)
 unfolding unwound
-unwound-one t l m h e =
-    let a : t / 2 ^ 48 ≡ 0 = omega arith in
-    let b : t / 2 ^ 32 % 2 ^ 16 ≡ 0 = omega arith in
-    let c : t / 2 ^ 16 % 2 ^ 16 ≡ 0 = omega arith in
-    let n = restored-none (restored (t % 2 ^ 16) l) in
-    rw (a, b, c, n, n, n) e
+unwound-next t l h =
+    let a : t / 2 ^ 16 / 2 ^ 16 ≡ t / 2 ^ 32 = omega arith in
+    let b : t / 2 ^ 16 / 2 ^ 32 ≡ t / 2 ^ 48 = omega arith in
+    let c : t / 2 ^ 16 / 2 ^ 48 ≡ 0 = omega arith in
+    rw (a, b, c, restored-none)
 
-pub unwound-two : (t : ℕ) (l k m : List ℕ) → t < 4294967296 → k ≡ restored (t % 2 ^ 16) l → m ≡ restored (t / 2 ^ 16 % 2 ^ 16) k → m ≡ unwound t l
-unfolding unwound
-unwound-two t l k m h e f =
-    let a : t / 2 ^ 48 ≡ 0 = omega arith in
-    let b : t / 2 ^ 32 % 2 ^ 16 ≡ 0 = omega arith in
-    let n = restored-none (restored (t / 2 ^ 16 % 2 ^ 16) (restored (t % 2 ^ 16) l)) in
-    rw (a, b, n, n) (f ∙ ap (restored (t / 2 ^ 16 % 2 ^ 16)) e)
+pub unwound-traced : (t m : ℕ) (l : List ℕ) → t < 2 ^ 48 → m < 2 ^ 16 → (m ≡ 0 → ⊥) → unwound (t * 2 ^ 16 + m) l ≡ unwound t (restored m l)
+unwound-traced t m l h k n =
+    let e : (t * 2 ^ 16 + m) / 2 ^ 16 ≡ t = omega arith in
+    unwound-next (t * 2 ^ 16 + m) l (omega arith) ∙ rw (e, restored-low t m l k n)
 
 -- a query has at most 8 literals and 64 words
 pub few-literals : {d t : List ℕ} {h : ℕ} {l : List ℕ} → Ready d t h l → length (literals d) ≤ 8

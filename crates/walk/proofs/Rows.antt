@@ -142,26 +142,33 @@ module _ (d : List ℕ) (b n : ℕ) (k : State → Part State) (s : State) (c : 
   visit-met q l (some (Do x)) i = follow-step (step d x s)
   visit-met q l (some (Success m)) i = rw (i m refl) (follow-finish (finish s))
 
--- at a word of a row: what it comes to, then its siblings
-module _ (d : List ℕ) (b : ℕ) (T : List ℕ) (at : ℕ) (h : at < length T) (s : State) (c : ℕ) (q : ℕ) (l : length (literals d) ≡ suc q) where
+-- at the first word of a row: what it comes to, then its siblings
+module _ (d : List ℕ) (b : ℕ) (T : List ℕ) (h : 0 < length T) (s : State) (c : ℕ) (q : ℕ) (l : length (literals d) ≡ suc q) where
   pub meets :
-      (x : ℕ) → x ≡ extentOf (getD T at 0)
-      → walkWords (machine d) (upTo b) (drop at T) s c
-      ≡ andThen (goingOn d b (getD T at 0 / 2 ^ 28 % 2 ^ 32) (meeting d (getD T at 0) (length T - at) s) (walkWords (machine d) (upTo b) (take (at + x - (at + 1)) (drop (at + 1) T))) c)
-      (walkWords (machine d) (upTo b) (drop (at + x) T) s)
+      (x : ℕ) → x ≡ extentOf (getD T 0 0)
+      → walkWords (machine d) (upTo b) T s c
+      ≡ andThen (goingOn d b (getD T 0 0 / 2 ^ 28 % 2 ^ 32) (meeting d (getD T 0 0) (length T) s) (walkWords (machine d) (upTo b) (take (x - 1) (drop 1 T))) c)
+      (walkWords (machine d) (upTo b) (drop x T) s)
   unfolding meeting goingOn
-  meets x e = go (extends (getD T at 0) (length T - at - 1)) refl
+  meets x e = go (extends (getD T 0 0) (length T - 1)) refl
     where
+      no-more : length T - 0 - 1 ≡ length T - 1
+      no-more = omega arith
+
       go :
-          (v : Bool) → extends (getD T at 0) (length T - at - 1) ≡ v
-          → walkWords (machine d) (upTo b) (drop at T) s c
-          ≡ andThen (goingOn d b (getD T at 0 / 2 ^ 28 % 2 ^ 32) (meeting d (getD T at 0) (length T - at) s) (walkWords (machine d) (upTo b) (take (at + x - (at + 1)) (drop (at + 1) T))) c)
-          (walkWords (machine d) (upTo b) (drop (at + x) T) s)
-      go false f = rw (row-broken (machine d) (upTo b) T at h s c f, f)
+          (v : Bool) → extends (getD T 0 0) (length T - 1) ≡ v
+          → walkWords (machine d) (upTo b) T s c
+          ≡ andThen (goingOn d b (getD T 0 0 / 2 ^ 28 % 2 ^ 32) (meeting d (getD T 0 0) (length T) s) (walkWords (machine d) (upTo b) (take (x - 1) (drop 1 T))) c)
+          (walkWords (machine d) (upTo b) (drop x T) s)
+      go false f = rw (row-broken (machine d) (upTo b) T 0 h s c (rw no-more f), f)
       go true f =
-          let w = getD T at 0 in
-          let k = walkWords (machine d) (upTo b) (take (at + x - (at + 1)) (drop (at + 1) T)) in
-          row-node (machine d) (upTo b) T at h s c x e (rw e (extends-some w (length T - at - 1) f)) f
+          let w = getD T 0 0 in
+          let k = walkWords (machine d) (upTo b) (take (x - 1) (drop 1 T)) in
+          let y : 0 + x - (0 + 1) ≡ x - 1 = omega arith in
+          let z : 0 + x ≡ x = omega arith in
+          let u : 0 + 1 ≡ 1 = omega arith in
+          let r = row-node (machine d) (upTo b) T 0 h s c x e (rw e (extends-some w (length T - 1) f)) (rw no-more f) in
+          rw (y, u, z) at r
           ∙ rw (f, visit-met d b (w / 2 ^ 28 % 2 ^ 32) k s c q l (instrOf (keyOf w)) (λ m g. number (w / 2 ^ 60) (w / 2 ^ 28 % 2 ^ 32) m (sym (instrOf-word w) ∙ g)))
 
 -- a Check that fails
@@ -178,15 +185,18 @@ fails-there d allow T at h s p c wanted e f op ne x g l fit =
 
 -- the place where the passing begins, and one more Check that fails
 pub passed-none : (T : List ℕ) (at key : ℕ) → at ≤ length T → Passed T at key at
-passed-none T at key h = record { inside = h; further = omega arith; same = λ d allow s p c e f. refl; none = λ e. refl }
+passed-none T at key h = record { inside = h; further = omega arith; same = λ d allow s p c e f. refl }
 
 pub passed-more :
-    (T : List ℕ) (at key i : ℕ) → Passed T at key i → (key ≡ 0 → ⊥) → i < length T → getD T i 0 / 2 ^ 60 ≡ 7 → (getD T i 0 / 2 ^ 28 ≡ key → ⊥)
+    (T : List ℕ) (at key i : ℕ) → Passed T at key i → i < length T → getD T i 0 / 2 ^ 60 ≡ 7 → (getD T i 0 / 2 ^ 28 ≡ key → ⊥)
     → (x : ℕ) → x ≡ extentOf (getD T i 0) → (x ≡ 0 → ⊥) → i + x ≤ length T → Passed T at key (i + x)
-passed-more T at key i P n h op ne x e z fit =
+passed-more T at key i P h op ne x e z fit =
     record {
       inside = omega arith;
       further = omega arith;
       same = λ d allow s p c g f. P .same d allow s p c g f ∙ fails-there d allow T i h s p c key g f op ne x e (omega arith) (omega arith);
-      none = λ g. absurd (n g);
     }
+
+-- by how many words are left
+pub passed-left : {T : List ℕ} {at key i : ℕ} → Passed T at key i → (length T - i ≤ length T) × Passed T at key (length T - (length T - i))
+passed-left {T} {i = i} P = let e : length T - (length T - i) ≡ i = omega (arith, P .inside) in (omega arith, rw e P)

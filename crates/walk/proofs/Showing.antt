@@ -6,13 +6,13 @@ use mathlib.Core.Option.{Option, none, some, Option·some-injective, Option·non
 use mathlib.Core.List.{List, [], _∷_}
 use native.Mathlib.Omega.{arith}
 use native.Mathlib.Numerals.{add-one}
-use native.Mathlib.Decide.{ℕ-discrete, decLt}
+use native.Mathlib.Decide.{decLt}
 use lib.Dec.{ltb, eqb}
 use borrow.Author.Tests.{lt-ltb, le-ltb}
-use lib.ListN.{length, getD, take, set, length-set, length-take, length-append, length-map}
-use lib.Seq.{getD-set-same, getD-set-other, getD-take, take-all}
+use lib.ListN.{length, getD, take, set, length-take, length-append, length-map}
+use lib.Seq.{getD-take, take-all}
 use Rattle.walk.specs.Query.{shown, written}
-use Rattle.walk.specs.Cells.{placeOf, placed, stateOf, Laid}
+use Rattle.walk.specs.Cells.{placeOf, placed, stateOf}
 use Rattle.walk.proofs.Witnessed.{shown-front, shown-none, shown-position}
 use Rattle.walk.proofs.Places.{placed-get}
 
@@ -37,7 +37,7 @@ written-on (none ∷ os) (w ∷ ws) (suc i) x e = ap (λ (l : List ℕ). w ∷ l
 written-on (some y ∷ os) (w ∷ ws) (suc i) x e = ap (λ (l : List ℕ). y ∷ l) (written-on os ws i x e)
 
 -- what the cells show
-module _ (l : List ℕ) (size : length l ≡ 137) (i : ℕ) where
+module _ (l : List ℕ) (size : length l ≡ 256) (i : ℕ) where
   chosen-there : i < 8 → i < getD l 136 0 → i < length (take (getD l 136 0) l)
   chosen-there h g = simp length-take (omega arith)
 
@@ -52,27 +52,8 @@ module _ (l : List ℕ) (size : length l ≡ 137) (i : ℕ) where
       let e : 8 + (i - 8) ≡ i = omega arith in
       ap (λ (k : ℕ). getD (shown (stateOf 255 l)) k none) (sym e) ∙ shown-position (stateOf 255 l) (i - 8) ∙ placed-get 8 l (i - 8) (omega arith) (omega arith) ∙ rw e
 
--- the entries of a table, one after another
-pub laid-none : (l : List ℕ) (from : ℕ) (entries : List ℕ) → Laid l from entries 0 l
-laid-none l from entries = record { size = refl; there = λ i h. absurd (omega arith); lower = λ k h. refl; upper = λ k h. refl }
-
-pub laid-more : {l m : List ℕ} {from n : ℕ} {entries : List ℕ} → Laid l from entries n m → from + n < length l → Laid l from entries (n + 1) (set m (from + n) (getD entries n 0))
-laid-more {l} {m} {from} {n} {entries} L h =
-    let s = L .size in
-    let x = getD entries n 0 in
-    record {
-      size = length-set m (from + n) x ∙ s;
-      there = λ i g. go i g (ℕ-discrete i n);
-      lower = λ k g. getD-set-other m (from + n) k x 0 (λ e. omega arith) ∙ L .lower k g;
-      upper = λ k g. getD-set-other m (from + n) k x 0 (λ e. omega arith) ∙ L .upper k (omega arith);
-    }
-  where
-    go : (i : ℕ) → i < n + 1 → Dec (i ≡ n) → getD (set m (from + n) (getD entries n 0)) (from + i) 0 ≡ getD entries i 0
-    go i g (yes e) = rw e (getD-set-same m (from + n) (getD entries n 0) 0 (let s = L .size in omega arith))
-    go i g (no ne) = getD-set-other m (from + n) (from + i) (getD entries n 0) 0 (λ e. ne (omega arith)) ∙ L .there i (omega arith)
-
 -- the same, by the tests of the code
-module _ (l : List ℕ) (size : length l ≡ 137) (i : ℕ) where
+module _ (l : List ℕ) (size : length l ≡ 256) (i : ℕ) where
   pub shows-front : i < 8 → {n : ℕ} → n ≡ getD l 136 0 → getD (shown (stateOf 255 l)) i none ≡ cond (ltb i n) (some (getD l i 0)) none
   shows-front h {n} e = go (decLt i n)
     where

@@ -1,11 +1,11 @@
 -- What a visit does to the cells is what the definition's step does to the state.
 use Prim.Native.Nat.{ℕ, zero, suc, _+_, _-_, _*_, _/_, _%_, _^_, _≤_, _<_}
 use mathlib.Core.Path.{_≡_, refl, sym, ap, _∙_}
-use mathlib.Core.Bool.{Bool, true, false}
+use mathlib.Core.Bool.{Bool, true, false, cond}
 use mathlib.Core.Option.{Option, none, some}
 use mathlib.Core.List.{List}
 use native.Mathlib.Omega.{arith}
-use lib.Dec.{eqb}
+use lib.Dec.{ltb, eqb}
 use lib.ListN.{length, getD, take, drop, set}
 use lib.Seq.{length-take-le}
 use native.Mathlib.Decide.{ℕ-discrete}
@@ -19,18 +19,17 @@ use Rattle.clause.proofs.Siblings.{right-inside}
 use Rattle.machine.specs.Machine.{State, Outcome, onto, down, right, next, fails, given, headed, putting, pushing, require, within, sameTerms, compareTerms, stepAt, stepFrom, step, finish, finishFrom}
 use Rattle.machine.specs.Instr.{Step, Down, Right, Put, Push, Pop, Check, Compare, Instr, First, Do, Success, instruction}
 use Rattle.walk.specs.Words.{extends}
-use Rattle.walk.specs.Cells.{placeOf, placed, stateOf, Met, bad, hit, firsts, stepped, reached, metAs, meeting, metOf, nothing, store, Visited, Tables, Ready}
+use Rattle.walk.specs.Cells.{placeOf, placed, stateOf, Met, bad, hit, firsts, stepped, reached, sized, metAs, meeting, metOf, stores, plain, store, Visited, Tables, Ready}
 use Rattle.walk.specs.declared.Go.{Go}
-use Rattle.walk.specs.declared.Go.the-variants.{Fails, Stuck, Hit, Below}
+use Rattle.walk.specs.declared.Go.the-variants.{Fails, Stuck, Hit, Tries, Below, Stored}
+use Rattle.tree.specs.Laid.{extentOf}
 use Rattle.walk.proofs.Region.{instrOf-word}
+use Rattle.walk.proofs.Rows.{extends-in, extends-more}
 use Rattle.walk.proofs.Places.{place-none, place-some, placed-get, state-put, state-push, few-words}
 
 -- a visit that stores nothing
-pub stays : (g : Go) (h : ℕ) (l : List ℕ) {m : Met} → metOf g (stateOf h l) ≡ m → Visited m l l (record { go = g; head = h; mark = 0 })
-stays g h l e = record { comes = e; stored = nothing; still = λ _. refl }
-
-below≢fails : Below ≡ Fails → ⊥
-below≢fails e = let z : _≡_ {A = ℕ} 0 1 = cc in omega arith
+pub stays : (g : Go) (h : ℕ) (l : List ℕ) {m : Met} → stores g ≡ false → metOf g (stateOf h l) ≡ m → Visited m l l (record { go = g; head = h; mark = 0 })
+stays g h l n e = record { comes = e; marked = plain g n }
 
 -- another head
 pub moved-none : (h : ℕ) (l : List ℕ) {to : ℕ} → to ≡ 255 → metOf Stuck (stateOf h l) ≡ stepped (given (placeOf to) (headed (stateOf h l)))
@@ -89,23 +88,21 @@ module _ (d t : List ℕ) (h : ℕ) (l : List ℕ) (R : Ready d t h l) (inside :
 -- Put and Push
 module _ (h : ℕ) (l : List ℕ) (few : getD l 136 0 ≤ 8) where
   pub put-visit : (k : ℕ) → k < 64 → h < 64 → getD l (8 + k) 0 < 256
-      → Visited (stepped (within k (next (putting (stateOf h l) k h)))) l (set l (8 + k) h) (record { go = Below; head = h; mark = (8 + k) * 256 + getD l (8 + k) 0 })
+      → Visited (stepped (within k (next (putting (stateOf h l) k h)))) l (set l (8 + k) h) (record { go = Stored; head = h; mark = (8 + k) * 256 + getD l (8 + k) 0 })
   unfolding metOf stepped require
   put-visit k g v b =
       record {
         comes = rw (lt-ltb k 64 g, state-put h l few k h g (omega arith));
-        stored = store (8 + k) h (omega arith) (omega arith) b;
-        still = λ e. absurd (below≢fails e);
+        marked = store (8 + k) h (omega arith) (omega arith) b;
       }
 
   pub push-visit : (n x : ℕ) → n < 64 → x < 256 → (x ≡ 255 → ⊥) → getD l (72 + n) 0 < 256
-      → Visited (stepped (within n (given (placeOf x) (pushing (stateOf h l) n)))) l (set l (72 + n) x) (record { go = Below; head = h; mark = (72 + n) * 256 + getD l (72 + n) 0 })
+      → Visited (stepped (within n (given (placeOf x) (pushing (stateOf h l) n)))) l (set l (72 + n) x) (record { go = Stored; head = h; mark = (72 + n) * 256 + getD l (72 + n) 0 })
   unfolding metOf stepped require given
   push-visit n x g v ne b =
       record {
         comes = rw (lt-ltb n 64 g, place-some ne, state-push h l few n x g (omega arith));
-        stored = store (72 + n) x (omega arith) (omega arith) b;
-        still = λ e. absurd (below≢fails e);
+        marked = store (72 + n) x (omega arith) (omega arith) b;
       }
 
 pub push-none : (n : ℕ) (s : State) {x : ℕ} → x ≡ 255 → n < 64 → metOf Stuck s ≡ stepped (within n (given (placeOf x) (pushing s n)))
@@ -113,7 +110,7 @@ unfolding metOf stepped require given
 push-none n s e g = rw (lt-ltb n 64 g, place-none e)
 
 -- Pop
-pub pop-visit : (h : ℕ) (l : List ℕ) → length l ≡ 137 → (n : ℕ) → n < 64 → stepped (given (placeOf (getD l (72 + n) 0)) (headed (stateOf h l)))
+pub pop-visit : (h : ℕ) (l : List ℕ) → length l ≡ 256 → (n : ℕ) → n < 64 → stepped (given (placeOf (getD l (72 + n) 0)) (headed (stateOf h l)))
     ≡ stepped (within n (given (getD (placed 72 l) n none) (headed (stateOf h l))))
 unfolding require
 pop-visit h l s n g = rw (lt-ltb n 64 g, placed-get 72 l n g (omega arith))
@@ -279,6 +276,17 @@ module _ (d : List ℕ) (w room : ℕ) (s : State) where
     pub met-ninth : {op : ℕ} → op ≡ w / 2 ^ 60 → op ≡ 1 → 8 ≤ length (s .chosen) → meeting d w room s ≡ bad
     unfolding meeting metAs instruction
     met-ninth e f g = rw (ok, instrOf-word w, sym e ∙ f, le-ltb (length (s .chosen)) 8 g)
+    -- a word with an extent in the row: a Success still has to have one word
+
+  module _ (some-room : 1 ≤ room) {n : ℕ} (e : n ≡ extentOf w) (some-words : n ≡ 0 → ⊥) (inside : n ≤ room) where
+    pub met-sized : {op x : ℕ} → op ≡ w / 2 ^ 60 → x ≡ w / 2 ^ 28 % 2 ^ 32 → meeting d w room s ≡ sized op n (metAs d (instruction op x) s)
+    unfolding sized
+    met-sized {op} {x} f g = go (ℕ-discrete op 0) (ℕ-discrete n 1)
+      where
+        go : Dec (op ≡ 0) → Dec (n ≡ 1) → meeting d w room s ≡ cond (eqb op 0) (cond (eqb n 1) (metAs d (instruction op x) s) bad) (metAs d (instruction op x) s)
+        go (no z) q = rw (ne-eqb op 0 z) (met-word (extends-in w room some-room e some-words inside (λ y. absurd (z (f ∙ y)))) f g)
+        go (yes z) (yes q) = rw (eq-eqb op 0 z, eq-eqb n 1 q) (met-word (extends-in w room some-room e some-words inside (λ y. q)) f g)
+        go (yes z) (no q) = rw (eq-eqb op 0 z, ne-eqb n 1 q) (met-unfit (extends-more w room some-room e some-words inside (sym f ∙ z) q))
 
 -- any word but a First before a candidate
 pub met-early : (d : List ℕ) (w room : ℕ) (s : State) {op : ℕ} → op ≡ w / 2 ^ 60 → (op ≡ 1 → ⊥) → s .head ≡ none → meeting d w room s ≡ bad
@@ -288,14 +296,29 @@ met-early d w room s {op} e n h = go (extends w (room - 1)) refl
     go false f = met-unfit d w room s f
     go true f = met-word d w room s f e refl ∙ early d op (w / 2 ^ 28 % 2 ^ 32) s h n
 
+-- a First in the row
+pub met-tries : (d t : List ℕ) (h : ℕ) (l : List ℕ) → Ready d t h l → (w room : ℕ) → extends w (room - 1) ≡ true → {op : ℕ} → op ≡ w / 2 ^ 60 → op ≡ 1
+    → meeting d w room (stateOf h l) ≡ cond (ltb (getD l 136 0) 8) (firsts (stateOf h l)) bad
+unfolding meeting metAs instruction
+met-tries d t h l R w room ok e f = rw (ok, instrOf-word w, sym e ∙ f, chosen-length d t h l R)
+
+-- only a Success has to have one word
+pub sized-other : (op n : ℕ) {m k : Met} → (op ≡ 0 → ⊥) → m ≡ k → sized op n m ≡ k
+unfolding sized
+sized-other op n z e = rw (ne-eqb op 0 z) e
+
+pub act-success : (d t : List ℕ) (h : ℕ) (l : List ℕ) → Ready d t h l → h < length d → (x : ℕ) → metAs d (instruction 0 x) (stateOf h l) ≡ hit (stateOf h l)
+unfolding instruction
+act-success d t h l R inside x = success-met d (stateOf h l) h (head-some d t h l R inside) x
+
+pub act-first : (d t : List ℕ) (h : ℕ) (l : List ℕ) → Ready d t h l → (op x : ℕ) → op ≡ 1 → metAs d (instruction op x) (stateOf h l) ≡ cond (ltb (getD l 136 0) 8) (firsts (stateOf h l)) bad
+unfolding metAs instruction
+act-first d t h l R op x e = rw (e, chosen-length d t h l R)
+
 -- the operations at a head
 module _ (d t : List ℕ) (h : ℕ) (l : List ℕ) (R : Ready d t h l) (inside : h < length d) (op x : ℕ) where
   at-step : (y : Step) → instruction op x ≡ some (Do y) → metAs d (instruction op x) (stateOf h l) ≡ stepped (stepAt d y (stateOf h l) h)
   at-step y e = rw e (do-met d (stateOf h l) h (head-some d t h l R inside) y)
-
-  pub act-success : op ≡ 0 → metOf Hit (stateOf h l) ≡ metAs d (instruction op x) (stateOf h l)
-  unfolding instruction metOf
-  act-success e = rw e (sym (success-met d (stateOf h l) h (head-some d t h l R inside) x))
 
   pub act-down : op ≡ 2 → metAs d (instruction op x) (stateOf h l) ≡ stepped (given (down d h) (headed (stateOf h l)))
   unfolding instruction stepAt

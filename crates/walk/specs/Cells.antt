@@ -21,7 +21,7 @@ use Rattle.tree.specs.declared.Refusal.{Refusal}
 use Rattle.tree.specs.declared.Refusal.the-variants.{BadClause, Broken as Refused, Spent as SpentAll}
 use Rattle.walk.specs.declared.QueryAnswer.the-variants.{Covered, NotCovered}
 use Rattle.walk.specs.declared.Go.{Go}
-use Rattle.walk.specs.declared.Go.the-variants.{Fails, Stuck, Hit, Tries, Below}
+use Rattle.walk.specs.declared.Go.the-variants.{Fails, Stuck, Hit, Tries, Below, Stored}
 use Rattle.walk.specs.declared.Visit.{Visit}
 use Rattle.walk.specs.declared.End.{End}
 use Rattle.walk.specs.declared.End.the-variants.{Missed, Found, Broken, Spent}
@@ -35,7 +35,7 @@ placeOf x = cond (eqb x 255) none (some x)
 unfoldable pub placed : ℕ → List ℕ → List (Option ℕ)
 placed a l = map placeOf (take slots (drop a l))
 
--- the state in a head and 137 cells: 8 candidates, 64 positions put, 64 positions pushed, and how many candidates there are
+-- the state in a head and 256 cells: 8 candidates, 64 positions put, 64 positions pushed, how many candidates there are, and cells that no state uses
 abbrev pub stateOf : (head : ℕ) (cells : List ℕ) → State
 stateOf h l = record { chosen = take (getD l 136 0) l; head = placeOf h; puts = placed 8 l; pushes = placed 72 l }
 
@@ -51,7 +51,7 @@ pub record Ready (d t : List ℕ) (head : ℕ) (cells : List ℕ) : Type 0 where
   pub whole : Accepted d
   pub tables : Tables d t
   pub safe : Safe d (stateOf head cells)
-  pub size : length cells ≡ 137
+  pub size : length cells ≡ 256
   pub few : getD cells 136 0 ≤ maxLiterals
 
 -- what a word comes to: past it, broken, the end, the candidates of a First, or the words below it
@@ -89,33 +89,42 @@ metOf Stuck s = bad
 metOf Hit s = hit s
 metOf Tries s = firsts s
 metOf Below s = below s
+metOf Stored s = below s
 
--- the cells with one of them stored back: its index and what it held, as one number; 0 stands for none
+-- an operation with so many words: a Success has one
+unfoldable pub sized : (op words : ℕ) → Met → Met
+sized op n m = cond (eqb op 0) (cond (eqb n 1) m bad) m
+
+-- the cells with one of them stored back: its index and what it held, in the lowest 16 bits of a number; 0 stands for none
 unfoldable pub restored : ℕ → List ℕ → List ℕ
-restored m l = cond (eqb m 0) l (set l (m / 256) (m % 256))
+restored m l = cond (eqb m 0) l (set l (m / 256 % 256) (m % 256))
 
--- one position stored, and the number that brings back what stood there
-pub data Stored (l : List ℕ) : ℕ → List ℕ → Type 0 where
-  nothing : Stored l 0 l
-  store : (i x : ℕ) → 8 ≤ i → i < 136 → getD l i 0 < 256 → Stored l (i * 256 + getD l i 0) (set l i x)
+-- whether a visit stores a position
+abbrev pub stores : Go → Bool
+stores Fails = false
+stores Stuck = false
+stores Hit = false
+stores Tries = false
+stores Below = false
+stores Stored = true
+
+-- what a visit does to the cells: one position is stored, and a number brings back what stood there, or they stay as they are
+pub data Marked (l : List ℕ) : Go → ℕ → List ℕ → Type 0 where
+  plain : (g : Go) → stores g ≡ false → Marked l g 0 l
+  store : (i x : ℕ) → 8 ≤ i → i < 136 → getD l i 0 < 256 → Marked l Stored (i * 256 + getD l i 0) (set l i x)
 
 -- a visit: what the word comes to, and what was stored
 pub record Visited (m : Met) (before after : List ℕ) (r : Visit) : Type 0 where
   pub comes : metOf (r .go) (stateOf (r .head) after) ≡ m
-  pub stored : Stored before (r .mark) after
-  pub still : r .go ≡ Fails → after ≡ before
+  pub marked : Marked before (r .go) (r .mark) after
 
--- up to four numbers to store back, the latest in the lowest 16 bits
-unfoldable pub traced : (trail mark : ℕ) → ℕ
-traced t m = cond (eqb m 0) t (t * 2 ^ 16 + m)
-
--- the cells with all of them stored back
+-- the cells with up to four of them stored back, the latest, in the lowest 16 bits, first
 unfoldable pub unwound : ℕ → List ℕ → List ℕ
-unwound t l = restored (t / 2 ^ 48) (restored (t / 2 ^ 32 % 2 ^ 16) (restored (t / 2 ^ 16 % 2 ^ 16) (restored (t % 2 ^ 16) l)))
+unwound t l = restored (t / 2 ^ 48) (restored (t / 2 ^ 32) (restored (t / 2 ^ 16) (restored t l)))
 
--- the key of the Check that fits at a head, or 0 where there is no head
+-- the key of the Check that fits at a head
 unfoldable pub wantedAt : List ℕ → ℕ → ℕ
-wantedAt d h = cond (ltb h (length d)) (7 * 2 ^ 32 + getD d h 0) 0
+wantedAt d h = 7 * 2 ^ 32 + getD d h 0
 
 -- only Checks that fail there stand between two places of a row
 pub record Passed (words : List ℕ) (at wanted : ℕ) (r : ℕ) : Type 0 where
@@ -123,27 +132,36 @@ pub record Passed (words : List ℕ) (at wanted : ℕ) (r : ℕ) : Type 0 where
   pub further : at ≤ r
   pub same : (d : List ℕ) (allow : ℕ → Bool) (s : State) (p c : ℕ) → s .head ≡ some p → wanted ≡ 7 * 2 ^ 32 + getD d p 0
       → walkWords (machine d) allow (drop at words) s c ≡ walkWords (machine d) allow (drop r words) s c
-  pub none : wanted ≡ 0 → r ≡ at
 
--- the cells with literal j as the next candidate
+-- the cells with one candidate more, whatever it is
+unfoldable pub reserved : Bool → List ℕ → List ℕ
+reserved true l = set l 136 (getD l 136 0 + 1)
+reserved false l = l
+
+-- the cells with literal j as the latest candidate
 unfoldable pub candidate : Bool → ℕ → List ℕ → List ℕ
-candidate true j l = set (set l (getD l 136 0) j) 136 (getD l 136 0 + 1)
+candidate true j l = set l (getD l 136 0 - 1) j
 candidate false j l = l
 
 -- the cells without the latest candidate, where `kept` stood before
-unfoldable pub dropped : Bool → ℕ → List ℕ → List ℕ
-dropped true kept l = set (set l (getD l 136 0 - 1) kept) 136 (getD l 136 0 - 1)
-dropped false kept l = l
+unfoldable pub released : Bool → ℕ → List ℕ → List ℕ
+released true kept l = set (set l (getD l 136 0 - 1) kept) 136 (getD l 136 0 - 1)
+released false kept l = l
+
+-- what stands where the next candidate of a First is to be stored
+unfoldable pub keptIn : Bool → List ℕ → ℕ
+keptIn true l = getD l (getD l 136 0) 0
+keptIn false l = 0
+
+-- the head at the beginning of a pass
+unfoldable pub headAt : List ℕ → Bool → (head j : ℕ) → ℕ
+headAt d true h j = startOf d j
+headAt d false h j = h
 
 -- the state with literal j as the next candidate
 unfoldable pub startAt : List ℕ → Bool → ℕ → State → State
 startAt d true j s = starting d s j
 startAt d false j s = s
-
--- a candidate begins: the head, and the cells
-pub record Begun (d : List ℕ) (first : Bool) (head j : ℕ) (before after : List ℕ) (r : ℕ) : Type 0 where
-  pub state : stateOf r after ≡ startAt d first j (stateOf head before)
-  pub cells : after ≡ candidate first j before
 
 -- a walk's answer, with the witness words in place of the state
 pub data Out : Type 0 where
@@ -180,13 +198,6 @@ entered d b false k s c = k s c
 unfoldable pub passesOf : Bool → ℕ → ℕ
 passesOf true n = n
 passesOf false n = 1
-
--- entries that stand in a longer list from a place on, the other words as before
-pub record Laid (before : List ℕ) (from : ℕ) (entries : List ℕ) (n : ℕ) (after : List ℕ) : Type 0 where
-  pub size : length after ≡ length before
-  pub there : (i : ℕ) → i < n → getD after (from + i) 0 ≡ getD entries i 0
-  pub lower : (k : ℕ) → k < from → getD after k 0 ≡ getD before k 0
-  pub upper : (k : ℕ) → from + n ≤ k → getD after k 0 ≡ getD before k 0
 
 -- what a shape is refused with; a whole clause is not
 unfoldable pub refusalOf : Shape → Refusal

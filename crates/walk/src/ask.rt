@@ -1,10 +1,11 @@
 // The query: what is asked of a tree.
 use crate::End;
 use crate::Finding;
+use crate::Path;
 use crate::QueryAnswer;
 use crate::Witness;
 use crate::cells::wide;
-use crate::walk::walk;
+use crate::walk::walk_top;
 use clause::Clause;
 use clause::Shape;
 use tree::Refusal;
@@ -12,43 +13,12 @@ use tree::Tree;
 ghost use mathlib.Core.Path.{_≡_};
 ghost use mathlib.Core.Bool.{cond};
 ghost use mathlib.Core.Option.{none, some};
-ghost use mathlib.Core.Logic.{_⊎_};
-ghost use Prim.Native.Nat.{ℕ, _+_, _-_, _≤_, _<_};
+ghost use Prim.Native.Nat.{_+_, _-_, _≤_, _<_};
 ghost use lib.ListN.{length, getD};
 ghost use Rattle.clause.specs.Clause.{Accepted};
 ghost use Rattle.tree.specs.Laid.{usedOf};
-ghost use Rattle.walk.specs.Cells.{stateOf, Tables, Laid, outBy, refusalOf, toldOut};
+ghost use Rattle.walk.specs.Cells.{stateOf, outBy, refusalOf, toldOut};
 ghost use Rattle.walk.specs.Query as q;
-
-// Copies a table's entries to a place of the packed tables.
-fn lay(tables: &mut [u8; 137], from: usize, entries: &[u8])
-    requires { ⌜ (length (now tables) ≡ 137) × (from + length (now entries) ≤ 137) ⌝ }
-    ensures { λ _. ⌜ Laid (now (tables .entry)) from (now (entries .entry)) (length (now (entries .entry))) (now (tables .exit)) ⌝ }
-{
-    let mut i = 0;
-    while i < entries.len() {
-        let to = from + i;
-        tables[to] = entries[i];
-        i += 1;
-    }
-}
-
-// The tables of a query in one array.
-fn pack(words: &[u16]) -> [u8; 137]
-    requires { ⌜ Accepted (now words) ⌝ }
-    ensures { λ r. ⌜ Tables (now (words .entry)) r ⌝ }
-{
-    let clause = Clause::of(words);
-    let starts = clause.starts;
-    let ends = clause.ends;
-    let siblings = clause.siblings;
-    let mut tables = [0u8; 137];
-    lay(&mut tables, 0, &starts);
-    lay(&mut tables, 8, &ends);
-    lay(&mut tables, 72, &siblings);
-    tables[136] = clause.literals as u8;
-    tables
-}
 
 // A cell as a witness word.
 fn word(x: u8) -> u16
@@ -58,20 +28,20 @@ fn word(x: u8) -> u16
 }
 
 // Whether the cells have a witness word to show at a place.
-fn shows(cells: &[u8; 137], i: usize) -> bool
-    requires { ⌜ (length (now cells) ≡ 137) × (i < 72) ⌝ }
+fn shows(cells: &[u8; Path::CELLS], i: usize) -> bool
+    requires { ⌜ (length (now cells) ≡ 256) × (i < 72) ⌝ }
     ensures { λ r. ⌜ getD (q.shown (stateOf 255 (now (cells .entry)))) i none ≡ cond r (some (getD (now (cells .entry)) i 0)) none ⌝ }
 {
     if i < Clause::LITERALS {
-        i < wide(cells[136])
+        i < wide(cells[Path::CHOSEN])
     } else {
         cells[i] != 255
     }
 }
 
 // Writes the candidates and the positions put into the witness, its other words untouched.
-fn show(cells: &[u8; 137], witness: &mut [u16])
-    requires { ⌜ (length (now cells) ≡ 137) × (72 ≤ length (now witness)) ⌝ }
+fn show(cells: &[u8; Path::CELLS], witness: &mut [u16])
+    requires { ⌜ (length (now cells) ≡ 256) × (72 ≤ length (now witness)) ⌝ }
     ensures { λ _. ⌜ now (witness .exit) ≡ q.written (q.shown (stateOf 255 (now (cells .entry)))) (now (witness .entry)) ⌝ }
 {
     let mut i: usize = 0;
@@ -94,8 +64,13 @@ fn refusal(shape: Shape) -> Refusal
 }
 
 // The answer that a finding comes to; the witness is written where the tree covers the query.
-fn answer(finding: Finding, budget: u64, cells: &[u8; 137], witness: &mut [u16]) -> QueryAnswer
-    requires { ⌜ (length (now cells) ≡ 137) × (72 ≤ length (now witness)) ⌝ }
+fn answer(
+    finding: Finding,
+    budget: u64,
+    cells: &[u8; Path::CELLS],
+    witness: &mut [u16],
+) -> QueryAnswer
+    requires { ⌜ (length (now cells) ≡ 256) × (72 ≤ length (now witness)) ⌝ }
     ensures { λ r. ⌜ record { answer = r; witness = now (witness .exit) }
         ≡ toldOut budget (now (witness .entry)) (outBy (finding .end) (finding .count) (now (cells .entry))) ⌝ }
 {
@@ -118,21 +93,13 @@ fn search(tree: &[u64], words: &[u16], budget: u64, witness: &mut [u16]) -> Quer
     ensures { λ r. ⌜ record { answer = r; witness = now (witness .exit) }
         ≡ q.told budget (now (witness .entry)) (q.walkSlice (now (tree .entry)) (now (words .entry)) budget) ⌝ }
 {
-    let tables = pack(words);
-    let mut cells = [255u8; 137];
-    cells[136] = 0;
+    let clause = Clause::of(words);
+    let tables = clause.tables;
+    let mut cells = [255u8; Path::CELLS];
+    cells[Path::CHOSEN] = 0;
     let used = (tree[0] / 4294967296) as usize;
     let end = used + 1;
-    let finding = walk(
-        &tree[1..end],
-        words,
-        &tables,
-        &mut cells,
-        false,
-        255,
-        0,
-        budget,
-    );
+    let finding = walk_top(&tree[1..end], words, &tables, &mut cells, budget);
     answer(finding, budget, &cells, witness)
 }
 

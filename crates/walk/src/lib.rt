@@ -18,6 +18,23 @@ pub enum QueryAnswer {
     NotCovered(u64),
 }
 
+// A path's state in lent cells: the candidates first, then the positions put, the positions pushed, and how many candidates there are.
+pub struct Path {}
+
+impl Path {
+    // Where the positions put begin.
+    pub const PUTS: usize = 8;
+
+    // Where the positions pushed begin.
+    pub const PUSHES: usize = 72;
+
+    // The cell with the number of candidates.
+    pub const CHOSEN: usize = 136;
+
+    // How many cells there are: any byte is the index of one.
+    pub const CELLS: usize = 256;
+}
+
 // The witness of a query: the literals chosen, then the positions put.
 pub struct Witness {}
 
@@ -32,13 +49,15 @@ pub enum CeilingAnswer {
     Ceiling(u64),
 }
 
-// What a node asks for: to go on past it, nothing more (it is broken), to end with its number, to try the candidates, to go on below it.
+// What a node asks for: to go on past it, nothing more (it is broken), to end with its number, to try the candidates, to go on below it, to go on
+// below it after a store.
 pub enum Go {
     Fails,
     Stuck,
     Hit,
     Tries,
     Below,
+    Stored,
 }
 
 // A visited node: where the walk goes on, and what brings back the cell that the visit stored over.

@@ -2,10 +2,12 @@
 use crate::End;
 use crate::Finding;
 use crate::Go;
+use crate::Path;
 use crate::cells::begin;
-use crate::cells::held;
-use crate::cells::leave;
+use crate::cells::is_none;
 use crate::cells::passes;
+use crate::cells::release;
+use crate::cells::reserve;
 use crate::cells::restore;
 use crate::cells::trace;
 use crate::cells::unwind;
@@ -14,36 +16,40 @@ use crate::row::operand;
 use crate::row::pass;
 use crate::row::wanted;
 use crate::step::meet;
+use crate::step::meet_top;
+use clause::Clause;
 ghost use mathlib.Core.Path.{_≡_};
-ghost use mathlib.Core.Bool.{true};
 ghost use Prim.Native.Nat.{_<_};
+ghost use lib.Dec.{eqb};
 ghost use lib.ListN.{getD};
 ghost use Rattle.walk.specs.Walk.{upTo};
 ghost use Rattle.walk.specs.Words.{walkWords};
 ghost use Rattle.walk.specs.Query.{machine};
 ghost use Rattle.walk.specs.Cells.{stateOf, entered, Ready, Walked};
 
-// Walks the words below a node: from each candidate of a First, or once, siblings in order. After a miss the cells are as before.
+// Walks the words below a node: from each candidate of a First, which hands on no head, or once, siblings in order. After a miss the cells are as before.
 // The last word of a row needs no call: what stands below it is the row from there on, and the trail brings its cell back.
 pub fn walk(
     words: &[u64],
     query: &[u16],
-    tables: &[u8; 137],
-    cells: &mut [u8; 137],
-    first: bool,
+    tables: &[u8; Clause::TABLES],
+    cells: &mut [u8; Path::CELLS],
     head: usize,
     count: u64,
     budget: u64,
 ) -> Finding
-    requires { ⌜ Ready (now query) (now tables) head (now cells) × (first ≡ true → getD (now cells) 136 0 < 8) ⌝ }
-    ensures { λ r. ⌜ Walked (entered (now (query .entry)) budget first (walkWords (machine (now (query .entry))) (upTo budget) (now (words .entry))) (stateOf head (now (cells .entry))) count)
+    requires { ⌜ Ready (now query) (now tables) head (now cells) × (head ≡ 255 → getD (now cells) 136 0 < 8) ⌝ }
+    ensures { λ r. ⌜ Walked (entered (now (query .entry)) budget (eqb head 255) (walkWords (machine (now (query .entry))) (upTo budget) (now (words .entry))) (stateOf head (now (cells .entry))) count)
         (now (cells .entry)) (now (cells .exit)) r ⌝ }
 {
+    let first = is_none(head);
     let last = passes(tables, first);
+    let kept = reserve(cells, first);
     let mut n = count;
     let mut j = 0;
     'tries: loop {
         if j >= last {
+            release(cells, first, kept);
             break 'tries Finding {
                 end: End::Missed,
                 count: n,
@@ -58,17 +64,17 @@ pub fn walk(
             }
             n += 1;
         }
-        let kept = held(cells);
         let mut here = begin(query, tables, cells, first, head, j);
         let mut trail: u64 = 0;
-        let mut at = pass(words, 0, wanted(query, here));
-        while at < words.len() {
-            let w = words[at];
-            let v = meet(w, words.len() - at, query, tables, cells, here);
+        let left = pass(words, 0, wanted(query, here));
+        let start = words.len() - left;
+        let mut rest = &words[start..];
+        while rest.len() > 0 {
+            let w = rest[0];
+            let v = meet(w, rest.len(), query, tables, cells, here);
             let go = v.go;
-            let from = at + 1;
-            let to = at + extent(w);
-            let below = match go {
+            let size = extent(w);
+            let to = match go {
                 Go::Stuck => break 'tries Finding {
                     end: End::Broken,
                     count: n,
@@ -78,47 +84,81 @@ pub fn walk(
                     count: n,
                 },
                 Go::Fails => {
-                    at = to;
+                    rest = &rest[size..];
                     continue;
                 }
-                Go::Tries => true,
+                Go::Tries => 255,
                 Go::Below => {
-                    if to == words.len() {
-                        if v.mark == 0 {
-                            here = v.head;
-                            at = from;
-                            continue;
-                        }
+                    if size == rest.len() {
+                        here = v.head;
+                        rest = &rest[1..];
+                        continue;
+                    }
+                    v.head
+                }
+                Go::Stored => {
+                    if size == rest.len() {
                         if trail < 281474976710656 {
                             trail = trace(trail, v.mark);
                             here = v.head;
-                            at = from;
+                            rest = &rest[1..];
                             continue;
                         }
                     }
-                    false
+                    v.head
                 }
             };
-            let finding = walk(
-                &words[from..to],
-                query,
-                tables,
-                cells,
-                below,
-                v.head,
-                n,
-                budget,
-            );
+            let finding = walk(&rest[1..size], query, tables, cells, to, n, budget);
             let end = finding.end;
             let End::Missed = end else {
                 break 'tries finding;
             };
             restore(cells, v.mark);
             n = finding.count;
-            at = pass(words, to, wanted(query, here));
+            let more = pass(rest, size, wanted(query, here));
+            let next = rest.len() - more;
+            rest = &rest[next..];
         }
         unwind(cells, trail);
-        leave(cells, first, kept);
         j += 1;
+    }
+}
+
+// Walks the topmost row, before the first candidate.
+pub fn walk_top(
+    words: &[u64],
+    query: &[u16],
+    tables: &[u8; Clause::TABLES],
+    cells: &mut [u8; Path::CELLS],
+    budget: u64,
+) -> Finding
+    requires { ⌜ Ready (now query) (now tables) 255 (now cells) ⌝ }
+    ensures { λ r. ⌜ Walked (walkWords (machine (now (query .entry))) (upTo budget) (now (words .entry)) (stateOf 255 (now (cells .entry))) 0)
+        (now (cells .entry)) (now (cells .exit)) r ⌝ }
+{
+    let mut count: u64 = 0;
+    let mut rest = words;
+    while rest.len() > 0 {
+        let w = rest[0];
+        let v = meet_top(w, rest.len(), query, tables, cells);
+        let go = v.go;
+        let Go::Tries = go else {
+            return Finding {
+                end: End::Broken,
+                count: count,
+            };
+        };
+        let size = extent(w);
+        let finding = walk(&rest[1..size], query, tables, cells, 255, count, budget);
+        let end = finding.end;
+        let End::Missed = end else {
+            return finding;
+        };
+        count = finding.count;
+        rest = &rest[size..];
+    }
+    Finding {
+        end: End::Missed,
+        count: count,
     }
 }

@@ -24,9 +24,9 @@ enum-told c = search needs
 
 keep-requires : tie.Need-keep-requires
 keep-requires c κs =
-    let s = c .before .before .before .before .before .before .before .before .before .before .before in
-    let g = c .before .before .enum-told .given in
-    (s .pre, asked-accepted (s .args .tree .now) (s .args .words .now) (s .args .number) (c .before .before .before .before .before .query .ensures) (g .0 .0) (g .1))
+    let s = c .before .before .before .before .before .before .before .before .before .before .before .before in
+    let g = c .before .before .before .enum-told .given in
+    (s .pre, asked-accepted (s .args .tree .now) (s .args .words .now) (s .args .number) (c .before .before .before .before .before .before .query .ensures) (g .0 .0) (g .1), search needs)
 
 same-length : tie.Need-same-length
 same-length c = search needs
@@ -54,9 +54,9 @@ same-length-4 c = search needs
 
 returns-3 : tie.Need-returns-3
 returns-3 c =
-    let s = c .before .before .before .before .before .before .before .before .before .before .before .before .before .before .before .before in
-    let g = c .before .before .before .before .before .before .before .enum-told .given in
-    asked-kept (s .args .tree .now) (s .args .words .now) (s .args .number) (c .before .before .before .before .before .before .before .before .before .before .query .ensures) (g .0 .0) (g .1) (c .before .before .before .before .keep .ensures)
+    let s = c .before .before .before .before .before .before .before .before .before .before .before .before .before .before .before .before .before in
+    let g = c .before .before .before .before .before .before .before .before .enum-told .given in
+    asked-kept (s .args .tree .now) (s .args .words .now) (s .args .number) (c .before .before .before .before .before .before .before .before .before .before .before .query .ensures) (g .0 .0) (g .1) (c .before .before .before .before .keep .ensures)
 
 pub answer-spec : {M : Type 1} → statement M
 answer-spec =

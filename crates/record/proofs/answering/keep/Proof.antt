@@ -18,30 +18,27 @@ slice-read-if1 c = search needs
 
 returns : tie.Need-returns
 returns c =
-    let s = c .before .before .before .before .before in
+    let s = c .before .before .before .before .before .before in
     let w : Words (s .args .words .now) = words-of (s .args .words .now) (λ i. omega (arith, c .before .before .shared-slice-known .given i)) in
     let l : s .args .number < 65_536 = omega (arith, s .fits .number) in
     keep-marked (s .pre .0) (s .args .words .now) (s .pre .1) w (s .args .number) l (c .if1 .taken)
 
-slice-aggregate-compile : tie.Need-slice-aggregate-compile
-slice-aggregate-compile c = search needs
-
 compile-requires : tie.Need-compile-requires
-compile-requires c κs = (clause-short _ (c .before .before .before .before .before .before .pre .1), omega arith)
+compile-requires c κs = let p = c .before .before .before .before .before .before .before .pre in (clause-short _ (p .1), p .2)
 
-array-share-prefix-keys : tie.Need-array-share-prefix-keys
-array-share-prefix-keys c = compiled-fits (c .before .before .compile .ensures)
+slice-reshare-prefix-insert-new : tie.Need-slice-reshare-prefix-insert-new
+slice-reshare-prefix-insert-new c = compiled-fits (c .before .before .before .compile .ensures)
 
 slice-aggregate-insert-new : tie.Need-slice-aggregate-insert-new
-slice-aggregate-insert-new c = sym (length-take-le _ _ (compiled-fits (c .before .before .before .compile .ensures)))
+slice-aggregate-insert-new c = sym (length-take-le _ _ (compiled-fits (c .before .before .before .before .compile .ensures)))
 
 insert-new-requires : tie.Need-insert-new-requires
 insert-new-requires c κs =
-    let s = c .before .before .before .before .before .before .before .before .before .before in
-    let w : Words (s .args .words .now) = words-of (s .args .words .now) (λ i. omega (arith, c .before .before .before .before .before .before .before .shared-slice-known .given i)) in
+    let s = c .before .before .before .before .before .before .before .before .before .before .before .before in
+    let w : Words (s .args .words .now) = words-of (s .args .words .now) (λ i. omega (arith, c .before .before .before .before .before .before .before .before .shared-slice-known .given i)) in
     let l : s .args .number < 65_536 = omega (arith, s .fits .number) in (
-      ready (s .pre .0) (s .args .words .now) (s .pre .1) w (s .args .number) l (compiled-keys (c .before .before .before .compile .ensures)),
-      number-new (s .pre .0) (s .args .words .now) (s .pre .1) w (s .args .number) l (c .before .before .before .before .before .if1 .left),
+      ready (s .pre .0) (s .args .words .now) (s .pre .1) w (s .args .number) l (compiled-keys (c .before .before .before .before .compile .ensures)),
+      number-new (s .pre .0) (s .args .words .now) (s .pre .1) w (s .args .number) l (c .before .before .before .before .before .before .if1 .left),
     )
 
 enum-known-answer : tie.Need-enum-known-answer
@@ -59,31 +56,37 @@ same-length c = search needs
 same-length-2 : tie.Need-same-length-2
 same-length-2 c = search needs
 
+same-length-3 : tie.Need-same-length-3
+same-length-3 c = search needs
+
 returns-2 : tie.Need-returns-2
 returns-2 c =
-    let s = c .before .before .before .before .before .before .before .before .before .before .before .before .before .before .before in
-    let w : Words (s .args .words .now) = words-of (s .args .words .now) (λ i. omega (arith, c .before .before .before .before .before .before .before .before .before .before .before .before .shared-slice-known .given i)) in
+    let s = c .before .before .before .before .before .before .before .before .before .before .before .before .before .before .before .before .before in
+    let w : Words (s .args .words .now) = words-of (s .args .words .now) (λ i. omega (arith, c .before .before .before .before .before .before .before .before .before .before .before .before .before .shared-slice-known .given i)) in
     let l : s .args .number < 65_536 = omega (arith, s .fits .number) in
     let i = c .before .before .before .before .insert-new in
     let k = c .before .match .keys2 in
-    keep-kept (s .pre .0) (s .args .words .now) (s .pre .1) w (s .args .number) l (c .before .before .before .before .before .before .before .before .before .before .if1 .left)
-    (called (s .pre .0) (s .args .words .now) (s .pre .1) w (s .args .number) l (compiled-keys (c .before .before .before .before .before .before .before .before .compile .ensures)) (i .ensures))
+    keep-kept (s .pre .0) (s .args .words .now) (s .pre .1) w (s .args .number) l (c .before .before .before .before .before .before .before .before .before .before .before .if1 .left)
+    (called (s .pre .0) (s .args .words .now) (s .pre .1) w (s .args .number) l (compiled-keys (c .before .before .before .before .before .before .before .before .before .compile .ensures)) (i .ensures))
     (λ f e. miss (1 ∷ 2 ∷ 3 ∷ []) 0 tt (rw e at k))
 
 code-requires : tie.Need-code-requires
 code-requires c κs = search needs
 
-same-length-3 : tie.Need-same-length-3
-same-length-3 c = search needs
+same-length-4 : tie.Need-same-length-4
+same-length-4 c = search needs
+
+same-length-5 : tie.Need-same-length-5
+same-length-5 c = search needs
 
 returns-3 : tie.Need-returns-3
 returns-3 c =
-    let s = c .before .before .before .before .before .before .before .before .before .before .before .before .before .before .before .before .before in
-    let w : Words (s .args .words .now) = words-of (s .args .words .now) (λ i. omega (arith, c .before .before .before .before .before .before .before .before .before .before .before .before .before .before .shared-slice-known .given i)) in
+    let s = c .before .before .before .before .before .before .before .before .before .before .before .before .before .before .before .before .before .before .before in
+    let w : Words (s .args .words .now) = words-of (s .args .words .now) (λ i. omega (arith, c .before .before .before .before .before .before .before .before .before .before .before .before .before .before .before .shared-slice-known .given i)) in
     let l : s .args .number < 65_536 = omega (arith, s .fits .number) in
     let g = c .before .before .answer .given in
-    keep-refused (s .pre .0) (s .args .words .now) (s .pre .1) w (s .args .number) l (c .before .before .before .before .before .before .before .before .before .before .before .before .if1 .left)
-    (called (s .pre .0) (s .args .words .now) (s .pre .1) w (s .args .number) l (compiled-keys (c .before .before .before .before .before .before .before .before .before .before .compile .ensures)) (c .before .before .before .before .before .before .insert-new .ensures)) (g .0 .0) (g .1) (c .code .ensures)
+    keep-refused (s .pre .0) (s .args .words .now) (s .pre .1) w (s .args .number) l (c .before .before .before .before .before .before .before .before .before .before .before .before .before .if1 .left)
+    (called (s .pre .0) (s .args .words .now) (s .pre .1) w (s .args .number) l (compiled-keys (c .before .before .before .before .before .before .before .before .before .before .before .compile .ensures)) (c .before .before .before .before .before .before .insert-new .ensures)) (g .0 .0) (g .1) (c .code .ensures)
 
 pub keep-spec : {M : Type 1} → statement M
 keep-spec =
@@ -91,9 +94,8 @@ keep-spec =
     (tie.spec
     slice-read-if1
     returns
-    slice-aggregate-compile
     compile-requires
-    array-share-prefix-keys
+    slice-reshare-prefix-insert-new
     slice-aggregate-insert-new
     insert-new-requires
     enum-known-answer
@@ -101,7 +103,9 @@ keep-spec =
     slice-read-t22
     same-length
     same-length-2
+    same-length-3
     returns-2
     code-requires
-    same-length-3
+    same-length-4
+    same-length-5
     returns-3)

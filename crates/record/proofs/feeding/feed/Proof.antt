@@ -1,21 +1,21 @@
 -- The bytes so far are fed, and their text is in the output.
 use mathlib.Core.Path.{_∙_}
-use Prim.Native.Nat.{_-_}
+use Prim.Native.Nat.{_+_, _-_, _≤_}
 use native.Mathlib.Omega.{arith}
-use borrow.Author.Needs.{needs}
-use lib.ListN.{length}
+use lib.ListN.{length, length-take, length-drop}
 use Rattle.record.specs.Feed.{storeOf}
 use Rattle.record.proofs.Records.{whole-input}
 use Rattle.record.proofs.Blocks.{Feeding, feeding-none, feeding-more, some-taken}
+use borrow.Author.Needs.{needs}
 use Rattle.record.proofs.feeding.feed.Statement.{statement}
 use Rattle.record.proofs.feeding.feed.Tie as tie
 
 abbrev Inv-loop : tie.InvT-loop
-Inv-loop input tree₀ marks₀ words₀ output₀ here₀ taken₀ at₀ tree marks words output here taken at =
+Inv-loop input tree₀ marks₀ words₀ output₀ keys₀ here₀ taken₀ at₀ tree marks words output keys here taken at =
     Feeding here₀ (storeOf words₀ tree₀ marks₀) input output₀ here (storeOf words tree marks) output taken at
 
 abbrev μ-loop : tie.MeasureT-loop
-μ-loop input tree₀ marks₀ words₀ output₀ here₀ taken₀ at₀ tree marks words output here taken at = length input - taken
+μ-loop input tree₀ marks₀ words₀ output₀ keys₀ here₀ taken₀ at₀ tree marks words output keys here taken at = length input - taken
 
 loop-holds : tie.Need-loop-holds Inv-loop μ-loop
 loop-holds c =
@@ -25,28 +25,40 @@ loop-holds c =
 sub-if1 : tie.Need-sub-if1 Inv-loop μ-loop
 sub-if1 c = omega (arith, c .before .loop .inv .fits, c .before .loop .inv .output)
 
-shared-slice-read-take-byte : tie.Need-shared-slice-read-take-byte Inv-loop μ-loop
-shared-slice-read-take-byte c = search needs
+sub-take-some : tie.Need-sub-take-some Inv-loop μ-loop
+sub-take-some c = search needs
 
-take-byte-requires : tie.Need-take-byte-requires Inv-loop μ-loop
-take-byte-requires c κs =
-    let l = c .before .before .before .before .before .before .before .loop .inv in
-    let p = c .before .before .before .before .before .before .before .before .before .before .before .before .before .pre in
-    (l .took .steady, l .words ∙ p .1, omega (arith, l .records, p .2, c .before .before .before .before .before .before .loop-test .taken), omega (arith, c .before .before .before .before .before .if1 .left, l .fits, l .output))
+part-take-some-start : tie.Need-part-take-some-start Inv-loop μ-loop
+part-take-some-start c = search needs
+
+part-take-some-end : tie.Need-part-take-some-end Inv-loop μ-loop
+part-take-some-end c = search needs
+
+take-some-requires : tie.Need-take-some-requires Inv-loop μ-loop
+take-some-requires c κs =
+    let l = c .before .before .before .before .before .before .before .before .loop .inv in
+    let p = c .before .before .before .before .before .before .before .before .before .before .before .before .before .before .pre in (
+      l .took .steady,
+      l .words ∙ p .1,
+      omega (arith, l .records, p .2, c .before .before .before .before .before .before .before .loop-test .taken),
+      omega (arith, c .before .before .before .before .before .before .if1 .left, l .fits, l .output),
+      simp (length-take, length-drop) (omega (arith, c .before .before .before .before .before .before .before .loop-test .taken)),
+    )
 
 add-taken : tie.Need-add-taken Inv-loop μ-loop
-add-taken c = record { fits = omega (arith, c .before .before .before .before .before .before .before .before .before .before .before .before .before .before .before .before .before .before .before .before .before .before .before .pre .2, c .before .before .before .before .before .before .before .before .before .before .before .before .before .before .before .before .loop-test .taken) }
+add-taken c = record { fits = omega (arith, c .before .before .before .before .before .before .before .before .before .before .before .before .before .before .before .before .before .before .before .before .before .before .before .before .before .pre .2, c .before .before .before .before .before .before .before .before .before .before .before .before .before .before .before .before .before .before .loop-test .taken, simp (length-take, length-drop) at (c .before .before .before .before .before .before .before .before .before .before .take-some .ensures .1 .1)) }
 
 loop-less : tie.Need-loop-less Inv-loop μ-loop
-loop-less c = omega (arith, c .before .before .before .before .before .before .before .before .before .before .before .before .before .before .before .before .loop-test .taken)
+loop-less c = omega (arith, c .before .before .before .before .before .before .before .before .before .before .before .before .before .before .before .before .before .before .loop-test .taken, c .before .before .before .before .before .before .before .before .before .before .take-some .ensures .1 .0)
 
 loop-again : tie.Need-loop-again Inv-loop μ-loop
 loop-again c =
-    let a = c .before .before .before .before .before .before .before .before .before .before .before .before .before .before .before .before .before .before .before .before .before .before .before .args in
-    let t = c .before .before .before .before .before .before .before .before .before .take-byte .ensures in
-    let l = c .before .before .before .before .before .before .before .before .before .before .before .before .before .before .before .before .before .loop .inv in
-    feeding-more (a .session) (storeOf (a .words .now) (a .tree .now) (a .marks .now)) (a .input .now) (a .output .now) l (c .before .before .before .before .before .before .before .before .before .before .before .before .before .before .before .before .loop-test .taken)
-    (omega (arith, c .before .before .before .before .before .before .before .before .before .before .before .before .before .before .before .if1 .left, l .fits, l .output)) (t .1) (t .0) (c .before .before .output .given) (c .before .before .before .before .words .given) (c .before .before .before .before .before .before .before .before .tree .given) (c .before .before .before .before .before .before .marks .given)
+    let a = c .before .before .before .before .before .before .before .before .before .before .before .before .before .before .before .before .before .before .before .before .before .before .before .before .before .args in
+    let t = c .before .before .before .before .before .before .before .before .before .before .take-some in
+    let l = c .before .before .before .before .before .before .before .before .before .before .before .before .before .before .before .before .before .before .before .loop in
+    let h : l .taken + t .result .taken ≤ length (a .input .now) = omega (arith, c .before .before .before .before .before .before .before .before .before .before .before .before .before .before .before .before .before .before .loop-test .taken, simp (length-take, length-drop) at (t .ensures .1 .1)) in
+    feeding-more (a .session) (storeOf (a .words .now) (a .tree .now) (a .marks .now)) (a .input .now) (a .output .now) (l .inv) (t .ensures .1 .0) h
+    (omega (arith, c .before .before .before .before .before .before .before .before .before .before .before .before .before .before .before .before .before .if1 .left, l .inv .fits, l .inv .output)) (t .ensures .1 .2) (t .ensures .0) (c .before .before .before .output .given) (c .before .before .before .before .before .words .given) (c .before .before .before .before .before .before .before .before .before .tree .given) (c .before .before .before .before .before .before .before .marks .given)
 
 same-length : tie.Need-same-length Inv-loop μ-loop
 same-length c = c .before .loop .inv .slice
@@ -90,8 +102,10 @@ feed-spec =
     μ-loop
     loop-holds
     sub-if1
-    shared-slice-read-take-byte
-    take-byte-requires
+    sub-take-some
+    part-take-some-start
+    part-take-some-end
+    take-some-requires
     add-taken
     loop-less
     loop-again

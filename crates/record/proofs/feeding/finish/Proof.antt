@@ -25,7 +25,7 @@ same-length-3 c = search needs
 
 returns : tie.Need-returns
 returns c =
-    let a = c .before .before .before .before .before .before .before .before .before .before .before .before .before .before .before .before .args in
+    let a = c .before .before .before .before .before .before .before .before .before .before .before .before .before .before .before .before .before .args in
     let p = c .before .before .before .put-line .ensures in
     (finishes (a .number) (a .count) (a .totals) (storeOf (a .words .now) (a .tree .now) (a .marks .now)) (a .output .now) (a .at) (c .before .before .before .before .before .before .before .before .before .outcome-of .ensures) (c .count-outcome .ensures) (p .0), p .1)
 

@@ -16,7 +16,7 @@ unfolding finishing
 returns c = record { answer = rw (lt-ltb 64 _ (c .if1 .taken)); marking = refl; steady = c .before .before .before .before .pre .0 }
 
 slice-aggregate-answer : tie.Need-slice-aggregate-answer
-slice-aggregate-answer c = sym (length-take-le _ _ (omega (arith, c .before .before .before .before .before .before .before .pre .1, c .before .before .before .if1 .left)))
+slice-aggregate-answer c = sym (length-take-le _ _ (omega (arith, c .before .before .before .before .before .before .before .before .pre .1, c .before .before .before .before .if1 .left)))
 
 answer-requires : tie.Need-answer-requires
 answer-requires c κs = search needs
@@ -31,7 +31,7 @@ returns-2 : tie.Need-returns-2
 unfolding finishing
 returns-2 c =
     let a = c .before .before .before .before .answer .ensures in
-    record { answer = rw (le-ltb 64 _ (c .before .before .before .before .before .before .before .before .if1 .left)) (a .answer); marking = a .marking; steady = a .steady }
+    record { answer = rw (le-ltb 64 _ (c .before .before .before .before .before .before .before .before .before .if1 .left)) (a .answer); marking = a .marking; steady = a .steady }
 
 pub outcome-of-spec : {M : Type 1} → statement M
 outcome-of-spec =

@@ -12,14 +12,8 @@ enum-told c = search needs
 enum-known-half : tie.Need-enum-known-half
 enum-known-half c = search needs
 
-cast-take-field : tie.Need-cast-take-field
-cast-take-field c = search needs
-
-mul-take-field : tie.Need-mul-take-field
-mul-take-field c = search needs
-
-add-take-field : tie.Need-add-take-field
-add-take-field c = search needs
+field-of-requires : tie.Need-field-of-requires
+field-of-requires c κs = search needs
 
 take-field-requires : tie.Need-take-field-requires
 take-field-requires c κs = search needs
@@ -43,10 +37,10 @@ same-length-4 c = search needs
 
 returns-2 : tie.Need-returns-2
 returns-2 c =
-    let a = c .before .before .before .before .before .before .before .before .before .before .before .before .before .before .before .before .before .before .before .before .before .args in
-    let h = c .before .before .before .before .before .before .before .before .before .before .before .before .before .before .half .given in
+    let a = c .before .before .before .before .before .before .before .before .before .before .before .before .before .before .before .before .before .before .before .before .before .before .before .args in
+    let h = c .before .before .before .before .before .before .before .before .before .before .before .before .before .before .before .before .half .given in
     let f = c .before .before .before .before .before .before .before .before .take-field .ensures in
-    (took-as (second-byte (a .session) (storeOf (a .words .now) (a .tree .now) (a .marks .now)) (a .byte) (h .0 .0) (h .1)) (f .0), f .1)
+    (took-as (second-byte (a .session) (storeOf (a .words .now) (a .tree .now) (a .marks .now)) (a .byte) (h .0 .0) (h .1)) (rw (← c .before .before .before .before .before .before .before .before .before .before .field-of .ensures) (f .0)), f .1)
 
 pub take-byte-spec : {M : Type 1} → statement M
 take-byte-spec =
@@ -54,9 +48,7 @@ take-byte-spec =
     (tie.spec
     enum-told
     enum-known-half
-    cast-take-field
-    mul-take-field
-    add-take-field
+    field-of-requires
     take-field-requires
     returns
     same-length

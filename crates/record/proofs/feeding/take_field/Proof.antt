@@ -52,8 +52,8 @@ add-if2 c = search needs
 cast-if2-2 : tie.Need-cast-if2-2
 cast-if2-2 c = search needs
 
-add-t32 : tie.Need-add-t32
-add-t32 c = search needs
+add-t34 : tie.Need-add-t34
+add-t34 c = search needs
 
 going-requires-3 : tie.Need-going-requires-3
 going-requires-3 c κs = search needs
@@ -76,8 +76,8 @@ returns-2 c =
 
 finish-requires-2 : tie.Need-finish-requires-2
 finish-requires-2 c κs =
-    let p = c .before .before .before .before .before .before .before .before .before .before .before .before .before .before .before .before .pre in
-    (p .0, ap length (c .before .before .before .before .before .before .before .store .ensures) ∙ simp length-set (p .1), p .2, p .3)
+    let p = c .before .before .before .before .before .before .before .before .before .before .before .before .before .before .before .before .before .pre in
+    (p .0, ap length (c .before .before .before .before .before .before .before .before .store .ensures) ∙ simp length-set (p .1), p .2, p .3)
 
 returns-3 : tie.Need-returns-3
 returns-3 c =
@@ -100,11 +100,11 @@ same-length-5 c = search needs
 
 returns-4 : tie.Need-returns-4
 returns-4 c =
-    let a = c .before .before .before .before .before .before .before .before .before .before .before .before .before .before .before .before .before .before .before .args in
+    let a = c .before .before .before .before .before .before .before .before .before .before .before .before .before .before .before .before .before .before .before .before .args in
     let m = storeOf (a .words .now) (a .tree .now) (a .marks .now) in
-    let g = c .before .before .before .before .before .before .before .before .before .before .before .before .before .stage .given in
+    let g = c .before .before .before .before .before .before .before .before .before .before .before .before .before .before .stage .given in
     let f = c .before .before .before .before .before .before .finish .ensures in
-    (took-as (at-empty (a .totals) m (a .field) (g .0 .0) (g .1) (c .before .before .before .before .before .before .before .before .before .before .before .if1 .left)) (f .0), f .1)
+    (took-as (at-empty (a .totals) m (a .field) (g .0 .0) (g .1) (c .before .before .before .before .before .before .before .before .before .before .before .before .if1 .left)) (f .0), f .1)
 
 same-length-6 : tie.Need-same-length-6
 same-length-6 c = search needs
@@ -120,11 +120,11 @@ same-length-9 c = search needs
 
 returns-5 : tie.Need-returns-5
 returns-5 c =
-    let a = c .before .before .before .before .before .before .before .before .before .before .before .before .before .before .before .before .before .before .before .before .before .before .before .args in
+    let a = c .before .before .before .before .before .before .before .before .before .before .before .before .before .before .before .before .before .before .before .before .before .before .before .before .args in
     let m = storeOf (a .words .now) (a .tree .now) (a .marks .now) in
-    let g = c .before .before .before .before .before .before .before .before .before .before .before .before .before .before .before .before .before .stage2 .given in
+    let g = c .before .before .before .before .before .before .before .before .before .before .before .before .before .before .before .before .before .before .stage2 .given in
     let f = c .before .before .before .before .before .before .finish2 .ensures in
-    (took-as (at-last (a .totals) m (a .field) (g .0 .0) (g .0 .1 .0) (g .0 .1 .1 .0) (g .1) (c .before .before .before .before .before .before .before .before .before .before .before .if2 .left)) (rw (← c .before .before .before .before .before .before .before .before .before .before .before .before .before .before .store .ensures) (f .0)), f .1)
+    (took-as (at-last (a .totals) m (a .field) (g .0 .0) (g .0 .1 .0) (g .0 .1 .1 .0) (g .1) (c .before .before .before .before .before .before .before .before .before .before .before .before .if2 .left)) (rw (← c .before .before .before .before .before .before .before .before .before .before .before .before .before .before .before .store .ensures) (f .0)), f .1)
 
 pub take-field-spec : {M : Type 1} → statement M
 take-field-spec =
@@ -142,7 +142,7 @@ take-field-spec =
     cast-if2
     add-if2
     cast-if2-2
-    add-t32
+    add-t34
     going-requires-3
     same-length
     returns-2

@@ -1,47 +1,37 @@
--- `unwind` meets its contract: up to four marks are stored back.
-use mathlib.Core.Path.{ap, _∙_}
+-- `unwind` meets its contract. The loop's invariant: storing back what is left on the trail gives what storing back the whole trail gave.
+use mathlib.Core.Path.{_≡_, refl, sym, ap, _∙_}
+use Prim.Native.Nat.{_^_, _<_}
 use native.Mathlib.Omega.{arith}
 use lib.ListN.{length}
-use Rattle.walk.proofs.Places.{restored-size, unwound-zero, unwound-one, unwound-two}
 use Rattle.walk.specs.Cells.{unwound}
-use borrow.Author.Needs.{needs}
+use Rattle.walk.proofs.Places.{restored-size, unwound-none, unwound-next}
 use Rattle.walk.proofs.cells.unwind.Statement.{statement}
 use Rattle.walk.proofs.cells.unwind.Tie as tie
+use Rattle.walk.proofs.cells.unwind.Reads as reads
+use Rattle.walk.proofs.cells.unwind.Lts as lts
+use Rattle.walk.proofs.cells.restore.Reads as restore-reads
 
-returns : tie.Need-returns
-returns c = unwound-zero _ _ (c .if1 .taken)
+abbrev Inv-loop : tie.InvT-loop
+Inv-loop cells₀ trail left₀ cells left = (length cells ≡ 256) × (unwound trail cells₀ ≡ unwound left cells) × (left < 2 ^ 64)
 
-restore-requires : tie.Need-restore-requires
-restore-requires c κs = search needs
+abbrev μ-loop : tie.MeasureT-loop
+μ-loop cells₀ trail left₀ cells left = left
 
-returns-2 : tie.Need-returns-2
-returns-2 c = unwound-one _ _ _ (c .if2 .taken) (c .before .restore .ensures)
+loop-holds : tie.Need-loop-holds Inv-loop μ-loop
+loop-holds c = (c .pre, refl, c .fits .trail .fits)
 
-restore-requires-2 : tie.Need-restore-requires-2
-restore-requires-2 c κs = (ap length (c .before .before .restore .ensures) ∙ restored-size _ _ ∙ c .before .before .before .before .before .pre, omega arith)
+restore-requires : tie.Need-restore-requires Inv-loop μ-loop
+restore-requires c κs = c .before .before .loop .inv .0
 
-returns-3 : tie.Need-returns-3
-returns-3 c = unwound-two _ _ _ _ (c .if3 .taken) (c .before .before .before .before .restore .ensures) (c .before .restore2 .ensures)
+loop-less : tie.Need-loop-less Inv-loop μ-loop
+loop-less c = omega arith
 
-restore-requires-3 : tie.Need-restore-requires-3
-restore-requires-3 c κs = (ap length (c .before .before .restore2 .ensures) ∙ restored-size _ _ ∙ ap length (c .before .before .before .before .before .restore .ensures) ∙ restored-size _ _ ∙ c .before .before .before .before .before .before .before .before .pre, omega arith)
+loop-again : tie.Need-loop-again Inv-loop μ-loop
+loop-again c = (ap length (c .restore .ensures) ∙ restored-size _ _ ∙ c .before .before .before .loop .inv .0, c .before .before .before .loop .inv .1 ∙ unwound-next _ _ (c .before .before .before .loop .inv .2) ∙ rw (← c .restore .ensures), omega (arith, c .before .before .before .loop .inv .2))
 
-restore-requires-4 : tie.Need-restore-requires-4
-restore-requires-4 c κs = (ap length (c .before .restore3 .ensures) ∙ restored-size _ _ ∙ ap length (c .before .before .before .before .restore2 .ensures) ∙ restored-size _ _ ∙ ap length (c .before .before .before .before .before .before .before .restore .ensures) ∙ restored-size _ _ ∙ c .before .before .before .before .before .before .before .before .before .before .pre, omega arith)
-
-returns-4 : tie.Need-returns-4
-unfolding unwound
-returns-4 c = c .restore4 .ensures ∙ rw (c .before .before .restore3 .ensures, c .before .before .before .before .before .restore2 .ensures, c .before .before .before .before .before .before .before .before .restore .ensures)
+returns : tie.Need-returns Inv-loop μ-loop
+returns c = let z : c .before .loop .left ≡ 0 = omega arith in sym (c .before .loop .inv .1 ∙ rw z (unwound-none _))
 
 pub unwind-spec : {M : Type 1} → statement M
 unwind-spec =
-    tie.close
-    (tie.spec
-    returns
-    restore-requires
-    returns-2
-    restore-requires-2
-    returns-3
-    restore-requires-3
-    restore-requires-4
-    returns-4)
+    tie.close (tie.spec Inv-loop μ-loop loop-holds restore-requires loop-less loop-again returns)

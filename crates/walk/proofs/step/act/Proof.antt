@@ -1,10 +1,17 @@
 -- `act` meets its contract: one law for each operation.
-use Rattle.walk.proofs.Visits.{stays, act-success, act-down, act-right, act-put, act-push, act-pop, act-check, act-compare, act-over, rest-over}
+use mathlib.Core.Path.{refl, sym}
 use native.Mathlib.Omega.{arith}
 use Rattle.walk.proofs.Places.{few-words}
+use Rattle.walk.proofs.Visits.{stays, sized-other, act-success, act-first, act-down, act-right, act-put, act-push, act-pop, act-check, act-compare, act-over, rest-over}
 use borrow.Author.Needs.{needs}
 use Rattle.walk.proofs.step.act.Statement.{statement}
 use Rattle.walk.proofs.step.act.Tie as tie
+
+success-requires : tie.Need-success-requires
+success-requires c κs = search needs
+
+tries-requires : tie.Need-tries-requires
+tries-requires c κs = search needs
 
 down-requires : tie.Need-down-requires
 down-requires c κs = (c .before .before .pre .1, few-words (c .before .before .pre .0))
@@ -31,36 +38,63 @@ compare-requires : tie.Need-compare-requires
 compare-requires c κs = search needs
 
 returns : tie.Need-returns
-returns c = let a = c .before .before .args in let p = c .before .before .pre in stays _ _ _ (act-success (a .query .now) (a .tables .now) (a .head) (a .cells .now) (p .0) (p .1) (a .op) (a .x) (c .match .keys1))
+returns c =
+    let s = c .before .before .before in
+    rw (c .before .match .keys1, act-success (s .args .query .now) (s .args .tables .now) (s .args .head) (s .args .cells .now) (s .pre .0) (s .pre .1) (s .args .x)) (c .success .ensures (s .args .cells .now))
 
 returns-2 : tie.Need-returns-2
-returns-2 c = let a = c .before .before .before .args in let p = c .before .before .before .pre in rw (act-down (a .query .now) (a .tables .now) (a .head) (a .cells .now) (p .0) (p .1) (a .op) (a .x) (c .before .match .keys2)) (c .down .ensures (a .cells .now))
+returns-2 c =
+    let s = c .before .before .before .before in
+    rw (sized-other (s .args .op) (s .args .words) (λ z. omega (arith, z, c .before .before .match .keys2)) (act-first (s .args .query .now) (s .args .tables .now) (s .args .head) (s .args .cells .now) (s .pre .0) (s .args .op) (s .args .x) (c .before .before .match .keys2))) (c .tries .ensures .0)
 
 returns-3 : tie.Need-returns-3
-returns-3 c = let a = c .before .before .before .before .args in let p = c .before .before .before .before .pre in rw (act-right (a .query .now) (a .tables .now) (a .head) (a .cells .now) (p .0) (p .1) (a .op) (a .x) (c .before .before .match .keys3)) (c .sibling .ensures)
+returns-3 c =
+    let s = c .before .before .before in
+    rw (sized-other (s .args .op) (s .args .words) (λ z. omega (arith, z, c .before .match .keys3)) (act-down (s .args .query .now) (s .args .tables .now) (s .args .head) (s .args .cells .now) (s .pre .0) (s .pre .1) (s .args .op) (s .args .x) (c .before .match .keys3))) (c .down .ensures (s .args .cells .now))
 
 returns-4 : tie.Need-returns-4
-returns-4 c = let a = c .before .before .before .before .args in let p = c .before .before .before .before .pre in rw (act-put (a .query .now) (a .tables .now) (a .head) (a .cells .now) (p .0) (p .1) (a .op) (a .x) (c .before .before .match .keys4)) (c .put .ensures)
+returns-4 c =
+    let s = c .before .before .before .before in
+    rw (sized-other (s .args .op) (s .args .words) (λ z. omega (arith, z, c .before .before .match .keys4)) (act-right (s .args .query .now) (s .args .tables .now) (s .args .head) (s .args .cells .now) (s .pre .0) (s .pre .1) (s .args .op) (s .args .x) (c .before .before .match .keys4))) (c .sibling .ensures)
 
 returns-5 : tie.Need-returns-5
-returns-5 c = let a = c .before .before .before .before .before .before .args in let p = c .before .before .before .before .before .before .pre in rw (act-push (a .query .now) (a .tables .now) (a .head) (a .cells .now) (p .0) (p .1) (a .op) (a .x) (c .before .before .before .before .match .keys5), ← c .before .before .right .ensures .0) (c .push .ensures)
+returns-5 c =
+    let s = c .before .before .before .before in
+    rw (sized-other (s .args .op) (s .args .words) (λ z. omega (arith, z, c .before .before .match .keys5)) (act-put (s .args .query .now) (s .args .tables .now) (s .args .head) (s .args .cells .now) (s .pre .0) (s .pre .1) (s .args .op) (s .args .x) (c .before .before .match .keys5))) (c .put .ensures)
 
 returns-6 : tie.Need-returns-6
-returns-6 c = let a = c .before .before .before .before .args in let p = c .before .before .before .before .pre in rw (act-pop (a .query .now) (a .tables .now) (a .head) (a .cells .now) (p .0) (p .1) (a .op) (a .x) (c .before .before .match .keys6)) (c .pop .ensures)
+returns-6 c =
+    let s = c .before .before .before .before .before .before in
+    rw (sized-other (s .args .op) (s .args .words) (λ z. omega (arith, z, c .before .before .before .before .match .keys6)) (act-push (s .args .query .now) (s .args .tables .now) (s .args .head) (s .args .cells .now) (s .pre .0) (s .pre .1) (s .args .op) (s .args .x) (c .before .before .before .before .match .keys6)), ← c .before .before .right .ensures .0) (c .push .ensures)
 
 returns-7 : tie.Need-returns-7
-returns-7 c = let a = c .before .before .before .args in let p = c .before .before .before .pre in rw (act-check (a .query .now) (a .tables .now) (a .head) (a .cells .now) (p .0) (p .1) (a .op) (a .x) (c .before .match .keys7)) (c .check .ensures (a .cells .now))
+returns-7 c =
+    let s = c .before .before .before .before in
+    rw (sized-other (s .args .op) (s .args .words) (λ z. omega (arith, z, c .before .before .match .keys7)) (act-pop (s .args .query .now) (s .args .tables .now) (s .args .head) (s .args .cells .now) (s .pre .0) (s .pre .1) (s .args .op) (s .args .x) (c .before .before .match .keys7))) (c .pop .ensures)
 
 returns-8 : tie.Need-returns-8
-returns-8 c = let a = c .before .before .before .before .args in let p = c .before .before .before .before .pre in rw (act-compare (a .query .now) (a .tables .now) (a .head) (a .cells .now) (p .0) (p .1) (a .op) (a .x) (c .before .before .match .keys8)) (c .compare .ensures)
+returns-8 c =
+    let s = c .before .before .before in
+    rw (sized-other (s .args .op) (s .args .words) (λ z. omega (arith, z, c .before .match .keys8)) (act-check (s .args .query .now) (s .args .tables .now) (s .args .head) (s .args .cells .now) (s .pre .0) (s .pre .1) (s .args .op) (s .args .x) (c .before .match .keys8))) (c .check .ensures (s .args .cells .now))
 
 returns-9 : tie.Need-returns-9
-returns-9 c = let a = c .before .before .args in let p = c .before .before .pre in stays _ _ _ (act-over (a .query .now) (a .tables .now) (a .head) (a .cells .now) (p .0) (p .1) (a .op) (a .x) (let r = c .match .rest in rest-over (a .op) (r .0 .0 .0 .0 .0 .0 .0 .1) (p .2) (r .0 .0 .0 .0 .0 .0 .1) (r .0 .0 .0 .0 .0 .1) (r .0 .0 .0 .0 .1) (r .0 .0 .0 .1) (r .0 .0 .1) (r .0 .1) (r .1)))
+returns-9 c =
+    let s = c .before .before .before .before in
+    rw (sized-other (s .args .op) (s .args .words) (λ z. omega (arith, z, c .before .before .match .keys9)) (act-compare (s .args .query .now) (s .args .tables .now) (s .args .head) (s .args .cells .now) (s .pre .0) (s .pre .1) (s .args .op) (s .args .x) (c .before .before .match .keys9))) (c .compare .ensures)
+
+returns-10 : tie.Need-returns-10
+returns-10 c =
+    let s = c .before .before in
+    let r = c .match .rest in
+    let o = rest-over (s .args .op) (r .0 .0 .0 .0 .0 .0 .0 .0 .1) (r .0 .0 .0 .0 .0 .0 .0 .1) (r .0 .0 .0 .0 .0 .0 .1) (r .0 .0 .0 .0 .0 .1) (r .0 .0 .0 .0 .1) (r .0 .0 .0 .1) (r .0 .0 .1) (r .0 .1) (r .1) in
+    stays _ _ _ refl (sym (sized-other (s .args .op) (s .args .words) (λ z. omega (arith, z, o)) (sym (act-over (s .args .query .now) (s .args .tables .now) (s .args .head) (s .args .cells .now) (s .pre .0) (s .pre .1) (s .args .op) (s .args .x) o))))
 
 pub act-spec : {M : Type 1} → statement M
 act-spec =
     tie.close
     (tie.spec
+    success-requires
+    tries-requires
     down-requires
     sibling-requires
     put-requires
@@ -77,4 +111,5 @@ act-spec =
     returns-6
     returns-7
     returns-8
-    returns-9)
+    returns-9
+    returns-10)

@@ -1,4 +1,5 @@
 -- `down` meets its contract.
+use mathlib.Core.Path.{refl}
 use Rattle.clause.specs.Word.{arity}
 use Rattle.walk.proofs.Visits.{stays, down-stuck, down-below}
 use borrow.Author.Needs.{needs}
@@ -16,11 +17,11 @@ add-to c = search needs
 
 returns : tie.Need-returns
 unfolding arity
-returns c = λ l. stays _ _ l (down-stuck _ _ l (c .if1 .taken))
+returns c = λ l. stays _ _ l refl (down-stuck _ _ l (c .if1 .taken))
 
 returns-2 : tie.Need-returns-2
 unfolding arity
-returns-2 c = λ l. stays _ _ l (down-below _ _ l (c .before .before .pre) (c .if1 .left))
+returns-2 c = λ l. stays _ _ l refl (down-below _ _ l (c .before .before .pre) (c .if1 .left))
 
 pub down-spec : {M : Type 1} → statement M
 down-spec = tie.close (tie.spec mul-if1 shared-slice-read-if1 add-to returns returns-2)

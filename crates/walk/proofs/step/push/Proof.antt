@@ -1,14 +1,15 @@
 -- `push` meets its contract.
+use mathlib.Core.Path.{refl}
 use Rattle.walk.proofs.Visits.{stays, over, push-none, push-visit}
 use borrow.Author.Needs.{needs}
 use Rattle.walk.proofs.step.push.Statement.{statement}
 use Rattle.walk.proofs.step.push.Tie as tie
 
 returns : tie.Need-returns
-returns c = stays _ _ _ (over _ _ _ (c .if1 .taken))
+returns c = stays _ _ _ refl (over _ _ _ (c .if1 .taken))
 
 returns-2 : tie.Need-returns-2
-returns-2 c = stays _ _ _ (push-none _ _ (c .if2 .taken) (c .before .if1 .left))
+returns-2 c = stays _ _ _ refl (push-none _ _ (c .if2 .taken) (c .before .if1 .left))
 
 add-slot : tie.Need-add-slot
 add-slot c = search needs

@@ -1,4 +1,5 @@
 -- `sibling` meets its contract.
+use mathlib.Core.Path.{refl}
 use native.Mathlib.Omega.{arith}
 use Rattle.walk.proofs.Places.{few-words}
 use Rattle.walk.proofs.Visits.{stays, right-stuck, right-below}
@@ -22,10 +23,10 @@ wide-requires : tie.Need-wide-requires
 wide-requires c κs = search needs
 
 returns : tie.Need-returns
-returns c = stays _ _ _ (right-stuck _ _ _ _ (c .before .before .before .pre .0) (c .before .before .before .pre .1) (c .if1 .taken))
+returns c = stays _ _ _ refl (right-stuck _ _ _ _ (c .before .before .before .pre .0) (c .before .before .before .pre .1) (c .if1 .taken))
 
 returns-2 : tie.Need-returns-2
-returns-2 c = let p = c .before .before .before .before .before .pre in stays _ _ _ (right-below _ _ _ _ (p .0) (p .1) (c .before .before .if1 .left) (c .wide .ensures .0))
+returns-2 c = let p = c .before .before .before .before .before .pre in stays _ _ _ refl (right-below _ _ _ _ (p .0) (p .1) (c .before .before .if1 .left) (c .wide .ensures .0))
 
 pub sibling-spec : {M : Type 1} → statement M
 sibling-spec =
