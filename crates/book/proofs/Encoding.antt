@@ -7,7 +7,7 @@ use native.Mathlib.Decide.{decLe}
 use native.Mathlib.Omega.{arith}
 use lib.ListN.{length, take, drop, getD, length-drop, drop-of-length-le}
 use lib.Seq.{drop-cons, drop-drop, take-all}
-use Rattle.book.specs.Book.{Call, insert, remove, call, after}
+use Rattle.book.specs.Book.{insert, remove, call, after}
 use Rattle.book.specs.Encoding.{whole, callsWithin, callsOf, Ran}
 
 -- more fuel than words makes no difference

@@ -5,7 +5,7 @@ use Prim.Native.Nat.{ℕ}
 use lib.ListN.{set}
 use Rattle.book.specs.Table.{Said, Result}
 use Rattle.codetree.specs.Told.{toldBy, Answered, answered}
-use Rattle.codetree.specs.Calls.{Handed, handed}
+use Rattle.codetree.specs.Calls.{handed}
 
 pub told-one : (ws : List ℕ) (u : ℕ) → set ws 0 u ≡ toldBy (u ∷ []) ws
 told-one [] u = refl

@@ -7,7 +7,6 @@ use tree::CallAnswer;
 use walk::QueryAnswer;
 use walk::Witness;
 use walk::query;
-ghost use mathlib.Core.Path.{_≡_};
 ghost use Prim.Native.Nat.{_≤_};
 ghost use lib.ListN.{length};
 ghost use Rattle.clause.specs.Clause.{Accepted};

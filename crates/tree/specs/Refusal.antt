@@ -1,7 +1,6 @@
 -- What is returned on refusal: document 01's code and values for each case of the enum.
 use mathlib.Core.List.{List, [], _∷_}
 use Prim.Native.Nat.{ℕ}
-use Rattle.clause.specs.declared.Fault.{Fault}
 use Rattle.clause.specs.declared.Fault.the-variants.{BadLength, Bad, Ninth}
 use Rattle.tree.specs.declared.Refusal.{Refusal}
 use Rattle.tree.specs.declared.Refusal.the-variants.{BadSlice, Broken, BadClause, ShortWitness, NumberTaken, Held, NoSuchNumber, ListFull, NoRoom, Spent, BadSize}

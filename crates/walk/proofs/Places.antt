@@ -10,7 +10,7 @@ use lib.Dec.{eqb}
 use Rattle.walk.specs.declared.Go.{Go}
 use lib.ListN.{length, getD, take, drop, set, length-take, length-drop, length-set}
 use lib.Seq.{take-set-le, take-set-lt, drop-set-lt, drop-set-add, take-suc-set, getD-take, getD-drop, getD-set-same, getD-set-other, set-set, set-getD, set-comm}
-use borrow.Author.Tests.{eq-eqb, ne-eqb, eqb-true}
+use borrow.Author.Tests.{eq-eqb, ne-eqb}
 use Rattle.clause.specs.Clause.{literals, startOf}
 use Rattle.clause.proofs.Lists.{getD-map-lt}
 use Rattle.clause.proofs.Literals.{accepted}
@@ -223,9 +223,6 @@ unwound-traced t m l h k n =
     let e : (t * 2 ^ 16 + m) / 2 ^ 16 ≡ t = omega arith in
     unwound-next (t * 2 ^ 16 + m) l (omega arith) ∙ rw (e, restored-low t m l k n)
 
--- a query has at most 8 literals and 64 words
-pub few-literals : {d t : List ℕ} {h : ℕ} {l : List ℕ} → Ready d t h l → length (literals d) ≤ 8
-few-literals {d} R = accepted d (R .whole) .few
-
+-- a query has at most 64 words
 pub few-words : {d t : List ℕ} {h : ℕ} {l : List ℕ} → Ready d t h l → length d ≤ 64
 few-words {d} R = accepted d (R .whole) .fits

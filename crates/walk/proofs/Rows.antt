@@ -1,22 +1,21 @@
 -- The walk at a place of a row, in the terms of the loop over siblings: the words from that place on.
 use Prim.Native.Nat.{ℕ, zero, suc, pred, _+_, _-_, _*_, _/_, _%_, _^_, _≤_, _<_}
-use mathlib.Core.Path.{_≡_, refl, sym, ap, _∙_}
-use mathlib.Core.Bool.{Bool, true, false, _&&_, _||_, not, cond}
+use mathlib.Core.Path.{_≡_, refl, sym, _∙_}
+use mathlib.Core.Bool.{Bool, true, false, cond}
 use mathlib.Core.Option.{Option, none, some}
-use mathlib.Core.List.{List, [], _∷_}
+use mathlib.Core.List.{List, _∷_}
 use native.Mathlib.Omega.{arith}
 use native.Mathlib.Numerals.{add-one}
 use native.Mathlib.Decide.{ℕ-discrete}
-use lib.Dec.{leb, ltb, eqb}
+use lib.Dec.{ltb, eqb}
 use lib.ListN.{length, getD, take, drop, length-drop, drop-of-length-le}
 use lib.Seq.{drop-cons, drop-drop}
-use borrow.Author.Tests.{le-leb, lt-leb, lt-ltb, eq-eqb, ne-eqb}
+use borrow.Author.Tests.{le-leb, lt-leb, eq-eqb, ne-eqb}
 use Rattle.clause.specs.Clause.{literals, maxLiterals}
 use Rattle.machine.specs.Instr.{Instr, First, Do, Success, Check, instruction, instrOf}
 use Rattle.machine.specs.Machine.{State, Outcome, next, fails, stuck, step, stepFrom, stepAt, enter, finish, require}
-use Rattle.tree.specs.Keys.{inner}
 use Rattle.tree.specs.Laid.{keyOf, extentOf}
-use Rattle.walk.specs.Walk.{Machine, Answer, covered, notCovered, spent, broken, Part, andThen, follow, tries, visitAt, visit, upTo}
+use Rattle.walk.specs.Walk.{Machine, covered, notCovered, broken, Part, andThen, follow, tries, visitAt, visit, upTo}
 use Rattle.walk.specs.Words.{extends, walkWords}
 use Rattle.walk.specs.Query.{machine}
 use Rattle.walk.specs.Cells.{Met, past, bad, hit, firsts, below, stepped, reached, metAs, meeting, entered, Passed}
@@ -25,9 +24,6 @@ use Rattle.walk.proofs.Region.{instrOf-word, success-word}
 
 -- the extent of a word, by the tests of the code
 module _ (w room : ℕ) (some-room : 1 ≤ room) where
-  next-room : suc (room - 1) ≡ room
-  next-room = omega arith
-
   pub extends-zero : extentOf w ≡ 0 → extends w (room - 1) ≡ false
   unfolding extends
   extends-zero e = rw (lt-leb 1 (extentOf w) (omega arith))

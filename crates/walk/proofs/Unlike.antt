@@ -1,8 +1,8 @@
 -- Two numbers compared by their exclusive or: from which bit on they agree.
-use Prim.Native.Nat.{ℕ, _+_, _*_, _/_, _%_, _^_, _≤_, _<_}
+use Prim.Native.Nat.{ℕ, _+_, _*_, _/_, _%_, _^_, _<_}
 use mathlib.Core.Path.{_≡_, sym, ap, _∙_}
 use native.Mathlib.Omega.{arith}
-use lib.Bits.{bitAnd, bitXor, and-le-l, and-le-r, xor-add-and, xor-self, xor-shr}
+use lib.Bits.{bitXor, and-le-l, and-le-r, xor-add-and, xor-self, xor-shr}
 
 -- numbers without a bit that differs are equal
 alike : (a b : ℕ) → bitXor a b ≡ 0 → a ≡ b

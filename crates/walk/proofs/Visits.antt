@@ -21,7 +21,7 @@ use Rattle.machine.specs.Instr.{Step, Down, Right, Put, Push, Pop, Check, Compa
 use Rattle.walk.specs.Words.{extends}
 use Rattle.walk.specs.Cells.{placeOf, placed, stateOf, Met, bad, hit, firsts, stepped, reached, sized, metAs, meeting, metOf, stores, plain, store, Visited, Tables, Ready}
 use Rattle.walk.specs.declared.Go.{Go}
-use Rattle.walk.specs.declared.Go.the-variants.{Fails, Stuck, Hit, Tries, Below, Stored}
+use Rattle.walk.specs.declared.Go.the-variants.{Fails, Stuck, Below, Stored}
 use Rattle.tree.specs.Laid.{extentOf}
 use Rattle.walk.proofs.Region.{instrOf-word}
 use Rattle.walk.proofs.Rows.{extends-in, extends-more}
@@ -181,17 +181,10 @@ module _ (d t : List ℕ) (h : ℕ) (l : List ℕ) (R : Ready d t h l) (m k : �
           unfolding metOf stepped require
           compare-other g = rw (compare-both, g)
 
--- a head that stands in the query, and one that does not
+-- a head that stands in the query
 module _ (d t : List ℕ) (h : ℕ) (l : List ℕ) (R : Ready d t h l) where
   pub head-some : h < length d → placeOf h ≡ some h
   head-some g = let w = few-words R in place-some {x = h} (λ z. omega arith)
-
-  pub head-none : length d ≤ h → placeOf h ≡ none
-  head-none g = go (ℕ-discrete h 255)
-    where
-      go : Dec (h ≡ 255) → placeOf h ≡ none
-      go (yes e) = place-none e
-      go (no n) = let b : h < length d = R .safe .head h (place-some n) in absurd (omega arith)
 
   pub chosen-length : length (take (getD l 136 0) l) ≡ getD l 136 0
   chosen-length = length-take-le (getD l 136 0) l (omega (arith, R .size, R .few))
@@ -269,14 +262,7 @@ module _ (d : List ℕ) (w room : ℕ) (s : State) where
     unfolding meeting
     met-word e f = rw (ok, instrOf-word w, e, f)
 
-    pub met-first : {op : ℕ} → op ≡ w / 2 ^ 60 → op ≡ 1 → length (s .chosen) < 8 → meeting d w room s ≡ firsts s
-    unfolding meeting metAs instruction
-    met-first e f g = rw (ok, instrOf-word w, sym e ∙ f, lt-ltb (length (s .chosen)) 8 g)
-
-    pub met-ninth : {op : ℕ} → op ≡ w / 2 ^ 60 → op ≡ 1 → 8 ≤ length (s .chosen) → meeting d w room s ≡ bad
-    unfolding meeting metAs instruction
-    met-ninth e f g = rw (ok, instrOf-word w, sym e ∙ f, le-ltb (length (s .chosen)) 8 g)
-    -- a word with an extent in the row: a Success still has to have one word
+  -- a word with an extent in the row: a Success still has to have one word
 
   module _ (some-room : 1 ≤ room) {n : ℕ} (e : n ≡ extentOf w) (some-words : n ≡ 0 → ⊥) (inside : n ≤ room) where
     pub met-sized : {op x : ℕ} → op ≡ w / 2 ^ 60 → x ≡ w / 2 ^ 28 % 2 ^ 32 → meeting d w room s ≡ sized op n (metAs d (instruction op x) s)

@@ -8,7 +8,7 @@ use mathlib.Core.List.{List}
 use native.Mathlib.Omega.{arith}
 use native.Mathlib.Decide.{ℕ-discrete}
 use lib.Dec.{ltb, eqb}
-use lib.ListN.{length, getD, take, drop, set, length-set, length-take, length-drop}
+use lib.ListN.{length, getD, take, drop, length-set, length-take, length-drop}
 use lib.Seq.{getD-set-other, take-all}
 use borrow.Author.Tests.{ne-eqb, ltb-true}
 use Rattle.clause.specs.Clause.{literals, maxLiterals}
@@ -19,15 +19,15 @@ use Rattle.machine.proofs.Safe.{Safe, start-in, step-safe, step-headed, startin
 use Rattle.tree.specs.Laid.{keyOf, extentOf}
 use Rattle.walk.specs.Walk.{Answer, covered, notCovered, spent, broken, Part, andThen, attempt, tries, upTo}
 use Rattle.walk.specs.Words.{extends, walkWords}
-use Rattle.walk.specs.Query.{machine, shown}
-use Rattle.walk.specs.Cells.{placeOf, stateOf, Ready, Met, past, bad, hit, firsts, below, stepped, reached, metAs, meeting, metOf, stores, Marked, plain, store, Visited, unwound, restored, wantedAt, Passed, headAt, startAt, Walked, entered, passesOf, outBy, seen}
+use Rattle.walk.specs.Query.{machine}
+use Rattle.walk.specs.Cells.{placeOf, stateOf, Ready, Met, past, bad, firsts, below, stepped, reached, metAs, meeting, metOf, stores, Marked, plain, store, Visited, unwound, restored, wantedAt, Passed, headAt, startAt, Walked, entered, passesOf}
 use Rattle.walk.specs.declared.Go.{Go}
 use Rattle.walk.specs.declared.Go.the-variants.{Fails, Stuck, Hit, Tries, Below, Stored}
 use Rattle.walk.specs.declared.Visit.{Visit}
 use Rattle.walk.specs.declared.End.the-variants.{Missed}
 use Rattle.walk.specs.declared.Finding.{Finding}
 use Rattle.walk.proofs.Region.{then-nothing, extends-within}
-use Rattle.walk.proofs.Rows.{row-end, extends-some, goingOn, meets}
+use Rattle.walk.proofs.Rows.{row-end, goingOn, meets}
 use Rattle.walk.proofs.Places.{place-none, place-some, waiting, waiting-state, waiting-size, waiting-few, restored-marked, unwound-none, unwound-traced, few-words}
 use Rattle.walk.proofs.Visits.{head-some, chosen-length}
 use Rattle.walk.proofs.Passes.{runs, runs-first, runs-plain, then-on, then-ends, missed-of}

@@ -7,7 +7,6 @@ use Rattle.clause.specs.Clause.{maxLiterals}
 use Rattle.tree.specs.Laid.{maxKept}
 use Rattle.walk.specs.declared.CeilingAnswer.{CeilingAnswer}
 use Rattle.walk.specs.declared.CeilingAnswer.the-variants.{NoCeiling, Ceiling}
-use Rattle.tree.specs.declared.Refusal.{Refusal}
 use Rattle.tree.specs.declared.Refusal.the-variants.{BadSize}
 
 -- q + q² + .. + q^m

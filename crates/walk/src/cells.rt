@@ -21,7 +21,7 @@ pub fn wide(x: u8) -> usize
 pub fn is_none(x: usize) -> bool
     ensures { λ r. ⌜ r ≡ eqb x 255 ⌝ }
 {
-    x == 255
+    x == Path::NONE
 }
 
 // Stores back what a visit stored over, by the lowest 16 bits of a mark.

@@ -33,6 +33,12 @@ impl Path {
 
     // How many cells there are: any byte is the index of one.
     pub const CELLS: usize = 256;
+
+    // What stands for no position.
+    pub const NONE: usize = 255;
+
+    // A trail below this has room for one more mark.
+    pub const TRAIL: u64 = 281474976710656;
 }
 
 // The witness of a query: the literals chosen, then the positions put.

@@ -53,7 +53,7 @@ fn right(
     let siblings = Clause::SIBLINGS + head;
     let end = Clause::ENDS + head;
     if tables[siblings] == 0 {
-        255
+        Path::NONE
     } else {
         wide(tables[end])
     }
@@ -90,7 +90,7 @@ fn sibling(
 fn moved(head: usize, to: usize) -> Visit
     ensures { λ r. ⌜ ((l : List ℕ) → Visited (stepped (given (placeOf to) (headed (stateOf head l)))) l l r) ⌝ }
 {
-    if to == 255 {
+    if to == Path::NONE {
         Visit {
             go: Go::Stuck,
             head: head,
@@ -148,7 +148,7 @@ fn push(cells: &mut [u8; Path::CELLS], head: usize, n: u32, to: usize) -> Visit
             mark: 0,
         };
     }
-    if to == 255 {
+    if to == Path::NONE {
         return Visit {
             go: Go::Stuck,
             head: head,
@@ -282,10 +282,10 @@ fn compare(
     let k_cell = Path::PUTS + k;
     let p = wide(cells[m_cell]);
     let q = wide(cells[k_cell]);
-    if p == 255 {
+    if p == Path::NONE {
         return stuck;
     }
-    if q == 255 {
+    if q == Path::NONE {
         return stuck;
     }
     if same_terms(query, tables, p, q) {
@@ -386,7 +386,7 @@ pub fn meet_top(
 {
     let stuck = Visit {
         go: Go::Stuck,
-        head: 255,
+        head: Path::NONE,
         mark: 0,
     };
     let words = row::extent(w);
@@ -399,5 +399,5 @@ pub fn meet_top(
     if row::operation(w) != 1 {
         return stuck;
     }
-    tries(cells, 255)
+    tries(cells, Path::NONE)
 }

@@ -87,7 +87,7 @@ pub fn walk(
                     rest = &rest[size..];
                     continue;
                 }
-                Go::Tries => 255,
+                Go::Tries => Path::NONE,
                 Go::Below => {
                     if size == rest.len() {
                         here = v.head;
@@ -98,7 +98,7 @@ pub fn walk(
                 }
                 Go::Stored => {
                     if size == rest.len() {
-                        if trail < 281474976710656 {
+                        if trail < Path::TRAIL {
                             trail = trace(trail, v.mark);
                             here = v.head;
                             rest = &rest[1..];
@@ -149,7 +149,15 @@ pub fn walk_top(
             };
         };
         let size = extent(w);
-        let finding = walk(&rest[1..size], query, tables, cells, 255, count, budget);
+        let finding = walk(
+            &rest[1..size],
+            query,
+            tables,
+            cells,
+            Path::NONE,
+            count,
+            budget,
+        );
         let end = finding.end;
         let End::Missed = end else {
             return finding;

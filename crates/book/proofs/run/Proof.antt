@@ -1,7 +1,7 @@
 -- `run` meets its contract: the calls still to come, on the slice as it is, give what all of them give; and the claims are proved.
 use mathlib.Core.Path.{_≡_, refl, sym, ap, _∙_}
 use mathlib.Core.List.{[]}
-use Prim.Native.Nat.{_+_, _-_, _≤_}
+use Prim.Native.Nat.{_-_, _≤_}
 use native.Mathlib.Omega.{arith}
 use lib.ListN.{length, drop, length-drop}
 use Rattle.book.specs.Book.{after}

@@ -1,5 +1,5 @@
 -- `insert_read` meets its contract: the clause's keys are compiled, and their insertion on the words is insertion.
-use mathlib.Core.Path.{_≡_, sym, _∙_}
+use mathlib.Core.Path.{sym, _∙_}
 use Prim.Native.Nat.{ℕ, _^_, _<_}
 use native.Mathlib.Omega.{arith}
 use lib.ListN.{getD}

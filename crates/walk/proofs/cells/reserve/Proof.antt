@@ -1,5 +1,4 @@
 -- `reserve` meets its contract.
-use mathlib.Core.Path.{refl, sym}
 use Prim.Native.Nat.{_+_}
 use native.Mathlib.Omega.{arith}
 use lib.ListN.{getD}

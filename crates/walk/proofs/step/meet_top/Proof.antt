@@ -1,6 +1,6 @@
 -- `meet_top` meets its contract.
 use mathlib.Core.Path.{refl, sym, _∙_}
-use mathlib.Core.Logic.{inl, inr}
+use mathlib.Core.Logic.{inr}
 use native.Mathlib.Omega.{arith}
 use Rattle.walk.specs.Cells.{metOf}
 use Rattle.walk.proofs.Places.{place-none}

@@ -1,12 +1,12 @@
 -- `walk` meets its contract. Along a row the invariant is `Walking`; over the passes: a place for the candidate, and the walk is the passes that are left.
-use mathlib.Core.Path.{_≡_, refl, sym, ap, _∙_}
+use mathlib.Core.Path.{_≡_, sym, ap, _∙_}
 use mathlib.Core.Logic.{_⊎_, inl, inr, ⊎-elim}
 use mathlib.Core.Bool.{Bool, true, false}
 use mathlib.Core.List.{List, [], _∷_}
 use Prim.Native.Nat.{ℕ, _+_, _-_, _≤_, _<_}
 use native.Mathlib.Omega.{arith}
 use types.Run.{miss}
-use lib.ListN.{length, getD, take, drop, length-take, length-drop}
+use lib.ListN.{length, getD, take, length-take, length-drop}
 use lib.Dec.{eqb}
 use borrow.Author.Needs.{needs}
 use borrow.Author.Tests.{eqb-true, eqb-false}
@@ -17,9 +17,9 @@ use Rattle.machine.specs.Machine.{State}
 use Rattle.walk.specs.Walk.{Part, andThen, upTo}
 use Rattle.walk.specs.Words.{walkWords}
 use Rattle.walk.specs.Query.{machine}
-use Rattle.walk.specs.Cells.{stateOf, entered, passesOf, candidate, reserved, released, keptIn, headAt, startAt, Ready}
+use Rattle.walk.specs.Cells.{stateOf, entered, passesOf, candidate, released, keptIn, startAt, Ready}
 use Rattle.walk.specs.declared.End.the-variants.{Missed}
-use Rattle.walk.specs.declared.Go.the-variants.{Tries, Below, Stored}
+use Rattle.walk.specs.declared.Go.the-variants.{Tries}
 use Rattle.walk.proofs.Passes.{runs, runs-whole, runs-end, runs-spent, then-on, then-broken, then-covered, then-found, walked-missed, walked-spent, walked-broken, walked-found, walked-same}
 use Rattle.walk.proofs.Places.{place-some, waiting, waiting-reserve, waiting-next, waiting-release, waiting-size, waiting-few, waiting-state}
 use Rattle.walk.proofs.Visits.{chosen-length}
