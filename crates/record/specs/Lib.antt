@@ -2,4 +2,3 @@ pub mod Text
 pub mod Line
 pub mod Answer
 pub mod Output
-pub mod Feed

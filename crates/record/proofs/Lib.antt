@@ -1,6 +1,0 @@
-pub mod Writing
-pub mod Blocks
-pub mod Whole
-pub mod Steady
-pub mod Keeping
-pub mod Records
