@@ -8,11 +8,13 @@ use lib.Dec.{ltb, eqb}
 use lib.ListN.{length, take, getD, set, replicate}
 use Rattle.tree.specs.Forest.{find}
 use Rattle.tree.specs.Laid.{wellLaid, decode}
+use Rattle.book.specs.Book.{sliceOf}
 use Rattle.record.specs.Text.{Written, written}
 use Rattle.record.specs.Line.{lineOf, totalsLine}
 use Rattle.record.specs.Answer.{treeWords, Answered, answered}
-use Rattle.record.specs.Output.{counted, outputOf}
+use Rattle.record.specs.Output.{counted, zeros, rowsOf, callsOf, outputOf}
 use Rattle.record.specs.Output as output
+use Rattle.record.specs.Sheet.{Sheets, NoStrikeIsWrong}
 use Rattle.record.specs.declared.Outcome.{Outcome}
 use Rattle.record.specs.declared.Outcome.the-variants.{Kept, Struck, Refused}
 use Rattle.record.specs.declared.Totals.{Totals}
@@ -151,7 +153,12 @@ pub record Bounds (len room : ℕ) (before : Totals) (taken next : ℕ) (after :
   pub moves : 45 ≤ room → 0 < len → 0 < taken
   pub records : recordsIn after ≤ recordsIn before + taken
 
--- the claim: whatever the blocks, the text of all of them and the last line are the output for the whole input
+-- the claims about every input
 pub record WholeInput : Type 0 where
+  -- whatever the blocks, the text of all of them and the last line are the output for the whole input, and the slice is that of its calls
   pub blocks : (s : Session) (m : Store) (a b : List ℕ) → feed s m (a ++ b) ≡ andThen (feed s m a) (λ s′ m′. feed s′ m′ b)
   pub prints : (input : List ℕ) → feed opening opened input .text ++ totalsLine (feed opening opened input .session .totals) ≡ outputOf input
+  pub leaves : (input : List ℕ) → feed opening opened input .store .slice ≡ sliceOf zeros (callsOf (rowsOf input))
+  -- what becomes of each record, by the clauses that are kept before it; and in one sentence
+  pub sheets : Sheets
+  pub strikes : NoStrikeIsWrong
