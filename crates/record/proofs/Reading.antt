@@ -4,7 +4,6 @@ use mathlib.Core.Bool.{Bool, true, false}
 use mathlib.Core.List.{List, [], _∷_, _++_, append-assoc}
 use Prim.Native.Nat.{ℕ, zero, suc, _+_, _*_, _≤_, _<_}
 use native.Mathlib.Omega.{arith}
-use lib.Dec.{leb}
 use lib.ListN.{length, take, drop, length-append, length-drop, take-append-drop}
 use lib.Seq.{length-take-le}
 use borrow.Author.Tests.{leb-true, leb-false}
@@ -12,7 +11,7 @@ use Rattle.clause.specs.Lists.{All, none, also}
 use Rattle.clause.specs.Word.{Words}
 use Rattle.book.specs.Book.{insert, Fit}
 use Rattle.record.specs.Answer.{Record}
-use Rattle.record.specs.Output.{fields, recordsFor, recordsOf}
+use Rattle.record.specs.Output.{fields, allThere, recordsFor, recordsOf}
 use Rattle.record.specs.Sheet.{Bytes, fieldsOf, allFields, Complete}
 use Rattle.clause.proofs.Lists.{all-take}
 
@@ -46,9 +45,9 @@ complete-from zero [] h = record { rest = []; whole = refl; cut = λ x ys e. sho
 complete-from zero (n ∷ fs) h = absurd (omega arith)
 complete-from (suc f) [] h = record { rest = []; whole = refl; cut = λ x ys e. short x ys [] (omega arith) e }
 complete-from (suc f) (n ∷ []) h = record { rest = n ∷ []; whole = refl; cut = λ x ys e. short x ys (n ∷ []) (omega arith) e }
-complete-from (suc f) (n ∷ count ∷ ws) h = go (leb count (length ws)) refl (complete-from f (drop count ws) (simp length-drop (omega arith)))
+complete-from (suc f) (n ∷ count ∷ ws) h = go (allThere count ws) refl (complete-from f (drop count ws) (simp length-drop (omega arith)))
   where
-    go : (b : Bool) → leb count (length ws) ≡ b → Complete (recordsFor f (drop count ws)) (drop count ws)
+    go : (b : Bool) → allThere count ws ≡ b → Complete (recordsFor f (drop count ws)) (drop count ws)
         → Complete (elim b as (λ y. List Record) [ true ↦ record { number = n; words = take count ws } ∷ recordsFor f (drop count ws) | false ↦ [] ]) (n ∷ count ∷ ws)
     go true e c = whole-first n count ws (recordsFor f (drop count ws)) (leb-true count (length ws) e) c
     go false e c = record { rest = n ∷ count ∷ ws; whole = refl; cut = missing n count ws (leb-false count (length ws) e) }
@@ -78,7 +77,7 @@ unfolding recordsFor
 records-fit zero fs h = none
 records-fit (suc f) [] h = none
 records-fit (suc f) (n ∷ []) h = none
-records-fit (suc f) (n ∷ count ∷ ws) (also p (also q r)) = go (leb count (length ws)) (records-fit f (drop count ws) (words-drop count ws r))
+records-fit (suc f) (n ∷ count ∷ ws) (also p (also q r)) = go (allThere count ws) (records-fit f (drop count ws) (words-drop count ws r))
   where
     go : (b : Bool) → All FitRecord (recordsFor f (drop count ws))
         → All FitRecord (elim b as (λ y. List Record) [ true ↦ record { number = n; words = take count ws } ∷ recordsFor f (drop count ws) | false ↦ [] ])

@@ -1,6 +1,6 @@
 -- What the program prints for an input.
 use mathlib.Core.List.{List, [], _∷_, _++_}
-use mathlib.Core.Bool.{true, false}
+use mathlib.Core.Bool.{Bool, true, false}
 use Prim.Native.Nat.{ℕ, zero, suc, _+_, _*_}
 use lib.Dec.{leb}
 use lib.ListN.{length, take, drop, replicate}
@@ -19,13 +19,17 @@ fields [] = []
 fields (a ∷ []) = []
 fields (a ∷ b ∷ bs) = (a * 256 + b) ∷ fields bs
 
+-- the words of a record are all there
+abbrev pub allThere : (count : ℕ) (words : List ℕ) → Bool
+allThere count ws = leb count (length ws)
+
 -- the records of some fields: number, word count, words; a cut record is none. The fuel is at least the number of fields, and does not matter then
 unfoldable pub recordsFor : (fuel : ℕ) → List ℕ → List Record
 recordsFor zero fs = []
 recordsFor (suc f) [] = []
 recordsFor (suc f) (n ∷ []) = []
 recordsFor (suc f) (n ∷ count ∷ ws) =
-    elim (leb count (length ws)) [ true ↦ record { number = n; words = take count ws } ∷ recordsFor f (drop count ws) | false ↦ [] ]
+    elim (allThere count ws) [ true ↦ record { number = n; words = take count ws } ∷ recordsFor f (drop count ws) | false ↦ [] ]
 
 -- the records of an input, whatever their word counts
 unfoldable pub recordsOf : (input : List ℕ) → List Record

@@ -76,10 +76,11 @@ pub data Reason (K : List Pair) (x : Record) : (code : ℕ) → Type 0 where
   -- 12: the walk would take more candidates than the budget
   over-budget : Accepted (x .words) → budget < candidates (treeOf K) (x .words) → Reason K x 12
 
--- kept, and struck, in one word
+-- a record is kept
 abbrev pub IsKept : Outcome → Type 0
 IsKept o = (u : ℕ) × (o ≡ Kept u)
 
+-- a record is struck
 abbrev pub IsStruck : Outcome → Type 0
 IsStruck o = (n : ℕ) × (k : ℕ) × (o ≡ Struck n k)
 

@@ -27,12 +27,13 @@ Bytes = All (λ b. b < 256)
 unfoldable pub bookAfter : List Row → List Pair
 bookAfter rs = bookOf treeWords (callsOf rs)
 
--- the pairs of those with a `kept` line, the last one first
+-- the pair of a record, if it is kept
 abbrev pub keptOn : Outcome → Record → List Pair
 keptOn (Kept used) x = pairOf x ∷ []
 keptOn (Struck n k) x = []
 keptOn (Refused code) x = []
 
+-- the pairs of those with a `kept` line, the last one first
 abbrev pub keptOf : List Row → List Pair
 keptOf [] = []
 keptOf (r ∷ rs) = keptOf rs ++ keptOn (r .outcome) (r .of)
@@ -80,7 +81,7 @@ pub record Complete (xs : List Record) (fs : List ℕ) : Type 0 where
   pub whole : fs ≡ allFields xs ++ rest
   pub cut : (x : Record) (ys : List ℕ) → rest ≡ fieldsOf x ++ ys → ⊥
 
--- no strike is wrong: the last book covers what was kept or struck, and it is what the `kept` lines say
+-- the last book covers what was kept or struck, and it is what the `kept` lines say
 pub record Covers (input : List ℕ) : Type 0 where
   -- every record that was kept or struck is subsumed by a clause of the last book
   pub covered : (r : Row) → List·Memᴰ r (rowsOf input) → IsKept (r .outcome) ⊎ IsStruck (r .outcome)
@@ -102,9 +103,10 @@ pub record Sheet (input : List ℕ) : Type 0 where
   pub stands : Stands (rowsOf input)
   pub covers : Covers input
 
--- the claims
+-- the claim
 abbrev pub Sheets : Type 0
 Sheets = (input : List ℕ) → Bytes input → Sheet input
 
+-- and its last part by itself: every record that was kept or struck is subsumed by a clause of the last book, whose pairs are the `kept` lines
 abbrev pub NoStrikeIsWrong : Type 0
 NoStrikeIsWrong = (input : List ℕ) → Bytes input → Covers input
