@@ -28,8 +28,8 @@ use Rattle.walk.specs.Query.{witnessWords, query}
 use Rattle.record.specs.Line.{lineOf, totalsLine}
 use Rattle.record.specs.Answer.{treeWords, budget, Record, Answered, answeredAs, answered}
 use Rattle.record.specs.Output.{fields, recordsFor, recordsOf, State, Printed, counted, step, run, none, start, outputOf}
-use Rattle.feeding.specs.Feed.{Store, Fed, finishing, finished, storing, marked, takeField, andThen, feed, opened, WholeInput}
-use Rattle.feeding.proofs.Blocks.{at-count, at-empty, at-word, feed-append}
+use Rattle.feeding.specs.Feed.{Store, Fed, finishing, finished, marked, takeField, andThen, feed, opened, WholeInput}
+use Rattle.feeding.proofs.Blocks.{storing, at-count, at-empty, at-word, feed-append}
 use Rattle.feeding.proofs.Whole.{feedFields, even-after, filling, collect}
 use Rattle.record.specs.declared.Outcome.the-variants.{Kept}
 use Rattle.record.specs.declared.Totals.{Totals}
