@@ -25,10 +25,13 @@ use Rattle.tree.proofs.Words.{length-layout}
 use Rattle.walk.specs.declared.QueryAnswer.{QueryAnswer}
 use Rattle.walk.specs.declared.QueryAnswer.the-variants.{Unanswered, Covered, NotCovered}
 use Rattle.walk.specs.Query.{witnessWords, query}
+use Rattle.book.specs.Book.{after}
 use Rattle.record.specs.Line.{lineOf, totalsLine}
 use Rattle.record.specs.Answer.{treeWords, budget, Record, Answered, answeredAs, answered}
-use Rattle.record.specs.Output.{fields, recordsFor, recordsOf, State, Printed, counted, step, run, none, start, outputOf}
-use Rattle.feeding.specs.Feed.{Store, Fed, finishing, finished, marked, takeField, andThen, feed, opened, WholeInput}
+use Rattle.record.specs.Output.{fields, recordsFor, recordsOf, rowOn, rowsFrom, zeros, rowsOf, callsOf, linesOf, counted, totalsWith, none, outputOf}
+use Rattle.feeding.specs.Feed.{Store, Fed, finishing, finished, marked, takeField, andThen, feed, opening, opened, WholeInput}
+use Rattle.record.proofs.Rows.{slice-more}
+use Rattle.record.proofs.Sheets.{slice-from, sheets, no-strike-is-wrong}
 use Rattle.feeding.proofs.Blocks.{storing, at-count, at-empty, at-word, feed-append}
 use Rattle.feeding.proofs.Whole.{feedFields, even-after, filling, collect}
 use Rattle.record.specs.declared.Outcome.the-variants.{Kept}
@@ -40,13 +43,14 @@ use Rattle.feeding.specs.declared.Session.{Session}
 
 -- ---- field by field
 
--- what is printed: the text, and the totals after it
+-- what is printed: the text, and the totals and the slice after it
 record Prints : Type 0 where
   text : List ℕ
   totals : Totals
+  slice : List ℕ
 
 abbrev shows : Fed → Prints
-shows f = record { text = f .text; totals = f .session .totals }
+shows f = record { text = f .text; totals = f .session .totals; slice = f .store .slice }
 
 -- the bytes of whole fields; a last single byte prints nothing
 by-fields : (bs : List ℕ) (g : Stage) (t : Totals) (m : Store)
@@ -56,14 +60,14 @@ by-fields [] g t m = refl
 by-fields (a ∷ []) g t m = refl
 by-fields (a ∷ b ∷ bs) g t m =
     let f : Fed = takeField g t m (a * 256 + b) in
-    ap (λ (p : Prints). record { text = f .text ++ p .text; totals = p .totals })
+    ap (λ (p : Prints). record { text = f .text ++ p .text; totals = p .totals; slice = p .slice })
     (ap (λ (s : Session). shows (feed s (f .store) bs)) (even-after g t m (a * 256 + b)) ∙ by-fields bs (f .session .stage) (f .session .totals) (f .store))
 
 -- ---- the words of a record, one after another
 
 -- the words of a record that are not all there
 cut : (ws : List ℕ) (n count i : ℕ) (t : Totals) (m : Store) → i + length ws < count
-    → shows (feedFields (AtWord n count i) t m ws) ≡ record { text = []; totals = t }
+    → shows (feedFields (AtWord n count i) t m ws) ≡ record { text = []; totals = t; slice = m .slice }
 unfolding feedFields
 cut [] n count i t m h = refl
 cut (w ∷ ws) n count i t m h = rw (at-word t m w n count i refl (omega arith)) (cut ws n count (i + 1) t (storing m i w) (omega arith))
@@ -131,25 +135,25 @@ answered-length T x = go (query T (x .words) budget (replicate witnessWords 0) .
 
 -- ---- record by record
 
-abbrev printed : Printed → Prints
-printed p = record { text = p .text; totals = p .state .totals }
-
-abbrev stateOf : Totals → Store → State
-stateOf t m = record { slice = m .slice; totals = t }
+-- what some records print, asked on a slice
+abbrev told : Totals → (slice : List ℕ) → List Record → Prints
+told t T xs = let rs = rowsFrom T xs in record { text = linesOf rs; totals = totalsWith t rs; slice = after T (callsOf rs) }
 
 -- a whole record, and then the others
 one-record : (n count : ℕ) (ws : List ℕ) (t : Totals) (m : Store) (xs : List Record) (fs : List ℕ)
     → length (m .words) ≡ 64 → length (m .slice) ≡ treeWords → count ≤ length ws → (count ≤ 64 → take count (m .words) ≡ take count ws)
-    → ((u : Totals) (m′ : Store) → length (m′ .words) ≡ 64 → length (m′ .slice) ≡ treeWords → shows (feedFields AtNumber u m′ fs) ≡ printed (run (stateOf u m′) xs))
+    → ((u : Totals) (m′ : Store) → length (m′ .words) ≡ 64 → length (m′ .slice) ≡ treeWords → shows (feedFields AtNumber u m′ fs) ≡ told u (m′ .slice) xs)
     → shows (andThen (finished n count t m) (λ s m′. feedFields (s .stage) (s .totals) m′ fs))
-    ≡ printed (run (stateOf t m) (record { number = n; words = take count ws } ∷ xs))
-unfolding finished step
+    ≡ told t (m .slice) (record { number = n; words = take count ws } ∷ xs)
+unfolding finished rowsFrom rowOn
 one-record n count ws t m xs fs w s h same rest =
     let x : Record = record { number = n; words = take count ws } in
     let a : Answered = answered (m .slice) x in
     rw (finishing-is n count (m .words) (m .slice) ws s h same)
-    (ap (λ (p : Prints). record { text = lineOf n (a .outcome) ++ p .text; totals = p .totals })
-    (rest (counted (a .outcome) t) (record { words = m .words; slice = a .slice; marks = marked (a .outcome) n (m .marks) }) w (answered-length (m .slice) x ∙ s)))
+    (ap (λ (p : Prints). record { text = lineOf n (a .outcome) ++ p .text; totals = p .totals; slice = p .slice })
+    (rest (counted (a .outcome) t) (record { words = m .words; slice = a .slice; marks = marked (a .outcome) n (m .marks) }) w (answered-length (m .slice) x ∙ s))
+    ∙ ap (λ (T : List ℕ). record { text = told t (m .slice) (x ∷ xs) .text; totals = told t (m .slice) (x ∷ xs) .totals; slice = T })
+    (sym (slice-more (m .slice) x (callsOf (rowsFrom (a .slice) xs)))))
 
 -- the words that were stored are those of the record
 stored : (count : ℕ) (words ws : List ℕ) → length words ≡ 64 → count ≤ length ws → count ≤ 64 → take count (sets words 0 (take count ws)) ≡ take count ws
@@ -171,31 +175,32 @@ from-missing f n count ws k =
 
 -- what the rest of the fields prints
 abbrev Rest : (f : ℕ) (fs : List ℕ) → Type 0
-Rest f fs = (u : Totals) (m : Store) → length (m .words) ≡ 64 → length (m .slice) ≡ treeWords → shows (feedFields AtNumber u m fs) ≡ printed (run (stateOf u m) (recordsFor f fs))
+Rest f fs = (u : Totals) (m : Store) → length (m .words) ≡ 64 → length (m .slice) ≡ treeWords → shows (feedFields AtNumber u m fs) ≡ told u (m .slice) (recordsFor f fs)
 
 next-record : (f n count : ℕ) (ws : List ℕ) (t : Totals) (m : Store) → length (m .words) ≡ 64 → length (m .slice) ≡ treeWords → Rest f (drop count ws)
-    → shows (andThen (takeField (AtCount n) t m count) (λ s m′. feedFields (s .stage) (s .totals) m′ ws)) ≡ printed (run (stateOf t m) (recordsFrom f n count ws))
+    → shows (andThen (takeField (AtCount n) t m count) (λ s m′. feedFields (s .stage) (s .totals) m′ ws)) ≡ told t (m .slice) (recordsFrom f n count ws)
+unfolding rowsFrom
 next-record f n zero ws t m w s rest =
     ap (λ (x : Fed). shows (andThen x (λ s m′. feedFields (s .stage) (s .totals) m′ ws))) (at-empty t m 0 n refl (omega arith))
     ∙ one-record n 0 ws t m (recordsFor f ws) ws w s (omega arith) (λ h. refl) rest
-    ∙ ap (λ (xs : List Record). printed (run (stateOf t m) xs)) (sym (from-there f n 0 ws (omega arith)))
+    ∙ ap (λ (xs : List Record). told t (m .slice) xs) (sym (from-there f n 0 ws (omega arith)))
 next-record f n (suc k) ws t m w s rest =
     ap (λ (x : Fed). shows (andThen x (λ s m′. feedFields (s .stage) (s .totals) m′ ws))) (at-count t m (suc k) n refl (omega arith))
     ∙ go (decLe (suc k) (length ws))
   where
-    go : Dec (suc k ≤ length ws) → shows (feedFields (AtWord n (suc k) 0) t m ws) ≡ printed (run (stateOf t m) (recordsFrom f n (suc k) ws))
+    go : Dec (suc k ≤ length ws) → shows (feedFields (AtWord n (suc k) 0) t m ws) ≡ told t (m .slice) (recordsFrom f n (suc k) ws)
     go (yes h) =
         let e : suc k - 0 ≡ suc k = omega arith in
         ap shows (collect ws n (suc k) 0 t m (omega arith) (omega arith))
         ∙ ap (λ (i : ℕ). shows (andThen (finished n (suc k) t (filling m 0 (take i ws))) (λ s′ m′. feedFields (s′ .stage) (s′ .totals) m′ (drop i ws)))) e
         ∙ one-record n (suc k) ws t (filling m 0 (take (suc k) ws)) (recordsFor f (drop (suc k) ws)) (drop (suc k) ws) (length-sets (m .words) 0 (take (suc k) ws) ∙ w) s h (stored (suc k) (m .words) ws w h) rest
-        ∙ ap (λ (xs : List Record). printed (run (stateOf t m) xs)) (sym (from-there f n (suc k) ws h))
+        ∙ ap (λ (xs : List Record). told t (m .slice) xs) (sym (from-there f n (suc k) ws h))
     go (no h) =
-        cut ws n (suc k) 0 t m (omega arith) ∙ ap (λ (xs : List Record). printed (run (stateOf t m) xs)) (sym (from-missing f n (suc k) ws (omega arith)))
+        cut ws n (suc k) 0 t m (omega arith) ∙ ap (λ (xs : List Record). told t (m .slice) xs) (sym (from-missing f n (suc k) ws (omega arith)))
 
 by-records : (f : ℕ) (fs : List ℕ) (t : Totals) (m : Store) → length fs ≤ f → length (m .words) ≡ 64 → length (m .slice) ≡ treeWords
-    → shows (feedFields AtNumber t m fs) ≡ printed (run (stateOf t m) (recordsFor f fs))
-unfolding feedFields recordsFor takeField
+    → shows (feedFields AtNumber t m fs) ≡ told t (m .slice) (recordsFor f fs)
+unfolding feedFields recordsFor takeField rowsFrom
 by-records zero [] t m h w s = refl
 by-records zero (n ∷ fs) t m h w s = absurd (omega arith)
 by-records (suc f) [] t m h w s = refl
@@ -205,12 +210,20 @@ by-records (suc f) (n ∷ count ∷ ws) t m h w s =
 
 -- ---- the whole input
 
+-- what is printed, and the slice, are those of the rows
+whole : (input : List ℕ) → shows (feed opening opened input) ≡ told none zeros (recordsOf input)
+unfolding opened recordsOf
+whole input =
+    by-fields input AtNumber none opened
+    ∙ by-records (length (fields input)) (fields input) none opened (omega arith) (length-replicate {A = ℕ} 64 0) (length-replicate {A = ℕ} treeWords 0)
+
 pub whole-input : WholeInput
-unfolding opened start recordsOf outputOf
+unfolding outputOf rowsOf
 whole-input =
     record {
       blocks = λ s m a b. feed-append a b s m;
-      prints = λ input.
-          ap (λ (p : Prints). p .text ++ totalsLine (p .totals))
-          (by-fields input AtNumber none opened ∙ by-records (length (fields input)) (fields input) none opened (omega arith) (length-replicate {A = ℕ} 64 0) (length-replicate {A = ℕ} treeWords 0));
+      prints = λ input. ap (λ (p : Prints). p .text ++ totalsLine (p .totals)) (whole input);
+      leaves = λ input. ap (λ (p : Prints). p .slice) (whole input) ∙ sym (slice-from (callsOf (rowsOf input)));
+      sheets = sheets;
+      strikes = no-strike-is-wrong;
     }

@@ -9,11 +9,13 @@ use lib.ListN.{length, take, getD, set, replicate}
 use Rattle.clause.specs.Clause.{maxWords}
 use Rattle.tree.specs.Forest.{find}
 use Rattle.tree.specs.Laid.{wellLaid, decode}
+use Rattle.book.specs.Book.{sliceOf}
 use Rattle.record.specs.Text.{Written, written}
 use Rattle.record.specs.Line.{longestLine, lineOf, totalsLine}
 use Rattle.record.specs.Answer.{treeWords, Answered, answered}
-use Rattle.record.specs.Output.{counted, outputOf}
+use Rattle.record.specs.Output.{counted, zeros, rowsOf, callsOf, outputOf}
 use Rattle.record.specs.Output as output
+use Rattle.record.specs.Sheet.{Sheets, NoStrikeIsWrong}
 use Rattle.record.specs.declared.Outcome.{Outcome}
 use Rattle.record.specs.declared.Outcome.the-variants.{Kept, Struck, Refused}
 use Rattle.record.specs.declared.Totals.{Totals}
@@ -167,7 +169,12 @@ pub record WholeRecord (session : Session) (input : List ℕ) (count : ℕ) : Ty
   pub inside : 4 + count * 2 ≤ length input
   pub counts : count ≡ getD input 2 0 * 256 + getD input 3 0
 
--- the claim: whatever the blocks, the text of all of them and the last line are the output for the whole input
+-- the claims about every input
 pub record WholeInput : Type 0 where
+  -- whatever the blocks, the text of all of them and the last line are the output for the whole input, and the slice is that of its calls
   pub blocks : (s : Session) (m : Store) (a b : List ℕ) → feed s m (a ++ b) ≡ andThen (feed s m a) (λ s′ m′. feed s′ m′ b)
   pub prints : (input : List ℕ) → feed opening opened input .text ++ totalsLine (feed opening opened input .session .totals) ≡ outputOf input
+  pub leaves : (input : List ℕ) → feed opening opened input .store .slice ≡ sliceOf zeros (callsOf (rowsOf input))
+  -- what becomes of each record, by the clauses that are kept before it; and in one sentence
+  pub sheets : Sheets
+  pub strikes : NoStrikeIsWrong

@@ -1,0 +1,4 @@
+pub mod Reading
+pub mod Ruling
+pub mod Rows
+pub mod Sheets
