@@ -3,6 +3,7 @@ use record::Totals;
 
 mod answering;
 mod feeding;
+mod reading;
 
 pub use feeding::begin;
 pub use feeding::feed;
@@ -27,15 +28,26 @@ pub struct Session {
     pub totals: Totals,
 }
 
+// A whole record's number and word count.
+pub struct Head {
+    pub number: u16,
+    pub count: u16,
+}
+
+// What some more of the input leads to: the reading goes on, or a record is whole.
+pub enum Next {
+    Reads(Half, Stage),
+    Ends(Head),
+}
+
+// Some more of the input: how many bytes were taken, and what they lead to.
+pub struct Step {
+    pub taken: usize,
+    pub next: Next,
+}
+
 // A session after some more of the input, and the place in the output after what was printed.
 pub struct Turn {
     pub session: Session,
-    pub next: usize,
-}
-
-// A session after a block: how many bytes of it were taken, and the place in the output after what was printed.
-pub struct Progress {
-    pub session: Session,
-    pub taken: usize,
     pub next: usize,
 }
