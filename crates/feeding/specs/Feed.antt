@@ -28,6 +28,10 @@ use Rattle.feeding.specs.declared.Next.{Next}
 use Rattle.feeding.specs.declared.Next.the-variants.{Reads, Ends}
 use Rattle.feeding.specs.declared.Step.{Step}
 
+-- how many numbers a record can have: 16 bits
+abbrev pub numberCount : ℕ
+numberCount = 65_536
+
 -- the lent words: those of the record that is being read, the tree's slice, and a byte for each number, 1 if it is taken
 pub record Store : Type 0 where
   pub words : List ℕ
@@ -112,7 +116,7 @@ opening = record { half = Even; stage = AtNumber; totals = output.none }
 
 -- the lent words before the first byte: all zeros
 unfoldable pub opened : Store
-opened = record { words = replicate maxWords 0; slice = replicate treeWords 0; marks = replicate 65_536 0 }
+opened = record { words = replicate maxWords 0; slice = replicate treeWords 0; marks = replicate numberCount 0 }
 
 -- what was fed, with its text put into the output from a place on
 pub record Placed : Type 0 where
@@ -128,9 +132,9 @@ placedAt f o at = record { session = f .session; store = f .store; written = wri
 pub record Steady (slice marks : List ℕ) : Type 0 where
   pub sized : length slice ≡ treeWords
   pub laid : wellLaid slice ≡ true
-  pub numbers : length marks ≡ 65_536
-  pub free : (n : ℕ) → n < 65_536 → getD marks n 0 ≡ 0 → find n (decode slice) ≡ none
-  pub taken : (n : ℕ) → n < 65_536 → find n (decode slice) ≡ none → getD marks n 0 ≡ 0
+  pub numbers : length marks ≡ numberCount
+  pub free : (n : ℕ) → n < numberCount → getD marks n 0 ≡ 0 → find n (decode slice) ≡ none
+  pub taken : (n : ℕ) → n < numberCount → find n (decode slice) ≡ none → getD marks n 0 ≡ 0
 
 -- a record came out as it should: the outcome and the slice, the marks, and what holds from record to record
 pub record Answers (expected : Answered) (number : ℕ) (before : List ℕ) (outcome : Outcome) (slice marks : List ℕ) : Type 0 where

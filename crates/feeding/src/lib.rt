@@ -8,6 +8,16 @@ mod reading;
 pub use feeding::begin;
 pub use feeding::feed;
 
+// The words that a run lends, beside those of a clause.
+pub struct Lent {}
+
+impl Lent {
+    // The words of the tree's slice.
+    pub const TREE: usize = 8192;
+    // The marks: a byte for each number that a record can have.
+    pub const MARKS: usize = 65536;
+}
+
 // Whether the next byte is the first of a field, or the second, with the first.
 pub enum Half {
     Even,

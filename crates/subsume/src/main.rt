@@ -1,6 +1,7 @@
 // The program: it reads records from standard input, and writes what becomes of them to standard output (document 01, "The program").
 // Every line is made by `feeding::feed`; here is only what moves the bytes.
 use clause::Clause;
+use feeding::Lent;
 use feeding::Session;
 use feeding::begin;
 use feeding::feed;
@@ -89,7 +90,11 @@ fn feed_block(
     output: &mut [u8],
 ) -> Fed
     requires { ⌜ Ready (storeOf (now words) (now tree) (now marks)) (session .totals) (length (now block)) 0 (now output) ⌝ }
-    ensures fed { λ r. ⌜ record { session = r .session; store = storeOf (now (words .exit)) (now (tree .exit)) (now (marks .exit)); text = take (r .next) (now (output .exit)) }
+    ensures fed { λ r. ⌜ record {
+      session = r .session;
+      store = storeOf (now (words .exit)) (now (tree .exit)) (now (marks .exit));
+      text = take (r .next) (now (output .exit));
+    }
         ≡ Feed·feed session (storeOf (now (words .entry)) (now (tree .entry)) (now (marks .entry))) (now (block .entry)) ⌝ }
     ensures steady { λ _. ⌜ Steady (now (tree .exit)) (now (marks .exit)) ⌝ }
 {
@@ -166,8 +171,8 @@ fn run(
 
 fn main() {
     let mut input = [0u8; Limit::BLOCK];
-    let mut tree = [0u64; 8192];
-    let mut marks = [0u8; 65536];
+    let mut tree = [0u64; Lent::TREE];
+    let mut marks = [0u8; Lent::MARKS];
     let mut words = [0u16; Clause::WORDS];
     let mut output = [0u8; Limit::BLOCK * Longest::LINE];
     run(&mut input, &mut tree, &mut marks, &mut words, &mut output);
