@@ -9,24 +9,16 @@ use native.Mathlib.Numerals.{add-one}
 use lib.Dec.{ltb, eqb}
 use lib.ListN.{length, take, drop, getD, set, drop-of-length-le}
 use lib.Seq.{sets, take-all, take-take, drop-cons, length-take-le}
-use borrow.Author.Tests.{le-ltb}
-use Rattle.record.specs.Text.{Written, written}
-use Rattle.record.specs.Line.{lineOf}
-use Rattle.record.specs.Answer.{answered}
-use Rattle.record.specs.Output.{fields, counted}
-use Rattle.feeding.specs.Feed.{Store, Fed, storeOf, finishing, finished, proceeding, takeField, andThen, feed, WholeRecord, Stepped}
-use Rattle.feeding.proofs.Blocks.{going, storing, at-count, at-empty, at-word, at-last}
-use Rattle.record.specs.declared.Outcome.{Outcome}
+use Rattle.record.specs.Output.{fields}
+use Rattle.feeding.specs.Feed.{Store, Fed, storeOf, finished, proceeding, takeField, andThen, feed, WholeRecord, Stepped}
+use Rattle.feeding.proofs.Blocks.{storing, at-count, at-empty, at-word, at-last}
 use Rattle.record.specs.declared.Totals.{Totals}
 use Rattle.feeding.specs.declared.Half.{Half}
 use Rattle.feeding.specs.declared.Half.the-variants.{Even}
 use Rattle.feeding.specs.declared.Stage.{Stage}
 use Rattle.feeding.specs.declared.Stage.the-variants.{AtNumber, AtCount, AtWord}
 use Rattle.feeding.specs.declared.Session.{Session}
-use Rattle.feeding.specs.declared.Head.{Head}
-use Rattle.feeding.specs.declared.Next.{Next}
 use Rattle.feeding.specs.declared.Next.the-variants.{Reads, Ends}
-use Rattle.feeding.specs.declared.Step.{Step}
 
 -- ---- field by field
 
