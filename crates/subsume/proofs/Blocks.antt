@@ -1,5 +1,5 @@
 -- Block after block: what was fed so far.
-use mathlib.Core.Path.{_≡_, refl, ap, ap₂, sym, _∙_}
+use mathlib.Core.Path.{_≡_, ap, ap₂, sym, _∙_}
 use mathlib.Core.List.{List, [], _++_}
 use Prim.Native.Nat.{ℕ, _+_, _*_, _≤_, _<_}
 use native.Mathlib.Omega.{arith}
@@ -8,11 +8,11 @@ use Rattle.clause.specs.Clause.{maxWords}
 use Rattle.record.specs.Text.{Written, written}
 use Rattle.record.specs.Line.{longestLine, longestLast, totalsLine}
 use Rattle.lines.proofs.Writing.{text-there}
-use Rattle.feeding.specs.Feed.{Store, Fed, andThen, feed, opening, opened, Steady, recordsIn, Ready}
+use Rattle.feeding.specs.Feed.{Store, Fed, feed, opening, opened, Steady, recordsIn, Ready}
 use Rattle.feeding.specs.declared.Session.{Session}
 use Rattle.feeding.proofs.Blocks.{feed-append, feed-records}
 use Rattle.feeding.proofs.Steady.{steady-fresh}
-use Rattle.subsume.specs.Run.{blockBytes, mostBlocks, Buffers, Stands, LastLine}
+use Rattle.subsume.specs.Run.{blockBytes, mostBlocks, Stands, LastLine}
 
 -- where the run is before a block: what was fed, what holds from record to record, and the blocks that may still come
 pub record Running (session : Session) (store : Store) (blocks : ℕ) : Type 0 where

@@ -14,7 +14,7 @@ ghost use Prim.Native.Nat.{_≤_, _<_};
 ghost use lib.ListN.{length, take};
 ghost use Rattle.feeding.specs.Feed.{storeOf, Steady, Ready, opened};
 ghost use Rattle.feeding.specs.Feed.{feed as Feed·feed};
-ghost use Rattle.subsume.specs.Run.{blockBytes, mostBlocks, Buffers, Stands, LastLine};
+ghost use Rattle.subsume.specs.Run.{Buffers, Stands, LastLine};
 
 // The limits of a run.
 struct Limit {}

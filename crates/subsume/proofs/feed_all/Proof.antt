@@ -1,21 +1,12 @@
 -- The blocks so far are fed, and their lines handed on.
-use lib.ListN.{length-take}
-use Prim.Native.Nat.{_≤_}
-use Rattle.subsume.proofs.Blocks.{Running, running-none, block-ready, running-more}
-use Rattle.subsume.specs.Run.{Buffers}
-use Rattle.feeding.specs.Feed.{storeOf}
-use lib.Seq.{length-take-le}
-use lib.ListN.{length}
-use native.Mathlib.Omega.{arith}
 use mathlib.Core.Path.{_≡_, refl, sym, _∙_}
+use native.Mathlib.Omega.{arith}
+use lib.ListN.{length, length-take}
+use lib.Seq.{length-take-le}
+use Rattle.feeding.specs.Feed.{storeOf}
+use Rattle.subsume.proofs.Blocks.{Running, running-none, block-ready, running-more}
 use Rattle.subsume.proofs.feed_all.Statement.{statement}
 use Rattle.subsume.proofs.feed_all.Tie as tie
-use Rattle.subsume.proofs.feed_all.Reads as reads
-use Rattle.subsume.proofs.feed_all.Lts as lts
-use Rattle.feeding.proofs.begin.Reads as begin-reads
-use Rattle.subsume.proofs.feed_block.Reads as feed-block-reads
-use Rattle.subsume.proofs.left_after.Reads as left-after-reads
-use Rattle.subsume.proofs.read_block.Reads as read-block-reads
 
 abbrev Inv-loop : tie.InvT-loop
 Inv-loop input₀ tree₀ marks₀ words₀ output₀ here₀ blocks₀ input tree marks words output here blocks =

@@ -1,15 +1,11 @@
 -- The block is fed, and its text handed on.
-use Rattle.feeding.proofs.Blocks.{text-of}
-use lib.Seq.{length-take-le}
-use native.Mathlib.Omega.{arith}
 use mathlib.Core.Path.{sym}
+use native.Mathlib.Omega.{arith}
+use lib.Seq.{length-take-le}
+use Rattle.feeding.proofs.Blocks.{text-of}
 use borrow.Author.Needs.{needs}
 use Rattle.subsume.proofs.feed_block.Statement.{statement}
 use Rattle.subsume.proofs.feed_block.Tie as tie
-use Rattle.subsume.proofs.feed_block.Reads as reads
-use Rattle.subsume.proofs.feed_block.Lts as lts
-use Rattle.feeding.proofs.feed.Reads as feed-reads
-use Rattle.subsume.proofs.write_text.Reads as write-text-reads
 
 feed-requires : tie.Need-feed-requires
 feed-requires c κs = search needs

@@ -1,16 +1,12 @@
 -- The buffers, all zeros: what is opened.
-use Rattle.subsume.proofs.Blocks.{room-in, enough}
-use Rattle.feeding.specs.Feed.{opened}
 use mathlib.Core.Path.{refl, sym}
 use Prim.Native.Nat.{ℕ}
-use native.Mathlib.Omega.{arith}
 use lib.ListN.{length-replicate}
+use Rattle.feeding.specs.Feed.{opened}
+use Rattle.subsume.proofs.Blocks.{room-in, enough}
 use borrow.Author.Needs.{needs}
 use Rattle.subsume.proofs.main.Statement.{statement}
 use Rattle.subsume.proofs.main.Tie as tie
-use Rattle.subsume.proofs.main.Reads as reads
-use Rattle.subsume.proofs.main.Lts as lts
-use Rattle.subsume.proofs.run.Reads as run-reads
 
 slice-aggregate-run : tie.Need-slice-aggregate-run
 slice-aggregate-run c = search needs

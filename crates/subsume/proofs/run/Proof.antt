@@ -1,16 +1,11 @@
 -- All is fed, and then the last line handed on.
-use Rattle.subsume.proofs.Blocks.{last-line}
-use lib.Seq.{length-take-le}
-use native.Mathlib.Omega.{arith}
 use mathlib.Core.Path.{sym}
+use native.Mathlib.Omega.{arith}
+use lib.Seq.{length-take-le}
+use Rattle.subsume.proofs.Blocks.{last-line}
 use borrow.Author.Needs.{needs}
 use Rattle.subsume.proofs.run.Statement.{statement}
 use Rattle.subsume.proofs.run.Tie as tie
-use Rattle.subsume.proofs.run.Reads as reads
-use Rattle.subsume.proofs.run.Lts as lts
-use Rattle.lines.proofs.put_totals.Reads as put-totals-reads
-use Rattle.subsume.proofs.feed_all.Reads as feed-all-reads
-use Rattle.subsume.proofs.write_last.Reads as write-last-reads
 
 feed-all-requires : tie.Need-feed-all-requires
 feed-all-requires c κs = search needs

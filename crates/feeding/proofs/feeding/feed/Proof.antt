@@ -1,18 +1,14 @@
 -- The bytes so far are fed, and their text is in the output.
+use mathlib.Core.Path.{_∙_}
+use Prim.Native.Nat.{_+_, _-_, _≤_}
+use native.Mathlib.Omega.{arith}
+use lib.ListN.{length, length-take, length-drop}
+use Rattle.feeding.specs.Feed.{storeOf}
 use Rattle.feeding.proofs.Blocks.{Feeding, feeding-none, feeding-more, feeding-done}
 use Rattle.feeding.proofs.Records.{whole-input}
-use Rattle.feeding.specs.Feed.{storeOf}
-use lib.ListN.{length, length-take, length-drop}
-use native.Mathlib.Omega.{arith}
-use Prim.Native.Nat.{_+_, _-_, _≤_}
-use mathlib.Core.Path.{_∙_}
 use borrow.Author.Needs.{needs}
 use Rattle.feeding.proofs.feeding.feed.Statement.{statement}
 use Rattle.feeding.proofs.feeding.feed.Tie as tie
-use Rattle.feeding.proofs.feeding.feed.Reads as reads
-use Rattle.feeding.proofs.feeding.feed.Lts as lts
-use Rattle.feeding.proofs.feeding.proceed.Reads as proceed-reads
-use Rattle.feeding.proofs.reading.read_some.Reads as read-some-reads
 
 abbrev Inv-loop : tie.InvT-loop
 Inv-loop input tree₀ marks₀ words₀ output₀ keys₀ turn₀ taken₀ tree marks words output keys turn taken =

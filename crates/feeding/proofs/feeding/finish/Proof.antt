@@ -1,14 +1,9 @@
 -- The outcome, its line, the totals.
-use Rattle.feeding.proofs.Blocks.{finishes}
 use Rattle.feeding.specs.Feed.{storeOf}
+use Rattle.feeding.proofs.Blocks.{finishes}
 use borrow.Author.Needs.{needs}
 use Rattle.feeding.proofs.feeding.finish.Statement.{statement}
 use Rattle.feeding.proofs.feeding.finish.Tie as tie
-use Rattle.feeding.proofs.feeding.finish.Reads as reads
-use Rattle.feeding.proofs.feeding.finish.Lts as lts
-use Rattle.feeding.proofs.feeding.count_outcome.Reads as count-outcome-reads
-use Rattle.feeding.proofs.feeding.outcome_of.Reads as outcome-of-reads
-use Rattle.lines.proofs.put_line.Reads as put-line-reads
 
 outcome-of-requires : tie.Need-outcome-of-requires
 outcome-of-requires c κs = search needs

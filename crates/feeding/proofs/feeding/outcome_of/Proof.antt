@@ -1,16 +1,13 @@
 -- More than 64 words, or the record is answered.
+use mathlib.Core.Path.{refl, sym}
+use native.Mathlib.Omega.{arith}
+use lib.Seq.{length-take-le}
 use Rattle.feeding.specs.Feed.{finishing}
 use Rattle.clause.specs.Clause.{maxWords}
 use borrow.Author.Tests.{lt-ltb, le-ltb}
-use lib.Seq.{length-take-le}
-use native.Mathlib.Omega.{arith}
-use mathlib.Core.Path.{refl, sym}
 use borrow.Author.Needs.{needs}
 use Rattle.feeding.proofs.feeding.outcome_of.Statement.{statement}
 use Rattle.feeding.proofs.feeding.outcome_of.Tie as tie
-use Rattle.feeding.proofs.feeding.outcome_of.Reads as reads
-use Rattle.feeding.proofs.feeding.outcome_of.Lts as lts
-use Rattle.feeding.proofs.answering.answer.Reads as answer-reads
 
 cast-end : tie.Need-cast-end
 cast-end c = search needs

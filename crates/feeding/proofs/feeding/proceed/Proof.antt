@@ -1,12 +1,9 @@
 -- The reading goes on, or a record is ended.
-use Rattle.feeding.proofs.Blocks.{goes, ends, took-as}
 use Rattle.feeding.specs.Feed.{storeOf}
+use Rattle.feeding.proofs.Blocks.{goes, ends, took-as}
 use borrow.Author.Needs.{needs}
 use Rattle.feeding.proofs.feeding.proceed.Statement.{statement}
 use Rattle.feeding.proofs.feeding.proceed.Tie as tie
-use Rattle.feeding.proofs.feeding.proceed.Reads as reads
-use Rattle.feeding.proofs.feeding.proceed.Lts as lts
-use Rattle.feeding.proofs.feeding.finish.Reads as finish-reads
 
 enum-known-next : tie.Need-enum-known-next
 enum-known-next c = search needs

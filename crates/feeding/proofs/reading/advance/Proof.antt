@@ -4,8 +4,6 @@ use borrow.Author.Tests.{lt-ltb, le-ltb, eq-eqb, ne-eqb}
 use borrow.Author.Needs.{needs}
 use Rattle.feeding.proofs.reading.advance.Statement.{statement}
 use Rattle.feeding.proofs.reading.advance.Tie as tie
-use Rattle.feeding.proofs.reading.advance.Reads as reads
-use Rattle.feeding.proofs.reading.advance.Lts as lts
 
 enum-told : tie.Need-enum-told
 enum-told c = search needs

@@ -1,15 +1,10 @@
 -- The first byte of a field, or the second.
 use mathlib.Core.Path.{refl}
-use Rattle.feeding.proofs.Blocks.{first-byte, second-byte}
 use Rattle.feeding.specs.Feed.{storeOf}
+use Rattle.feeding.proofs.Blocks.{first-byte, second-byte}
 use borrow.Author.Needs.{needs}
 use Rattle.feeding.proofs.reading.read_byte.Statement.{statement}
 use Rattle.feeding.proofs.reading.read_byte.Tie as tie
-use Rattle.feeding.proofs.reading.read_byte.Reads as reads
-use Rattle.feeding.proofs.reading.read_byte.Lts as lts
-use Rattle.feeding.proofs.reading.advance.Reads as advance-reads
-use Rattle.feeding.proofs.reading.field_of.Reads as field-of-reads
-use Rattle.feeding.proofs.reading.store.Reads as store-reads
 
 enum-told : tie.Need-enum-told
 enum-told c = search needs

@@ -1,19 +1,13 @@
 -- A whole record, or one byte.
-use lib.ListN.{length-take, length-drop}
-use native.Mathlib.Omega.{arith}
 use mathlib.Core.Path.{refl, _∙_}
+use native.Mathlib.Omega.{arith}
+use lib.ListN.{length-take, length-drop}
+use Rattle.feeding.specs.Feed.{storeOf}
 use Rattle.feeding.proofs.Whole.{record-read}
 use Rattle.feeding.proofs.Blocks.{feed-one}
-use Rattle.feeding.specs.Feed.{storeOf}
 use borrow.Author.Needs.{needs}
 use Rattle.feeding.proofs.reading.read_some.Statement.{statement}
 use Rattle.feeding.proofs.reading.read_some.Tie as tie
-use Rattle.feeding.proofs.reading.read_some.Reads as reads
-use Rattle.feeding.proofs.reading.read_some.Lts as lts
-use Rattle.feeding.proofs.reading.field_at.Reads as field-at-reads
-use Rattle.feeding.proofs.reading.read_byte.Reads as read-byte-reads
-use Rattle.feeding.proofs.reading.read_words.Reads as read-words-reads
-use Rattle.feeding.proofs.reading.words_ahead.Reads as words-ahead-reads
 
 words-ahead-requires : tie.Need-words-ahead-requires
 words-ahead-requires c κs = search needs

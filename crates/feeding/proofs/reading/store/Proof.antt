@@ -1,14 +1,11 @@
 -- A word is stored; a number or a count is not.
-use Rattle.feeding.proofs.Blocks.{no-word}
-use types.Run.{miss}
-use lib.Seq.{set-out}
 use mathlib.Core.List.{[], _∷_}
-use mathlib.Core.Path.{sym, _∙_}
+use lib.Seq.{set-out}
+use types.Run.{miss}
+use Rattle.feeding.proofs.Blocks.{no-word}
 use borrow.Author.Needs.{needs}
 use Rattle.feeding.proofs.reading.store.Statement.{statement}
 use Rattle.feeding.proofs.reading.store.Tie as tie
-use Rattle.feeding.proofs.reading.store.Reads as reads
-use Rattle.feeding.proofs.reading.store.Lts as lts
 
 enum-known-stage : tie.Need-enum-known-stage
 enum-known-stage c = search needs
