@@ -40,7 +40,7 @@ pub extern "C" fn ct_query(
 ) -> u64
     ensures { λ r. ⌜ record { number = r; words = now (witness .exit); told = now (told .exit) } ≡ ctQuery (now (tree .entry)) (now (clause .entry)) budget (now (witness .entry)) (now (told .entry)) ⌝ }
 {
-    answers::hand_query(walk::query(tree, clause, budget, witness), told)
+    answers::hand_query(query::query(tree, clause, budget, witness), told)
 }
 
 // The ceiling of a query's count. Returns 0 or 13; tells the ceiling.
@@ -48,5 +48,5 @@ pub extern "C" fn ct_query(
 pub extern "C" fn ct_ceiling(kept: u64, q: u64, m: u64, told: &mut [u64]) -> u64
     ensures { λ r. ⌜ record { number = r; told = now (told .exit) } ≡ ctCeiling kept q m (now (told .entry)) ⌝ }
 {
-    answers::hand_ceiling(walk::ceiling(kept, q, m), told)
+    answers::hand_ceiling(ceiling::ceiling(kept, q, m), told)
 }

@@ -77,7 +77,7 @@ fn reset(witness: &mut [u16]) {
 // Asks a tree, with an untouched witness.
 fn ask(tree: &[u64], d: &[u16], budget: u64, witness: &mut [u16]) -> Asked {
     reset(witness);
-    of_query(walk::query(tree, d, budget, witness))
+    of_query(query::query(tree, d, budget, witness))
 }
 
 // How many words two witnesses differ in.

@@ -55,7 +55,7 @@ fn query(
     expected: usize,
     count: usize,
 ) {
-    let got = of_query(walk::query(tree, c, budget, witness));
+    let got = of_query(query::query(tree, c, budget, witness));
     compare(tally, 0, what, got.told, expected);
     compare(tally, 0, what, got.count, count);
 }

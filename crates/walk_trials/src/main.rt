@@ -190,7 +190,7 @@ fn take_out(number: u64, trial: Trial, slice: &mut [u64]) {
 // Puts a query with a witness, and writes the answer.
 fn ask(tree: &[u64], clause: &[u16], budget: u64, witness: &mut [u16]) {
     io::write_all(1, b" ");
-    write_answer(walk::query(tree, clause, budget, witness));
+    write_answer(query::query(tree, clause, budget, witness));
     write_changed(b" literals", witness, 0, 8);
     write_changed(b" positions", witness, 8, 72);
     write_changed(b" past", witness, 72, WITNESS);
@@ -358,7 +358,7 @@ fn run_ceiling(kept: u64, q: u64, m: u64) {
     write_numbered(b", ", q);
     write_numbered(b", ", m);
     io::write_all(1, b": ");
-    match walk::ceiling(kept, q, m) {
+    match ceiling::ceiling(kept, q, m) {
         CeilingAnswer::NoCeiling(refusal) => write_refusal(refusal),
         CeilingAnswer::Ceiling(most) => write_numbered(b"is ", most),
     }
