@@ -1,10 +1,12 @@
 // The calls, and what is written of their answers.
+use crate::writing::EXTENTS;
+use crate::writing::KEYS;
+use crate::writing::NODES;
 use crate::writing::write;
 use crate::writing::write_changed;
-use crate::writing::write_key;
 use crate::writing::write_numbered;
 use crate::writing::write_refusal;
-use crate::writing::write_tree;
+use crate::writing::write_words;
 use clause::Shape;
 use machine::Sequence;
 use tree::CallAnswer;
@@ -134,15 +136,6 @@ fn run_read(clause: &[u16]) {
     }
 }
 
-// Writes instructions.
-fn write_keys(keys: &[u64]) {
-    let mut i = 0;
-    while i < keys.len() {
-        write_key(keys[i]);
-        i += 1;
-    }
-}
-
 // G: compiles the clause, of up to 64 words.
 fn run_compile(clause: &[u16]) {
     if clause.len() > 64 {
@@ -150,7 +143,7 @@ fn run_compile(clause: &[u16]) {
     }
     let mut keys = [0u64; Sequence::KEYS];
     let count = machine::compile(clause, &mut keys);
-    write_keys(&keys[..count]);
+    write_words(&keys[..count], 0, KEYS);
 }
 
 // A query.
@@ -211,7 +204,8 @@ fn look(letter: u8, number: u64, budget: u64, tree: &[u64], clause: &[u16]) {
         b'G' => run_compile(clause),
         b'W' => run_blank(number, budget, tree, clause),
         b'N' => run_ceiling(tree),
-        b'S' => write_tree(tree, number != 0),
+        b'S' => write_words(tree, 1, NODES),
+        b'E' => write_words(tree, 1, EXTENTS),
         _ => {}
     }
 }

@@ -8,7 +8,7 @@
 // V: read the clause, and write `whole` with the literals. G: compile the clause, and write the instructions up to Success.
 // W: put the clause as a query, with a blank witness of so many words, and write each word of the witness that the query wrote: of the literals,
 // of the positions, or past both, its index there and its value. N: the ceiling of the slice's first three words.
-// S: write the words after the header that are not 0, each an instruction and an extent; by 1S the extents alone. Z: write whether every word is 0.
+// S: write the words after the header that are not 0, each an instruction and an extent. E: the extents alone. Z: write whether every word is 0.
 // A refusal is written as its code and its values. A tree word: one digit of operation, 8 of operand, 7 of extent. A header: 8 of used words, 8 of kept clauses.
 mod calls;
 mod lines;

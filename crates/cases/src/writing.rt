@@ -74,7 +74,7 @@ fn write_pair(operand: u64) {
 }
 
 // Writes an instruction: First, Down and Right with an operand only if they have one, Check's in hexadecimal.
-pub fn write_key(key: u64) {
+fn write_key(key: u64) {
     let operation = key / 4294967296;
     let operand = key % 4294967296;
     write_operation(operation);
@@ -86,23 +86,32 @@ pub fn write_key(key: u64) {
     }
 }
 
-// Writes a tree word: the instruction and the extent, or the extent alone.
-fn write_node(word: u64, alone: bool) {
-    if alone {
-        write_numbered(b" ", word % 268435456);
-        return;
+// How words are written: as keys, as tree words with their extents, or as extents alone.
+pub const KEYS: u8 = 0;
+
+pub const NODES: u8 = 1;
+
+pub const EXTENTS: u8 = 2;
+
+// Writes a word.
+fn write_as(word: u64, style: u8) {
+    match style {
+        KEYS => write_key(word),
+        EXTENTS => write_numbered(b" ", word % 268435456),
+        _ => {
+            write_key(word / 268435456);
+            write_numbered(b"/", word % 268435456);
+        }
     }
-    write_key(word / 268435456);
-    write_numbered(b"/", word % 268435456);
 }
 
-// Writes the words after a header that are not 0.
-pub fn write_tree(tree: &[u64], alone: bool) {
-    let mut at = 1;
-    while at < tree.len() {
-        let word = tree[at];
+// Writes the words from an index on that are not 0.
+pub fn write_words(words: &[u64], from: usize, style: u8) {
+    let mut at = from;
+    while at < words.len() {
+        let word = words[at];
         if word != 0 {
-            write_node(word, alone);
+            write_as(word, style);
         }
         at += 1;
     }

@@ -5,7 +5,6 @@ use borrow.Author.Needs.{needs}
 use lib.ListN.{length}
 use Rattle.cases.proofs.calls.fill.Statement.{statement}
 use Rattle.cases.proofs.calls.fill.Tie as tie
-use Rattle.cases.proofs.calls.keep.Reads as keep-reads
 
 abbrev Inv-loop : tie.InvT-loop
 Inv-loop tree₀ number count i₀ tree i = (i ≤ count) × (length tree ≡ length tree₀)

@@ -2,10 +2,8 @@
 use native.Mathlib.Omega.{arith}
 use lib.ListN.{length-take}
 use borrow.Author.Needs.{needs}
-use borrow.Author.Needs.{needs}
 use Rattle.cases.proofs.calls.run_blank.Statement.{statement}
 use Rattle.cases.proofs.calls.run_blank.Tie as tie
-use Rattle.cases.proofs.calls.run_query.Reads as run-query-reads
 
 returns : tie.Need-returns
 returns c = search needs

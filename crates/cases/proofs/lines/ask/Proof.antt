@@ -2,10 +2,8 @@
 use native.Mathlib.Omega.{arith}
 use lib.ListN.{length-take}
 use borrow.Author.Needs.{needs}
-use borrow.Author.Needs.{needs}
 use Rattle.cases.proofs.lines.ask.Statement.{statement}
 use Rattle.cases.proofs.lines.ask.Tie as tie
-use Rattle.cases.proofs.calls.call.Reads as call-reads
 
 returns : tie.Need-returns
 returns c = search needs

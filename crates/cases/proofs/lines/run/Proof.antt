@@ -5,7 +5,6 @@ use borrow.Author.Needs.{needs}
 use lib.ListN.{length}
 use Rattle.cases.proofs.lines.run.Statement.{statement}
 use Rattle.cases.proofs.lines.run.Tie as tie
-use Rattle.cases.proofs.lines.take.Reads as take-reads
 
 abbrev Inv-loop : tie.InvT-loop
 Inv-loop text slice₀ clause₀ copy₀ state₀ i₀ slice clause copy state i = (i ≤ length text) × (length slice ≡ length slice₀) × (length clause ≡ length clause₀) × (length copy ≡ length copy₀)

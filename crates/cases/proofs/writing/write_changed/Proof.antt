@@ -4,9 +4,6 @@ use borrow.Author.Needs.{needs}
 use lib.ListN.{length}
 use Rattle.cases.proofs.writing.write_changed.Statement.{statement}
 use Rattle.cases.proofs.writing.write_changed.Tie as tie
-use Rattle.cases.proofs.writing.write.Reads as write-reads
-use Rattle.cases.proofs.writing.write_numbered.Reads as write-numbered-reads
-use Rattle.cases.proofs.writing.write_value.Reads as write-value-reads
 
 abbrev Inv-loop : tie.InvT-loop
 Inv-loop name words from to blank named₀ i₀ t9 named i = from ≤ i

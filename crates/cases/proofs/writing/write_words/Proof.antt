@@ -1,16 +1,15 @@
--- `write_tree` stays within the tree.
-use Prim.Native.Nat.{_≤_, _+_, _-_}
+-- `write_words` stays within the words.
+use Prim.Native.Nat.{_≤_, _-_}
 use borrow.Author.Needs.{needs}
 use lib.ListN.{length}
-use Rattle.cases.proofs.writing.write_tree.Statement.{statement}
-use Rattle.cases.proofs.writing.write_tree.Tie as tie
-use Rattle.cases.proofs.writing.write_node.Reads as write-node-reads
+use Rattle.cases.proofs.writing.write_words.Statement.{statement}
+use Rattle.cases.proofs.writing.write_words.Tie as tie
 
 abbrev Inv-loop : tie.InvT-loop
-Inv-loop tree alone at₀ at = (at ≤ length tree + 1) × (1 ≤ at)
+Inv-loop words from style at₀ at = from ≤ at
 
 abbrev μ-loop : tie.MeasureT-loop
-μ-loop tree alone at₀ at = length tree + 1 - at
+μ-loop words from style at₀ at = length words - at
 
 loop-holds : tie.Need-loop-holds Inv-loop μ-loop
 loop-holds c = search needs
@@ -21,8 +20,8 @@ mul-word c = search needs
 shared-slice-read-word : tie.Need-shared-slice-read-word Inv-loop μ-loop
 shared-slice-read-word c = search needs
 
-write-node-requires : tie.Need-write-node-requires Inv-loop μ-loop
-write-node-requires c κs = search needs
+write-as-requires : tie.Need-write-as-requires Inv-loop μ-loop
+write-as-requires c κs = search needs
 
 add-at : tie.Need-add-at Inv-loop μ-loop
 add-at c = search needs
@@ -36,8 +35,8 @@ loop-again c = search needs
 returns : tie.Need-returns Inv-loop μ-loop
 returns c = search needs
 
-pub write-tree-spec : {M : Type 1} → statement M
-write-tree-spec =
+pub write-words-spec : {M : Type 1} → statement M
+write-words-spec =
     tie.close
     (tie.spec
     Inv-loop
@@ -45,7 +44,7 @@ write-tree-spec =
     loop-holds
     mul-word
     shared-slice-read-word
-    write-node-requires
+    write-as-requires
     add-at
     loop-less
     loop-again
