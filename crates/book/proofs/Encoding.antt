@@ -1,13 +1,16 @@
 -- The calls that words stand for, read one after another.
 use mathlib.Core.Path.{_≡_, refl, sym, ap, _∙_}
 use mathlib.Core.List.{List, [], _∷_}
-use Prim.Native.Nat.{ℕ, zero, suc, _+_, _-_, _≤_, _<_, min}
+use Prim.Native.Nat.{ℕ, zero, suc, _+_, _-_, _^_, _≤_, _<_, min}
 use native.Mathlib.Nat.{le-refl}
 use native.Mathlib.Decide.{decLe}
 use native.Mathlib.Omega.{arith}
 use lib.ListN.{length, take, drop, getD, length-drop, drop-of-length-le}
-use lib.Seq.{drop-cons, drop-drop, take-all}
-use Rattle.book.specs.Book.{insert, remove, call, after}
+use lib.Seq.{drop-cons, drop-drop, take-all, getD-drop}
+use Rattle.clause.specs.Lists.{none, also}
+use Rattle.clause.specs.Word.{Words}
+use Rattle.clause.proofs.Lists.{all-take}
+use Rattle.book.specs.Book.{insert, remove, AllFit, call, after}
 use Rattle.book.specs.Encoding.{whole, callsWithin, callsOf, Ran}
 
 -- more fuel than words makes no difference
@@ -52,6 +55,15 @@ take-min n ws m e = go (decLe n (length ws))
     go (yes h) = let f : m ≡ n = omega arith in rw f
     go (no h) = take-all m ws (omega arith) ∙ sym (take-all n ws (omega arith))
 
+-- words of 16 bits, one by one
+words-of : (ws : List ℕ) → ((i : ℕ) → getD ws i 0 < 2 ^ 16) → Words ws
+words-of [] f = none
+words-of (w ∷ ws) f = also (f 0) (words-of ws (λ i. f (suc i)))
+
+-- those of a part
+pub words-part : (ws : List ℕ) → ((i : ℕ) → getD ws i 0 < 2 ^ 16) → (from n : ℕ) → Words (take n (drop from ws))
+words-part ws f from n = all-take n (words-of (drop from ws) (λ i. rw (getD-drop from ws i 0) (f (from + i))))
+
 module _ (ws : List ℕ) (at : ℕ) (inside : at + 3 ≤ length ws) where
   -- the three words of a call, and what follows them
   three : drop at ws ≡ getD ws at 0 ∷ getD ws (at + 1) 0 ∷ getD ws (at + 2) 0 ∷ drop (at + 3) ws
@@ -92,3 +104,7 @@ module _ {T U ws : List ℕ} {at next : ℕ} (R : Ran T ws at next U) where
 
   pub ran-after : after T (callsOf (drop at ws)) ≡ after U (callsOf (drop next ws))
   ran-after = rw (ran-calls, R .slice)
+
+  -- where the calls after it fit, all do
+  pub ran-fit : AllFit (callsOf (drop next ws)) → AllFit (callsOf (drop at ws))
+  ran-fit f = rw ran-calls (R .fit, f)
