@@ -58,7 +58,7 @@ returns c =
     let a = s .args in
     let none-left : callsOf (drop (l .loop .at) (a .calls .now)) ≡ [] = calls-short _ _ (simp length-drop (omega (arith, c .loop-test .left))) in
     let run : fresh (a .tree .now) .answer ≡ Ready → Run (a .tree .now) (callsOf (a .calls .now)) =
-        λ r. record { ready = r; fit = l .loop .inv .2 (rw none-left tt) } in (
+    λ r. record { ready = r; fit = l .loop .inv .2 (rw none-left tt) } in (
       sym (ap (λ T. after T (callsOf (a .calls .now))) (sym (ap (λ y. y .slice) (f .fresh .ensures))) ∙ l .loop .inv .3 ∙ rw none-left),
       (λ r. (run r, reach _ _ (run r)), (believable, (demand1, reach, demand2, demand3))),
     )
