@@ -1,6 +1,7 @@
 // The C interface: the calls of document 01 on pointers and lengths (include/code_tree.h).
 ghost use mathlib.Core.Path.{_≡_};
 ghost use Rattle.codetree.specs.Calls.{ctFresh, ctInsert, ctRemove, ctQuery, ctCeiling};
+ghost use Rattle.codetree.specs.Claims.{CtReach, CtDemand2, CtDemand3, ToldApart};
 
 mod answers;
 
@@ -30,6 +31,7 @@ pub extern "C" fn ct_remove(tree: &mut [u64], number: u32) -> u64
 
 // Asks whether a kept clause covers a clause. Returns 0 or a code; tells 1 or 0 for covered or not, the number, the count;
 // or the position for 4 and 5, the count for 12.
+// The contract carries what is claimed of lists of these calls and of what they tell, so that nothing is proved without it.
 #[no_mangle]
 pub extern "C" fn ct_query(
     tree: &[u64],
@@ -38,7 +40,9 @@ pub extern "C" fn ct_query(
     witness: &mut [u16],
     told: &mut [u64],
 ) -> u64
-    ensures { λ r. ⌜ record { number = r; words = now (witness .exit); told = now (told .exit) } ≡ ctQuery (now (tree .entry)) (now (clause .entry)) budget (now (witness .entry)) (now (told .entry)) ⌝ }
+    ensures hands { λ r. ⌜ record { number = r; words = now (witness .exit); told = now (told .exit) } ≡ ctQuery (now (tree .entry)) (now (clause .entry)) budget (now (witness .entry)) (now (told .entry)) ⌝ }
+    ensures lists { λ _. ⌜ CtReach × CtDemand2 × CtDemand3 ⌝ }
+    ensures apart { λ _. ⌜ ToldApart ⌝ }
 {
     answers::hand_query(walk::query(tree, clause, budget, witness), told)
 }
