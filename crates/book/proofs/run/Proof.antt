@@ -7,7 +7,7 @@ use lib.ListN.{length, drop, length-drop}
 use Rattle.book.specs.Book.{AllFit, after}
 use Rattle.book.specs.Claims.{Run}
 use Rattle.book.specs.Encoding.{callsOf}
-use Rattle.book.proofs.Encoding.{calls-short, ran-after, ran-fit}
+use Rattle.book.proofs.Encoding.{calls-short, ran-after, ran-fit, has-words}
 use Rattle.book.proofs.Believable.{believable}
 use Rattle.book.proofs.Refusals.{demand1}
 use Rattle.book.proofs.Reach.{reach, demand2}
@@ -60,7 +60,7 @@ returns c =
     let run : fresh (a .tree .now) .answer ≡ Ready → Run (a .tree .now) (callsOf (a .calls .now)) =
     λ r. record { ready = r; fit = l .loop .inv .2 (rw none-left tt) } in (
       sym (ap (λ T. after T (callsOf (a .calls .now))) (sym (ap (λ y. y .slice) (f .fresh .ensures))) ∙ l .loop .inv .3 ∙ rw none-left),
-      (λ r. (run r, reach _ _ (run r)), (believable, (demand1, reach, demand2, demand3))),
+      (λ r. (run r, reach _ _ (run r)), (has-words, (believable, (demand1, reach, demand2, demand3)))),
     )
 
 pub run-spec : {M : Type 1} → statement M
