@@ -16,7 +16,8 @@ pub extern "C" fn ct_fresh(tree: &mut [u64]) -> u64
 // Inserts a clause under a number. Returns 0 or a code; tells the position for 4 and 5, the number for 8.
 #[no_mangle]
 pub extern "C" fn ct_insert(tree: &mut [u64], clause: &[u16], number: u32, told: &mut [u64]) -> u64
-    ensures { λ r. ⌜ record { number = r; words = now (tree .exit); told = now (told .exit) } ≡ ctInsert (now (tree .entry)) (now (clause .entry)) number (now (told .entry)) ⌝ }
+    ensures { λ r. ⌜ record { number = r; words = now (tree .exit); told = now (told .exit) }
+        ≡ ctInsert (now (tree .entry)) (now (clause .entry)) number (now (told .entry)) ⌝ }
 {
     answers::hand_call(insertion::insert(tree, clause, number), told)
 }
@@ -40,7 +41,8 @@ pub extern "C" fn ct_query(
     witness: &mut [u16],
     told: &mut [u64],
 ) -> u64
-    ensures hands { λ r. ⌜ record { number = r; words = now (witness .exit); told = now (told .exit) } ≡ ctQuery (now (tree .entry)) (now (clause .entry)) budget (now (witness .entry)) (now (told .entry)) ⌝ }
+    ensures hands { λ r. ⌜ record { number = r; words = now (witness .exit); told = now (told .exit) }
+        ≡ ctQuery (now (tree .entry)) (now (clause .entry)) budget (now (witness .entry)) (now (told .entry)) ⌝ }
     ensures lists { λ _. ⌜ CtReach × CtDemand2 × CtDemand3 ⌝ }
     ensures apart { λ _. ⌜ ToldApart ⌝ }
 {
