@@ -6,13 +6,13 @@ use mathlib.Core.List.{List, [], _∷_, map, List·Memᴰ}
 use Prim.Native.Nat.{ℕ, _≤_, _<_}
 use lib.ListN.{length}
 use Rattle.clause.specs.Word.{Words}
-use Rattle.clause.specs.Clause.{Accepted}
+use Rattle.clause.specs.Clause.{Accepted, literals}
 use Rattle.tree.specs.Forest.{layout}
 use Rattle.tree.specs.Entries.{Pair}
 use Rattle.tree.specs.Calls.{fresh, insertion, removal}
-use Rattle.walk.specs.Ceiling.{fullBudget, ceilingCall}
+use Rattle.walk.specs.Ceiling.{ceiling, fullBudget, ceilingCall}
 use Rattle.walk.specs.Query.{witnessWords, written, query}
-use Rattle.walk.specs.Covering.{Subsumed, Shows, Untouched, candidates}
+use Rattle.walk.specs.Covering.{most, Subsumed, Shows, Untouched, candidates}
 use Rattle.book.specs.Book.{Call, insert, remove, Fit, AllFit, bookStep, bookOf, treeOf}
 use Rattle.book.specs.Claims.{Under, Renamed}
 use Rattle.codetree.specs.Told.{toldBy}
@@ -100,8 +100,9 @@ pub record CtAnswers (K : List Pair) (d : List ℕ) (b : ℕ) (W ts : List ℕ) 
   pub covered : SaysCovered r ts (needed K d) ↔ ((needed K d ≤ b) × Subsumed K d)
   pub not-covered : SaysNot r ts (needed K d) ↔ ((needed K d ≤ b) × (Subsumed K d → ⊥))
   pub spent : SaysSpent r ts b ↔ (b < needed K d)
-  -- the full budget never is
+  -- the full budget never is, and no query takes more candidates than the ceiling
   pub enough : needed K d ≤ fullBudget
+  pub bounded : needed K d ≤ ceiling (length K) (length (literals d)) (most K)
   -- the clause kept under the number that is told subsumes d, and the witness shows it
   pub shows : (n : ℕ) → Says r ts 0 (1 ∷ n ∷ needed K d ∷ [])
       → (p : Pair) × List·Memᴰ p K × (p .number ≡ n) × Shows (p .clause) d (r .words) × Untouched (p .clause) W (r .words)
