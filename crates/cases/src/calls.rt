@@ -1,4 +1,7 @@
 // The calls, and what is written of their answers.
+use crate::SLICE;
+use crate::pieces::even;
+use crate::pieces::rise;
 use crate::writing::EXTENTS;
 use crate::writing::KEYS;
 use crate::writing::NODES;
@@ -28,15 +31,6 @@ fn copy_words(from: &[u64], to: &mut [u64]) {
             return;
         }
         to[i] = from[i];
-        i += 1;
-    }
-}
-
-// Writes a number over every word.
-fn paint(words: &mut [u64], number: u64) {
-    let mut i = 0;
-    while i < words.len() {
-        words[i] = number;
         i += 1;
     }
 }
@@ -90,32 +84,27 @@ fn write_state(tree: &[u64], copy: &[u64]) {
 }
 
 // One of the three on a tree whose words are copied first.
-fn run_change(letter: u8, number: u64, tree: &mut [u64], clause: &[u16], copy: &mut [u64]) {
-    copy_words(tree, copy);
+fn run_change(letter: u8, number: u64, tree: &mut [u64], clause: &[u16]) {
+    let mut copy = [0u64; SLICE];
+    copy_words(tree, &mut copy);
     let answer = change(letter, (number % 4294967296) as u32, tree, clause);
     write_answer(answer);
-    write_state(tree, copy);
+    write_state(tree, &copy);
 }
 
-// Z: whether every word, the header too, is 0.
-fn write_zeros(tree: &[u64], copy: &mut [u64]) {
-    paint(copy, 0);
-    if changed(tree, copy) {
-        write(b" not all 0");
-    } else {
-        write(b" all 0");
-    }
-}
-
-// Inserts a literal without arguments under its symbol's number, and writes a refusal.
-fn keep(tree: &mut [u64], symbol: u16) {
-    let word = 32768 + symbol % 16384;
-    let answer = change(b'K', symbol as u32, tree, &[word]);
+// Writes a refusal of a number.
+fn write_unkept(answer: CallAnswer, number: u16) {
     if let CallAnswer::Refused(refusal) = answer {
-        write_numbered(b" not kept ", symbol as u64);
+        write_numbered(b" not kept ", number as u64);
         write(b":");
         write_refusal(refusal);
     }
+}
+
+// Inserts a literal without arguments under its symbol's number.
+fn keep(tree: &mut [u64], symbol: u16) {
+    let word = 32768 + symbol % 16384;
+    write_unkept(change(b'K', symbol as u32, tree, &[word]), symbol);
 }
 
 // Y: so many of them.
@@ -210,21 +199,13 @@ fn look(letter: u8, number: u64, budget: u64, tree: &[u64], clause: &[u16]) {
     }
 }
 
-// Commands on the tree and the clause. A: every word is the number. U: the words are those before the last call.
-pub fn call(
-    letter: u8,
-    number: u64,
-    budget: u64,
-    tree: &mut [u64],
-    clause: &[u16],
-    copy: &mut [u64],
-) {
+// Commands on the tree and the clause.
+pub fn call(letter: u8, number: u64, budget: u64, tree: &mut [u64], clause: &[u16]) {
     match letter {
-        b'A' => paint(tree, number),
-        b'U' => copy_words(copy, tree),
-        b'F' | b'K' | b'R' => run_change(letter, number, tree, clause, copy),
+        b'A' => even(tree, number),
+        b'D' => rise(tree, number),
         b'Y' => fill(tree, number),
-        b'Z' => write_zeros(tree, copy),
+        b'F' | b'K' | b'R' => run_change(letter, number, tree, clause),
         _ => look(letter, number, budget, tree, clause),
     }
 }

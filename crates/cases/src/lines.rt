@@ -5,13 +5,14 @@ use crate::pieces::spell;
 use crate::writing::write;
 
 // What the bytes before have set: the part of the line, the number before the next letter, how many words the slice has and how many of them
-// are given, how many words the clause has, and the budget.
+// are given, how many words the clause has, how many times its next word stands, and the budget.
 pub struct State {
     pub part: u8,
     pub number: u64,
     pub length: usize,
     pub given: usize,
     pub words: usize,
+    pub times: u64,
     pub budget: u64,
 }
 
@@ -34,7 +35,7 @@ fn with_digit(number: u64, b: u8) -> u64 {
 }
 
 // Calls with the words that are set; the clause is then used up.
-fn ask(letter: u8, before: State, slice: &mut [u64], clause: &[u16], copy: &mut [u64]) -> State {
+fn ask(letter: u8, before: State, slice: &mut [u64], clause: &[u16]) -> State {
     let mut state = before;
     let length = state.length;
     let words = state.words;
@@ -50,20 +51,13 @@ fn ask(letter: u8, before: State, slice: &mut [u64], clause: &[u16], copy: &mut 
         state.budget,
         &mut slice[..length],
         &clause[..words],
-        copy,
     );
     state.words = 0;
     state
 }
 
 // Follows a command, by its letter; any other byte is none.
-fn follow(
-    letter: u8,
-    before: State,
-    slice: &mut [u64],
-    clause: &mut [u16],
-    copy: &mut [u64],
-) -> State {
+fn follow(letter: u8, before: State, slice: &mut [u64], clause: &mut [u16]) -> State {
     let mut state = before;
     match letter {
         b'L' => {
@@ -75,9 +69,13 @@ fn follow(
             state.budget = state.number;
             state
         }
-        b'T' | b'D' => give(letter, state, slice),
-        b'C' | b'M' => spell(letter, state, clause),
-        65..=90 => ask(letter, state, slice, clause, copy),
+        b'M' => {
+            state.times = state.number;
+            state
+        }
+        b'T' => give(state, slice),
+        b'C' => spell(state, clause),
+        65..=90 => ask(letter, state, slice, clause),
         _ => state,
     }
 }
@@ -102,7 +100,7 @@ fn end(part: u8) {
 }
 
 // Takes a byte.
-fn take(b: u8, before: State, slice: &mut [u64], clause: &mut [u16], copy: &mut [u64]) -> State {
+fn take(b: u8, before: State, slice: &mut [u64], clause: &mut [u16]) -> State {
     let mut state = before;
     if b == b'\n' {
         end(state.part);
@@ -116,24 +114,25 @@ fn take(b: u8, before: State, slice: &mut [u64], clause: &mut [u16], copy: &mut 
     if state.part == COMMENT {
         return state;
     }
-    state = follow(b, state, slice, clause, copy);
+    state = follow(b, state, slice, clause);
     state.number = with_digit(state.number, b);
     state
 }
 
 // Takes byte after byte.
-pub fn run(text: &[u8], slice: &mut [u64], clause: &mut [u16], copy: &mut [u64]) {
+pub fn run(text: &[u8], slice: &mut [u64], clause: &mut [u16]) {
     let mut state = State {
         part: LABEL,
         number: 0,
         length: 0,
         given: 0,
         words: 0,
+        times: 1,
         budget: 0,
     };
     let mut i = 0;
     while i < text.len() {
-        state = take(text[i], state, slice, clause, copy);
+        state = take(text[i], state, slice, clause);
         i += 1;
     }
 }

@@ -1,46 +1,18 @@
-// Tree words and clause words, given one by one or many at once.
+// Tree words and clause words.
 use crate::lines::State;
 
-// T: a word of the slice.
-fn put(word: u64, before: State, slice: &mut [u64]) -> State {
+// T: the next word of the slice.
+pub fn give(before: State, slice: &mut [u64]) -> State {
     let mut state = before;
     let at = state.given;
     if at < slice.len() {
-        slice[at] = word;
+        slice[at] = state.number;
         state.given = at + 1;
     }
     state
 }
 
-// D: so many words, each with an operand one greater than the word two before it.
-fn rise(before: State, slice: &mut [u64]) -> State {
-    let mut state = before;
-    let mut at = state.given;
-    let mut left = state.number;
-    while left > 0 {
-        if at < 2 {
-            return state;
-        }
-        if at >= slice.len() {
-            return state;
-        }
-        slice[at] = slice[at - 2] % 9223372036854775808 + 268435456;
-        at += 1;
-        left -= 1;
-    }
-    state.given = at;
-    state
-}
-
-// T and D: words of the slice, from its header on.
-pub fn give(letter: u8, state: State, slice: &mut [u64]) -> State {
-    if letter == b'T' {
-        return put(state.number, state, slice);
-    }
-    rise(state, slice)
-}
-
-// Writes so many words of a clause, and gives the place after them.
+// Writes a word of a clause so many times, and gives the place after them.
 fn repeat(word: u16, count: u64, from: usize, clause: &mut [u16]) -> usize {
     let mut at = from;
     let mut left = count;
@@ -55,20 +27,44 @@ fn repeat(word: u16, count: u64, from: usize, clause: &mut [u16]) -> usize {
     at
 }
 
-// C and M: a word of the clause, and so many more of its last word.
-pub fn spell(letter: u8, before: State, clause: &mut [u16]) -> State {
+// C: the next word of the clause.
+pub fn spell(before: State, clause: &mut [u16]) -> State {
     let mut state = before;
-    let at = state.words;
-    if letter == b'C' {
-        state.words = repeat((state.number % 65536) as u16, 1, at, clause);
-        return state;
-    }
-    if at == 0 {
-        return state;
-    }
-    if at > clause.len() {
-        return state;
-    }
-    state.words = repeat(clause[at - 1], state.number, at, clause);
+    let word = (state.number % 65536) as u16;
+    state.words = repeat(word, state.times, state.words, clause);
+    state.times = 1;
     state
+}
+
+// Makes each word, from an index up to another, of the word so far back, with something added.
+fn spread(words: &mut [u64], from: usize, to: usize, back: usize, added: u32) {
+    let mut at = from;
+    while at < to {
+        if at < back {
+            return;
+        }
+        if at >= words.len() {
+            return;
+        }
+        words[at] = words[at - back] % 9223372036854775808 + added as u64;
+        at += 1;
+    }
+}
+
+// Writes the first word, if there is one.
+fn begin(words: &mut [u64], number: u64) {
+    if words.len() > 0 {
+        words[0] = number;
+    }
+}
+
+// A: every word is the number.
+pub fn even(words: &mut [u64], number: u64) {
+    begin(words, number);
+    spread(words, 1, words.len(), 1, 0);
+}
+
+// D: words from index 4 on, each with an operand one greater than the word two before it.
+pub fn rise(words: &mut [u64], number: u64) {
+    spread(words, 4, (number % 65536) as usize + 4, 2, 268435456);
 }

@@ -38,6 +38,18 @@ pub fn write_refusal(refusal: Refusal) {
     write_values(refusal);
 }
 
+// Writes the name of an operation from 4 on.
+fn write_later(operation: u64) {
+    match operation {
+        4 => write(b" Put"),
+        5 => write(b" Push"),
+        6 => write(b" Pop"),
+        7 => write(b" Check"),
+        8 => write(b" Compare"),
+        _ => write(b" ?"),
+    }
+}
+
 // Writes the name of an operation.
 fn write_operation(operation: u64) {
     match operation {
@@ -45,12 +57,7 @@ fn write_operation(operation: u64) {
         1 => write(b" First"),
         2 => write(b" Down"),
         3 => write(b" Right"),
-        4 => write(b" Put"),
-        5 => write(b" Push"),
-        6 => write(b" Pop"),
-        7 => write(b" Check"),
-        8 => write(b" Compare"),
-        _ => write_numbered(b" operation ", operation),
+        _ => write_later(operation),
     }
 }
 
@@ -105,15 +112,20 @@ fn write_as(word: u64, style: u8) {
     }
 }
 
-// Writes the words from an index on that are not 0.
+// Writes the words from an index on that are not 0, or that there are none.
 pub fn write_words(words: &[u64], from: usize, style: u8) {
+    let mut none = true;
     let mut at = from;
     while at < words.len() {
         let word = words[at];
         if word != 0 {
             write_as(word, style);
+            none = false;
         }
         at += 1;
+    }
+    if none {
+        write(b" none");
     }
 }
 

@@ -26,9 +26,6 @@ call-requires c κs = search needs
 same-length : tie.Need-same-length
 same-length c = search needs
 
-same-length-2 : tie.Need-same-length-2
-same-length-2 c = search needs
-
 returns-3 : tie.Need-returns-3
 returns-3 c = search needs
 
@@ -43,5 +40,4 @@ ask-spec =
     slice-aggregate-call-2
     call-requires
     same-length
-    same-length-2
     returns-3)

@@ -7,10 +7,10 @@ use Rattle.cases.proofs.lines.run.Statement.{statement}
 use Rattle.cases.proofs.lines.run.Tie as tie
 
 abbrev Inv-loop : tie.InvT-loop
-Inv-loop text slice₀ clause₀ copy₀ state₀ i₀ slice clause copy state i = (i ≤ length text) × (length slice ≡ length slice₀) × (length clause ≡ length clause₀) × (length copy ≡ length copy₀)
+Inv-loop text slice₀ clause₀ state₀ i₀ slice clause state i = (i ≤ length text) × (length slice ≡ length slice₀) × (length clause ≡ length clause₀)
 
 abbrev μ-loop : tie.MeasureT-loop
-μ-loop text slice₀ clause₀ copy₀ state₀ i₀ slice clause copy state i = length text - i
+μ-loop text slice₀ clause₀ state₀ i₀ slice clause state i = length text - i
 
 loop-holds : tie.Need-loop-holds Inv-loop μ-loop
 loop-holds c = search needs
@@ -36,9 +36,6 @@ same-length c = search needs
 same-length-2 : tie.Need-same-length-2 Inv-loop μ-loop
 same-length-2 c = search needs
 
-same-length-3 : tie.Need-same-length-3 Inv-loop μ-loop
-same-length-3 c = search needs
-
 returns : tie.Need-returns Inv-loop μ-loop
 returns c = search needs
 
@@ -56,5 +53,4 @@ run-spec =
     loop-again
     same-length
     same-length-2
-    same-length-3
     returns)

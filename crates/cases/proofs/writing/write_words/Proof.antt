@@ -6,10 +6,10 @@ use Rattle.cases.proofs.writing.write_words.Statement.{statement}
 use Rattle.cases.proofs.writing.write_words.Tie as tie
 
 abbrev Inv-loop : tie.InvT-loop
-Inv-loop words from style at₀ at = from ≤ at
+Inv-loop words from style none₀ at₀ t7 none at = from ≤ at
 
 abbrev μ-loop : tie.MeasureT-loop
-μ-loop words from style at₀ at = length words - at
+μ-loop words from style none₀ at₀ t7 none at = length words - at
 
 loop-holds : tie.Need-loop-holds Inv-loop μ-loop
 loop-holds c = search needs
@@ -32,8 +32,17 @@ loop-less c = search needs
 loop-again : tie.Need-loop-again Inv-loop μ-loop
 loop-again c = search needs
 
+slice-aggregate-write : tie.Need-slice-aggregate-write Inv-loop μ-loop
+slice-aggregate-write c = search needs
+
+write-requires : tie.Need-write-requires Inv-loop μ-loop
+write-requires c κs = search needs
+
 returns : tie.Need-returns Inv-loop μ-loop
 returns c = search needs
+
+returns-2 : tie.Need-returns-2 Inv-loop μ-loop
+returns-2 c = search needs
 
 pub write-words-spec : {M : Type 1} → statement M
 write-words-spec =
@@ -48,4 +57,7 @@ write-words-spec =
     add-at
     loop-less
     loop-again
-    returns)
+    slice-aggregate-write
+    write-requires
+    returns
+    returns-2)

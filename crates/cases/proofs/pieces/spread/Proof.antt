@@ -1,15 +1,16 @@
--- `rise` stays within the slice.
+-- `spread` stays within the words.
 use mathlib.Core.Path.{_≡_}
+use Prim.Native.Nat.{_-_}
 use borrow.Author.Needs.{needs}
 use lib.ListN.{length}
-use Rattle.cases.proofs.pieces.rise.Statement.{statement}
-use Rattle.cases.proofs.pieces.rise.Tie as tie
+use Rattle.cases.proofs.pieces.spread.Statement.{statement}
+use Rattle.cases.proofs.pieces.spread.Tie as tie
 
 abbrev Inv-loop : tie.InvT-loop
-Inv-loop slice₀ state at₀ left₀ slice at left = length slice ≡ length slice₀
+Inv-loop words₀ from to back added at₀ words at = length words ≡ length words₀
 
 abbrev μ-loop : tie.MeasureT-loop
-μ-loop slice₀ state at₀ left₀ slice at left = left
+μ-loop words₀ from to back added at₀ words at = to - at
 
 loop-holds : tie.Need-loop-holds Inv-loop μ-loop
 loop-holds c = search needs
@@ -26,26 +27,23 @@ same-length-2 c = search needs
 returns-2 : tie.Need-returns-2 Inv-loop μ-loop
 returns-2 c = search needs
 
-mul-slice : tie.Need-mul-slice Inv-loop μ-loop
-mul-slice c = search needs
+mul-words : tie.Need-mul-words Inv-loop μ-loop
+mul-words c = search needs
 
-slice-read-slice : tie.Need-slice-read-slice Inv-loop μ-loop
-slice-read-slice c = search needs
+slice-read-words : tie.Need-slice-read-words Inv-loop μ-loop
+slice-read-words c = search needs
 
-add-slice : tie.Need-add-slice Inv-loop μ-loop
-add-slice c = search needs
+add-words : tie.Need-add-words Inv-loop μ-loop
+add-words c = search needs
 
-mul-slice-2 : tie.Need-mul-slice-2 Inv-loop μ-loop
-mul-slice-2 c = search needs
+mul-words-2 : tie.Need-mul-words-2 Inv-loop μ-loop
+mul-words-2 c = search needs
 
-slice-write-slice : tie.Need-slice-write-slice Inv-loop μ-loop
-slice-write-slice c = search needs
+slice-write-words : tie.Need-slice-write-words Inv-loop μ-loop
+slice-write-words c = search needs
 
 add-at : tie.Need-add-at Inv-loop μ-loop
 add-at c = search needs
-
-sub-left : tie.Need-sub-left Inv-loop μ-loop
-sub-left c = search needs
 
 loop-less : tie.Need-loop-less Inv-loop μ-loop
 loop-less c = search needs
@@ -59,8 +57,8 @@ same-length-3 c = search needs
 returns-3 : tie.Need-returns-3 Inv-loop μ-loop
 returns-3 c = search needs
 
-pub rise-spec : {M : Type 1} → statement M
-rise-spec =
+pub spread-spec : {M : Type 1} → statement M
+spread-spec =
     tie.close
     (tie.spec
     Inv-loop
@@ -70,13 +68,12 @@ rise-spec =
     returns
     same-length-2
     returns-2
-    mul-slice
-    slice-read-slice
-    add-slice
-    mul-slice-2
-    slice-write-slice
+    mul-words
+    slice-read-words
+    add-words
+    mul-words-2
+    slice-write-words
     add-at
-    sub-left
     loop-less
     loop-again
     same-length-3
