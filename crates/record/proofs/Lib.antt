@@ -1,6 +1,4 @@
-pub mod Writing
-pub mod Blocks
-pub mod Whole
-pub mod Steady
-pub mod Keeping
-pub mod Records
+pub mod Reading
+pub mod Ruling
+pub mod Rows
+pub mod Sheets

@@ -1,11 +1,12 @@
 -- What one record asks, and what becomes of it.
-use mathlib.Core.List.{List}
+use mathlib.Core.List.{List, [], _∷_}
 use Prim.Native.Nat.{ℕ}
 use lib.ListN.{getD, replicate}
 use Rattle.tree.specs.Laid.{usedOf}
 use Rattle.tree.specs.Refusal.{codeOf}
 use Rattle.tree.specs.Calls.{Called, insertion}
 use Rattle.walk.specs.Query.{witnessWords, query}
+use Rattle.book.specs.Book.{Call, insert}
 use Rattle.tree.specs.declared.CallAnswer.{CallAnswer}
 use Rattle.tree.specs.declared.CallAnswer.the-variants as call
 use Rattle.walk.specs.declared.QueryAnswer.{QueryAnswer}
@@ -51,3 +52,13 @@ answeredAs (NotCovered c) T x = inserted (insertion T (x .words) (x .number))
 -- a record queried, and inserted where it is not covered; the answer to a query does not depend on the words of its witness
 unfoldable pub answered : (slice : List ℕ) → Record → Answered
 answered T x = answeredAs (query T (x .words) budget (replicate witnessWords 0) .answer) T x
+
+-- the calls that an answer to a query brings about: the record is inserted exactly if it is not covered
+abbrev pub callsOn : QueryAnswer → Record → List Call
+callsOn (Unanswered r) x = []
+callsOn (Covered n c) x = []
+callsOn (NotCovered c) x = insert (x .words) (x .number) ∷ []
+
+-- the calls that are made for a record on a slice; one may be refused
+unfoldable pub callsFor : (slice : List ℕ) → Record → List Call
+callsFor T x = callsOn (query T (x .words) budget (replicate witnessWords 0) .answer) x

@@ -2,4 +2,5 @@ pub mod Text
 pub mod Line
 pub mod Answer
 pub mod Output
-pub mod Feed
+pub mod Ruled
+pub mod Sheet

@@ -1,11 +1,12 @@
 -- What the program prints for an input.
 use mathlib.Core.List.{List, [], _∷_, _++_}
-use mathlib.Core.Bool.{true, false}
+use mathlib.Core.Bool.{Bool, true, false}
 use Prim.Native.Nat.{ℕ, zero, suc, _+_, _*_}
 use lib.Dec.{leb}
 use lib.ListN.{length, take, drop, replicate}
+use Rattle.book.specs.Book.{Call}
 use Rattle.record.specs.Line.{lineOf, totalsLine}
-use Rattle.record.specs.Answer.{treeWords, Record, answered}
+use Rattle.record.specs.Answer.{treeWords, Record, answered, callsFor}
 use Rattle.record.specs.declared.Outcome.{Outcome}
 use Rattle.record.specs.declared.Outcome.the-variants.{Kept, Struck, Refused}
 use Rattle.record.specs.declared.Totals.{Totals}
@@ -18,13 +19,17 @@ fields [] = []
 fields (a ∷ []) = []
 fields (a ∷ b ∷ bs) = (a * 256 + b) ∷ fields bs
 
+-- the words of a record are all there
+abbrev pub allThere : (count : ℕ) (words : List ℕ) → Bool
+allThere count ws = leb count (length ws)
+
 -- the records of some fields: number, word count, words; a cut record is none. The fuel is at least the number of fields, and does not matter then
 unfoldable pub recordsFor : (fuel : ℕ) → List ℕ → List Record
 recordsFor zero fs = []
 recordsFor (suc f) [] = []
 recordsFor (suc f) (n ∷ []) = []
 recordsFor (suc f) (n ∷ count ∷ ws) =
-    elim (leb count (length ws)) [ true ↦ record { number = n; words = take count ws } ∷ recordsFor f (drop count ws) | false ↦ [] ]
+    elim (allThere count ws) [ true ↦ record { number = n; words = take count ws } ∷ recordsFor f (drop count ws) | false ↦ [] ]
 
 -- the records of an input, whatever their word counts
 unfoldable pub recordsOf : (input : List ℕ) → List Record
@@ -32,15 +37,40 @@ recordsOf bs = recordsFor (length (fields bs)) (fields bs)
 
 -- ---- one record after another
 
--- what is kept from record to record: the tree's slice and the totals
-pub record State : Type 0 where
-  pub slice : List ℕ
-  pub totals : Totals
+-- a row of the sheet: a record, what becomes of it, and the calls that are made for it
+pub record Row : Type 0 where
+  pub of : Record
+  pub outcome : Outcome
+  pub calls : List Call
 
--- some text that is printed, and the state after it
-pub record Printed : Type 0 where
-  pub text : List ℕ
-  pub state : State
+-- the row of a record that is asked on a slice
+unfoldable pub rowOn : (slice : List ℕ) → Record → Row
+rowOn T x = record { of = x; outcome = answered T x .outcome; calls = callsFor T x }
+
+-- the rows of some records, the first asked on a slice, and each other one on the slice as the one before it left it
+unfoldable pub rowsFrom : (slice : List ℕ) → List Record → List Row
+rowsFrom T [] = []
+rowsFrom T (x ∷ xs) = rowOn T x ∷ rowsFrom (answered T x .slice) xs
+
+-- the slice before the first record: fresh, all zeros
+abbrev pub zeros : List ℕ
+zeros = replicate treeWords 0
+
+-- the rows of an input
+unfoldable pub rowsOf : (input : List ℕ) → List Row
+rowsOf bs = rowsFrom zeros (recordsOf bs)
+
+-- the calls of some rows
+abbrev pub callsOf : List Row → List Call
+callsOf [] = []
+callsOf (r ∷ rs) = r .calls ++ callsOf rs
+
+-- ---- what is printed
+
+-- the lines of some rows
+abbrev pub linesOf : List Row → List ℕ
+linesOf [] = []
+linesOf (r ∷ rs) = lineOf (r .of .number) (r .outcome) ++ linesOf rs
 
 -- the totals with one more outcome
 abbrev pub counted : Outcome → Totals → Totals
@@ -48,28 +78,15 @@ counted (Kept used) t = record { kept = t .kept + 1; struck = t .struck; refused
 counted (Struck n c) t = record { kept = t .kept; struck = t .struck + 1; refused = t .refused }
 counted (Refused code) t = record { kept = t .kept; struck = t .struck; refused = t .refused + 1 }
 
--- one record: its line, and the state after it
-unfoldable pub step : State → Record → Printed
-step s x =
-    let a = answered (s .slice) x in
-    record { text = lineOf (x .number) (a .outcome); state = record { slice = a .slice; totals = counted (a .outcome) (s .totals) } }
-
--- one record after another
-abbrev pub run : State → List Record → Printed
-run s [] = record { text = []; state = s }
-run s (x ∷ xs) =
-    let p = step s x in
-    let q = run (p .state) xs in
-    record { text = p .text ++ q .text; state = q .state }
+-- the totals with the outcomes of some rows
+abbrev pub totalsWith : Totals → List Row → Totals
+totalsWith t [] = t
+totalsWith t (r ∷ rs) = totalsWith (counted (r .outcome) t) rs
 
 -- no records yet
 abbrev pub none : Totals
 none = record { kept = 0; struck = 0; refused = 0 }
 
--- the state before the first record: the fresh slice, all zeros
-unfoldable pub start : State
-start = record { slice = replicate treeWords 0; totals = none }
-
--- the whole output: the lines of the records, and the last line
+-- the whole output: the lines of the rows, and the last line
 unfoldable pub outputOf : (input : List ℕ) → List ℕ
-outputOf bs = let p = run start (recordsOf bs) in p .text ++ totalsLine (p .state .totals)
+outputOf bs = linesOf (rowsOf bs) ++ totalsLine (totalsWith none (rowsOf bs))

@@ -1,15 +1,15 @@
 // The program: it reads records from standard input, and writes what becomes of them to standard output (document 01, "The program").
-// Every line is made by `record::feed`; here is only what moves the bytes.
+// Every line is made by `feeding::feed`; here is only what moves the bytes.
+use feeding::Session;
+use feeding::begin;
+use feeding::feed;
 use libc::STDIN_FILENO;
 use libc::STDOUT_FILENO;
-use record::Session;
-use record::begin;
-use record::feed;
-use record::put_totals;
+use lines::put_totals;
 ghost use mathlib.Core.Path.{_≡_};
 ghost use Prim.Native.Nat.{_+_, _^_, _≤_, _<_};
 ghost use lib.ListN.{length};
-ghost use Rattle.record.specs.Feed.{Steady, recordsIn};
+ghost use Rattle.feeding.specs.Feed.{Steady, recordsIn};
 
 // Feeds a block, and writes what it prints, as often as the output is full.
 fn feed_block(

@@ -5,7 +5,7 @@ use native.Mathlib.Omega.{arith}
 use borrow.Author.Needs.{needs}
 use lib.ListN.{length, take, drop, length-take, length-drop}
 use lib.Seq.{length-take-le}
-use Rattle.record.specs.Feed.{Steady, recordsIn}
+use Rattle.feeding.specs.Feed.{Steady, recordsIn}
 use Rattle.subsume.proofs.feed_block.Statement.{statement}
 use Rattle.subsume.proofs.feed_block.Tie as tie
 

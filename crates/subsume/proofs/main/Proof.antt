@@ -1,7 +1,7 @@
 -- The buffers, all zeros: the fresh slice and no marks.
 use mathlib.Core.Path.{refl}
 use native.Mathlib.Omega.{arith}
-use Rattle.record.proofs.Steady.{steady-fresh}
+use Rattle.feeding.proofs.Steady.{steady-fresh}
 use borrow.Author.Needs.{needs}
 use Rattle.subsume.proofs.main.Statement.{statement}
 use Rattle.subsume.proofs.main.Tie as tie

@@ -5,7 +5,7 @@ use Prim.Native.Nat.{_+_, _*_, _≤_}
 use native.Mathlib.Omega.{arith}
 use lib.ListN.{length}
 use lib.Seq.{length-take-le}
-use Rattle.record.specs.Feed.{Steady, recordsIn}
+use Rattle.feeding.specs.Feed.{Steady, recordsIn}
 use Rattle.subsume.proofs.run.Statement.{statement}
 use Rattle.subsume.proofs.run.Tie as tie
 

@@ -1,0 +1,5 @@
+pub mod Blocks
+pub mod Whole
+pub mod Steady
+pub mod Keeping
+pub mod Records

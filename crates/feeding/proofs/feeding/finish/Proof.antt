@@ -1,0 +1,42 @@
+-- The outcome, its line, the totals.
+use Rattle.feeding.specs.Feed.{storeOf}
+use Rattle.feeding.proofs.Blocks.{finishes}
+use borrow.Author.Needs.{needs}
+use Rattle.feeding.proofs.feeding.finish.Statement.{statement}
+use Rattle.feeding.proofs.feeding.finish.Tie as tie
+
+outcome-of-requires : tie.Need-outcome-of-requires
+outcome-of-requires c κs = search needs
+
+put-line-requires : tie.Need-put-line-requires
+put-line-requires c κs = search needs
+
+count-outcome-requires : tie.Need-count-outcome-requires
+count-outcome-requires c κs = search needs
+
+same-length : tie.Need-same-length
+same-length c = search needs
+
+same-length-2 : tie.Need-same-length-2
+same-length-2 c = search needs
+
+same-length-3 : tie.Need-same-length-3
+same-length-3 c = search needs
+
+returns : tie.Need-returns
+returns c =
+    let a = c .before .before .before .before .before .before .before .before .before .before .before .before .before .before .before .before .before .args in
+    let p = c .before .before .before .put-line .ensures in
+    (finishes (a .number) (a .count) (a .totals) (storeOf (a .words .now) (a .tree .now) (a .marks .now)) (a .output .now) (a .at) (c .before .before .before .before .before .before .before .before .before .outcome-of .ensures) (c .count-outcome .ensures) (p .0), p .1)
+
+pub finish-spec : {M : Type 1} → statement M
+finish-spec =
+    tie.close
+    (tie.spec
+    outcome-of-requires
+    put-line-requires
+    count-outcome-requires
+    same-length
+    same-length-2
+    same-length-3
+    returns)

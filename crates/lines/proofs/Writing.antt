@@ -1,0 +1,123 @@
+-- The digits of a number without fuel, and text put into the output piece by piece.
+use mathlib.Core.Path.{_≡_, refl, sym, ap, _∙_}
+use mathlib.Core.List.{List, [], _∷_, _++_}
+use mathlib.Core.Bool.{Bool, true, false}
+use Prim.Native.Nat.{ℕ, zero, suc, _+_, _/_, _%_, _^_, _≤_, _<_}
+use native.Mathlib.Omega.{arith}
+use native.Mathlib.Decide.{decLt}
+use native.Mathlib.Numerals.{add-one}
+use lib.ListN.{length, take, getD, length-append, set}
+use lib.Seq.{sets, set-comm, length-sets, take-suc, length-take-le}
+use borrow.Author.Tests.{lt-ltb, le-ltb}
+use Rattle.record.specs.Text.{digitsFor, decimal, Written, written}
+
+-- one digit, or the digits before the last one and the last one
+digits-small : (f n : ℕ) → n < 10 → digitsFor (suc f) n ≡ (48 + n) ∷ []
+unfolding digitsFor
+digits-small f n h = ap (λ (b : Bool). elim b as (λ x. List ℕ) [ true ↦ (48 + n) ∷ [] | false ↦ digitsFor f (n / 10) ++ ((48 + n % 10) ∷ []) ]) (lt-ltb n 10 h)
+
+digits-large : (f n : ℕ) → 10 ≤ n → digitsFor (suc f) n ≡ digitsFor f (n / 10) ++ ((48 + n % 10) ∷ [])
+unfolding digitsFor
+digits-large f n h = ap (λ (b : Bool). elim b as (λ x. List ℕ) [ true ↦ (48 + n) ∷ [] | false ↦ digitsFor f (n / 10) ++ ((48 + n % 10) ∷ []) ]) (le-ltb n 10 h)
+
+-- the fuel does not matter
+digits-fuel : (f g n : ℕ) → n < f → n < g → digitsFor f n ≡ digitsFor g n
+digits-fuel zero g n h k = absurd (omega arith)
+digits-fuel (suc f) zero n h k = absurd (omega arith)
+digits-fuel (suc f) (suc g) n h k = go (decLt n 10) (digits-fuel f g (n / 10))
+  where
+    go : Dec (n < 10) → (n / 10 < f → n / 10 < g → digitsFor f (n / 10) ≡ digitsFor g (n / 10)) → digitsFor (suc f) n ≡ digitsFor (suc g) n
+    go (yes s) ih = digits-small f n s ∙ sym (digits-small g n s)
+    go (no s) ih =
+        let e : digitsFor f (n / 10) ≡ digitsFor g (n / 10) = ih (omega arith) (omega arith) in
+        digits-large f n (omega arith) ∙ rw e (sym (digits-large g n (omega arith)))
+
+pub decimal-small : (n : ℕ) → n < 10 → decimal n ≡ (48 + n) ∷ []
+unfolding decimal
+decimal-small n h = digits-small n n h
+
+pub decimal-large : (n : ℕ) → 10 ≤ n → decimal n ≡ decimal (n / 10) ++ ((48 + n % 10) ∷ [])
+unfolding decimal
+decimal-large n h =
+    let e : digitsFor n (n / 10) ≡ digitsFor (suc (n / 10)) (n / 10) = digits-fuel n (suc (n / 10)) (n / 10) (omega arith) (omega arith) in
+    digits-large n n h ∙ rw e
+
+-- text in two pieces
+sets-append : (s t o : List ℕ) (at : ℕ) → sets o at (s ++ t) ≡ sets (sets o at s) (at + length s) t
+sets-append [] t o at = let e : at + 0 ≡ at = omega arith in rw e
+sets-append (b ∷ s) t o at = let e : at + suc (length s) ≡ suc at + length s = omega arith in rw e (sets-append s t (set o at b) (suc at))
+
+pub written-append : (s t o : List ℕ) (at : ℕ) → written (s ++ t) o at ≡ written t (written s o at .output) (written s o at .next)
+written-append s t o at = rw (length-append, sets-append s t o at) (let e : at + (length s + length t) ≡ (at + length s) + length t = omega arith in rw e)
+
+-- the place after some text, and the output's length
+pub placed : (t o : List ℕ) (at : ℕ) {r : ℕ} {p : List ℕ} → _≡_ {A = Written} (record { next = r; output = p }) (written t o at)
+    → (r ≡ at + length t) × (length p ≡ length o)
+placed t o at e = (ap (λ (w : Written). w .next) e, ap (λ (w : Written). length (w .output)) e ∙ length-sets o at t)
+
+-- ---- a number, digit after digit
+
+pub length-small : (n : ℕ) → n < 10 → length (decimal n) ≡ 1
+length-small n h = ap length (decimal-small n h)
+
+pub length-large : (n : ℕ) → 10 ≤ n → length (decimal n) ≡ length (decimal (n / 10)) + 1
+length-large n h = ap length (decimal-large n h) ∙ length-append (decimal (n / 10)) ((48 + n % 10) ∷ [])
+
+-- every number has a digit
+pub decimal-some : (n : ℕ) → 0 < length (decimal n)
+decimal-some n = go (decLt n 10)
+  where
+    go : Dec (n < 10) → 0 < length (decimal n)
+    go (yes s) = omega (arith, length-small n s)
+    go (no s) = omega (arith, length-large n (omega arith))
+
+-- a byte after some text may be put before the text
+sets-set : (t o : List ℕ) (at i b : ℕ) → at + length t ≤ i → set (sets o at t) i b ≡ sets (set o i b) at t
+sets-set [] o at i b h = refl
+sets-set (a ∷ t) o at i b h = sets-set t (set o at a) (suc at) i b (omega arith) ∙ rw (set-comm o at i a b (λ e. omega arith))
+
+-- a number's last digit first, and then the digits before it
+pub put-last : (n : ℕ) (o : List ℕ) (at last : ℕ) → 10 ≤ n → last + 1 ≡ at + length (decimal n)
+    → sets o at (decimal n) ≡ sets (set o last (48 + n % 10)) at (decimal (n / 10))
+put-last n o at last h e =
+    let l : at + length (decimal (n / 10)) ≡ last = omega (arith, length-large n h) in
+    rw (decimal-large n h, sets-append, l) (sets-set (decimal (n / 10)) o at last (48 + n % 10) (omega arith))
+
+-- the only digit
+pub put-only : (n : ℕ) (o : List ℕ) (at last : ℕ) → n < 10 → last + 1 ≡ at + length (decimal n) → sets o at (decimal n) ≡ set o last (48 + n)
+put-only n o at last h e = let l : last ≡ at = omega (arith, length-small n h) in rw (l, decimal-small n h)
+
+-- ---- a text, byte after byte
+
+pub put-more : (t o p : List ℕ) (at i : ℕ) → i < length t → p ≡ sets o at (take i t) → set p (at + i) (getD t i 0) ≡ sets o at (take (i + 1) t)
+put-more t o p at i h e =
+    let l : length (take i t) ≡ i = length-take-le i t (omega arith) in
+    rw (add-one, take-suc t i 0, sets-append, l, e)
+
+-- ---- a text in pieces
+
+-- room for the whole is room for the first piece
+pub first-fits : (s t : List ℕ) (at n : ℕ) → at + length (s ++ t) ≤ n → at + length s ≤ n
+first-fits s t at n h = omega (arith, length-append s t)
+
+-- and after it for the rest
+pub rest-fits : (s t o : List ℕ) (at : ℕ) {r : ℕ} {p : List ℕ} → at + length (s ++ t) ≤ length o
+    → _≡_ {A = Written} (record { next = r; output = p }) (written s o at) → r + length t ≤ length p
+rest-fits s t o at h e =
+    omega (arith, length-append s t, placed s o at e)
+
+-- the first piece and then the rest is the whole
+pub joined : (s t o : List ℕ) (at : ℕ) {r : ℕ} {p : List ℕ} {w : Written} → _≡_ {A = Written} (record { next = r; output = p }) (written s o at)
+    → w ≡ written t p r → w ≡ written (s ++ t) o at
+joined s t o at e f = f ∙ ap (λ (v : Written). written t (v .output) (v .next)) e ∙ sym (written-append s t o at)
+
+-- ---- how long a number is
+
+-- a number below 10 to the power k + 1 has at most k + 1 digits
+pub decimal-length : (k n : ℕ) → n < 10 ^ suc k → length (decimal n) ≤ suc k
+decimal-length zero n h = omega (arith, length-small n (omega arith))
+decimal-length (suc k) n h = go (decLt n 10) (decimal-length k (n / 10))
+  where
+    go : Dec (n < 10) → (n / 10 < 10 ^ suc k → length (decimal (n / 10)) ≤ suc k) → length (decimal n) ≤ suc (suc k)
+    go (yes s) ih = omega (arith, length-small n s)
+    go (no s) ih = omega (arith, length-large n (omega arith), ih (omega arith))

@@ -1,0 +1,50 @@
+// The line of a record, and the last line.
+use crate::text::put_decimal;
+use crate::text::put_named;
+use crate::text::put_text;
+use record::Outcome;
+use record::Totals;
+ghost use mathlib.Core.Path.{_≡_};
+ghost use Prim.Native.Nat.{_+_, _≤_};
+ghost use lib.ListN.{length};
+ghost use Rattle.record.specs.Text.{written};
+ghost use Rattle.record.specs.Line.{saying, lineOf, totalsLine};
+
+// Puts what became of a record at a place of the output, and gives the place after it. It takes at most 39 bytes: 8 + 10 + 1 + 20.
+fn put_outcome(output: &mut [u8], at: usize, outcome: Outcome) -> usize
+    requires { ⌜ at + 39 ≤ length (now output) ⌝ }
+    ensures text { λ r. ⌜ record { next = r; output = now (output .exit) } ≡ written (saying outcome) (now (output .entry)) at ⌝ }
+    ensures short { λ r. ⌜ r ≤ at + 39 ⌝ }
+{
+    match outcome {
+        Outcome::Kept(used) => put_named(output, at, b" kept ", used),
+        Outcome::Struck(covering, candidates) => {
+            let next = put_named(output, at, b" struck ", covering as u64);
+            put_named(output, next, b" ", candidates)
+        }
+        Outcome::Refused(code) => put_named(output, at, b" refused ", code as u64),
+    }
+}
+
+// Puts the line of a record at a place of the output, and gives the place after it. A line takes at most 45 bytes.
+pub fn put_line(output: &mut [u8], at: usize, number: u16, outcome: Outcome) -> usize
+    requires { ⌜ at + 45 ≤ length (now output) ⌝ }
+    ensures text { λ r. ⌜ record { next = r; output = now (output .exit) } ≡ written (lineOf number outcome) (now (output .entry)) at ⌝ }
+    ensures short { λ r. ⌜ r ≤ at + 45 ⌝ }
+{
+    let next = put_decimal(output, at, number as u64);
+    let end = put_outcome(output, next, outcome);
+    put_text(output, end, b"\n")
+}
+
+// Puts the last line at a place of the output, and gives the place after it. It takes at most 83 bytes.
+pub fn put_totals(output: &mut [u8], at: usize, totals: Totals) -> usize
+    requires { ⌜ at + 83 ≤ length (now output) ⌝ }
+    ensures text { λ r. ⌜ record { next = r; output = now (output .exit) } ≡ written (totalsLine totals) (now (output .entry)) at ⌝ }
+    ensures short { λ r. ⌜ r ≤ at + 83 ⌝ }
+{
+    let struck = put_named(output, at, b"kept ", totals.kept);
+    let refused = put_named(output, struck, b" struck ", totals.struck);
+    let end = put_named(output, refused, b" refused ", totals.refused);
+    put_text(output, end, b"\n")
+}

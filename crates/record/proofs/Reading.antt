@@ -1,0 +1,89 @@
+-- The records of an input: all that are complete, with words of 16 bits.
+use mathlib.Core.Path.{_≡_, refl, sym, ap, _∙_}
+use mathlib.Core.Bool.{Bool, true, false}
+use mathlib.Core.List.{List, [], _∷_, _++_, append-assoc}
+use Prim.Native.Nat.{ℕ, zero, suc, _+_, _*_, _≤_, _<_}
+use native.Mathlib.Omega.{arith}
+use lib.ListN.{length, take, drop, length-append, length-drop, take-append-drop}
+use lib.Seq.{length-take-le}
+use borrow.Author.Tests.{leb-true, leb-false}
+use Rattle.clause.specs.Lists.{All, none, also}
+use Rattle.clause.specs.Word.{Words}
+use Rattle.book.specs.Book.{insert, Fit}
+use Rattle.record.specs.Answer.{Record}
+use Rattle.record.specs.Output.{fields, allThere, recordsFor, recordsOf}
+use Rattle.record.specs.Sheet.{Bytes, fieldsOf, allFields, Complete}
+use Rattle.clause.proofs.Lists.{all-take}
+
+-- ---- all that are complete
+
+-- too few fields for a record
+short : (x : Record) (ys fs : List ℕ) → length fs < 2 → fs ≡ fieldsOf x ++ ys → ⊥
+short x ys fs h e = omega (arith, ap length e)
+
+-- a record whose words are not all there
+missing : (n count : ℕ) (ws : List ℕ) → length ws < count → (x : Record) (ys : List ℕ) → n ∷ count ∷ ws ≡ fieldsOf x ++ ys → ⊥
+missing n count ws h x ys e =
+    let c : count ≡ length (x .words) = cc in
+    let w : ws ≡ x .words ++ ys = cc in
+    omega (arith, ap length w, length-append (x .words) ys)
+
+-- a whole record, and then the others
+whole-first : (n count : ℕ) (ws : List ℕ) (xs : List Record) → count ≤ length ws → Complete xs (drop count ws)
+    → Complete (record { number = n; words = take count ws } ∷ xs) (n ∷ count ∷ ws)
+whole-first n count ws xs h c =
+    let l : length (take count ws) ≡ count = length-take-le count ws h in
+    record {
+      rest = c .rest;
+      whole = rw l (ap (λ (t : List ℕ). n ∷ count ∷ t) (sym (take-append-drop count ws) ∙ ap (λ (t : List ℕ). take count ws ++ t) (c .whole) ∙ sym (append-assoc (take count ws) (allFields xs) (c .rest))));
+      cut = c .cut;
+    }
+
+complete-from : (f : ℕ) (fs : List ℕ) → length fs ≤ f → Complete (recordsFor f fs) fs
+unfolding recordsFor
+complete-from zero [] h = record { rest = []; whole = refl; cut = λ x ys e. short x ys [] (omega arith) e }
+complete-from zero (n ∷ fs) h = absurd (omega arith)
+complete-from (suc f) [] h = record { rest = []; whole = refl; cut = λ x ys e. short x ys [] (omega arith) e }
+complete-from (suc f) (n ∷ []) h = record { rest = n ∷ []; whole = refl; cut = λ x ys e. short x ys (n ∷ []) (omega arith) e }
+complete-from (suc f) (n ∷ count ∷ ws) h = go (allThere count ws) refl (complete-from f (drop count ws) (simp length-drop (omega arith)))
+  where
+    go : (b : Bool) → allThere count ws ≡ b → Complete (recordsFor f (drop count ws)) (drop count ws)
+        → Complete (elim b as (λ y. List Record) [ true ↦ record { number = n; words = take count ws } ∷ recordsFor f (drop count ws) | false ↦ [] ]) (n ∷ count ∷ ws)
+    go true e c = whole-first n count ws (recordsFor f (drop count ws)) (leb-true count (length ws) e) c
+    go false e c = record { rest = n ∷ count ∷ ws; whole = refl; cut = missing n count ws (leb-false count (length ws) e) }
+
+pub complete : (input : List ℕ) → Complete (recordsOf input) (fields input)
+unfolding recordsOf
+complete input = complete-from (length (fields input)) (fields input) (omega arith)
+
+-- ---- words of 16 bits
+
+-- the words of a record have 16 bits, and its number 32
+abbrev pub FitRecord : Record → Type 0
+FitRecord x = Fit (insert (x .words) (x .number))
+
+fields-fit : (bs : List ℕ) → Bytes bs → Words (fields bs)
+fields-fit [] h = none
+fields-fit (a ∷ []) h = none
+fields-fit (a ∷ b ∷ bs) (also p (also q r)) = also {x = a * 256 + b} (omega arith) (fields-fit bs r)
+
+words-drop : (n : ℕ) (ws : List ℕ) → Words ws → Words (drop n ws)
+words-drop zero ws h = h
+words-drop (suc n) [] h = none
+words-drop (suc n) (w ∷ ws) (also p h) = words-drop n ws h
+
+records-fit : (f : ℕ) (fs : List ℕ) → Words fs → All FitRecord (recordsFor f fs)
+unfolding recordsFor
+records-fit zero fs h = none
+records-fit (suc f) [] h = none
+records-fit (suc f) (n ∷ []) h = none
+records-fit (suc f) (n ∷ count ∷ ws) (also p (also q r)) = go (allThere count ws) (records-fit f (drop count ws) (words-drop count ws r))
+  where
+    go : (b : Bool) → All FitRecord (recordsFor f (drop count ws))
+        → All FitRecord (elim b as (λ y. List Record) [ true ↦ record { number = n; words = take count ws } ∷ recordsFor f (drop count ws) | false ↦ [] ])
+    go true ih = also {x = record { number = n; words = take count ws }} (all-take count r, omega arith) ih
+    go false ih = none
+
+pub input-fits : (input : List ℕ) → Bytes input → All FitRecord (recordsOf input)
+unfolding recordsOf
+input-fits input h = records-fit (length (fields input)) (fields input) (fields-fit input h)

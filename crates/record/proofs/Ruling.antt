@@ -1,0 +1,380 @@
+-- One record, by the clauses of the book before it.
+use mathlib.Core.Path.{_≡_, refl, sym, ap, ap₂, _∙_}
+use mathlib.Core.Logic.{_⊎_, inl, inr}
+use mathlib.Core.Bool.{Bool, true, false}
+use mathlib.Core.Option.{Option, none as nobody, some}
+use mathlib.Core.List.{List, [], _∷_, map, List·Memᴰ, List·Memᴰ·head, List·Memᴰ·tail, List·Memᴰ·eq-of-singleton}
+use Prim.Native.Nat.{ℕ, _≤_, _<_}
+use native.Mathlib.Omega.{arith}
+use native.Mathlib.Decide.{decLe}
+use lib.Dec.{leb}
+use lib.ListN.{length, getD, replicate, length-replicate}
+use borrow.Author.Tests.{leb-true, leb-false}
+use Rattle.clause.specs.Lists.{none, also}
+use Rattle.clause.specs.Word.{Words}
+use Rattle.clause.specs.Clause.{shape, Accepted, Subsumes}
+use Rattle.machine.specs.Compile.{keys}
+use Rattle.machine.specs.Machine.{State, initial}
+use Rattle.tree.specs.Forest.{Forest, size, leaves, layout, ins, find, holder, Has, Body, Free}
+use Rattle.tree.specs.Laid.{maxKept, usedOf}
+use Rattle.tree.specs.Entries.{Pair, Sound, entry, Mirrors, Apart, build}
+use Rattle.tree.specs.Changes.{Change, refuse, change, insertInto}
+use Rattle.tree.specs.Calls.{Called, changed}
+use Rattle.tree.specs.Refusal.{codeOf}
+use Rattle.walk.specs.Walk.{Answer, covered, notCovered, spent, broken, upTo, walk}
+use Rattle.walk.specs.Query.{machine, witnessWords, told, query}
+use Rattle.walk.specs.Covering.{Subsumed, candidates, IsCovered, IsNotCovered, IsSpent, Answers}
+use Rattle.book.specs.Book.{insert, Fit, AllFit, after, bookStep, bookFrom, treeOf}
+use Rattle.record.specs.Answer.{budget, treeWords, Record, insertedAs, answeredAs, answered, callsOn, callsFor}
+use Rattle.record.specs.Ruled.{pairOf, Numbered, wordsOf, Decided, Uncovered, Takes, Strikes, Reason, faulty, number-taken, list-full, no-room, over-budget, Ruled}
+use Rattle.clause.specs.declared.Fault.{Fault}
+use Rattle.clause.specs.declared.Fault.the-variants.{BadLength, Bad, Ninth}
+use Rattle.clause.specs.declared.Shape.{Shape}
+use Rattle.clause.specs.declared.Shape.the-variants.{Faulty, Whole}
+use Rattle.tree.specs.declared.Refusal.{Refusal}
+use Rattle.tree.specs.declared.Refusal.the-variants.{BadClause, NumberTaken, Held, ListFull, NoRoom, Spent}
+use Rattle.tree.specs.declared.CallAnswer.the-variants as call
+use Rattle.walk.specs.declared.QueryAnswer.{QueryAnswer}
+use Rattle.walk.specs.declared.QueryAnswer.the-variants.{Unanswered, Covered, NotCovered}
+use Rattle.record.specs.declared.Outcome.{Outcome}
+use Rattle.record.specs.declared.Outcome.the-variants.{Kept, Struck, Refused}
+use Rattle.clause.proofs.Literals.{accepted}
+use Rattle.clause.proofs.Order.{subsumes-refl}
+use Rattle.clause.proofs.Lists.{all-mem}
+use Rattle.machine.proofs.Codes.{sequence-plain}
+use Rattle.tree.proofs.Plain.{plain-body}
+use Rattle.tree.proofs.Words.{length-layout}
+use Rattle.tree.proofs.Delete.{find-none, find-some}
+use Rattle.tree.proofs.Held.{Holding, holding}
+use Rattle.tree.proofs.Count.{book-size}
+use Rattle.tree.proofs.InsertWords.{ins-leaves}
+use Rattle.tree.proofs.Mirror.{mirrors-ins, mirrors-build}
+use Rattle.tree.proofs.Changes.{Inserts, refused, grown, inserts}
+use Rattle.walk.proofs.Kept.{kept-pair, pair-kept, finds-shows, subsumes-finds}
+use Rattle.walk.proofs.Covering.{query-tree, answers, shows-subsumes}
+use Rattle.book.proofs.Holds.{Holds, holds-leaves}
+use Rattle.book.proofs.Step.{insertion-is}
+
+-- the witness of every query is long enough
+witness-long : witnessWords ≤ length {A = ℕ} (replicate witnessWords 0)
+witness-long = rw (length-replicate {A = ℕ} witnessWords 0) (omega arith)
+
+-- ---- a variant of a clause is subsumed by it
+
+variant-subsumed : (p : Pair) (d : List ℕ) → Sound p → Accepted d → Words d → keys d ≡ keys (p .clause) → Subsumes (p .clause) d
+variant-subsumed p d s D w e =
+    let q : Pair = record { number = p .number; clause = d } in
+    let F : Forest = build (map entry (p ∷ [])) in
+    let a : Apart (map entry (p ∷ [])) = record { body = plain-body (sequence-plain (p .clause) (accepted (p .clause) (s .accepted)) (s .words)); number = s .number; new = λ m k. k; rest = tt } in
+    let R : Mirrors F (map entry (p ∷ [])) = mirrors-build (map entry (p ∷ [])) a in
+    let Q : Mirrors F (map entry (q ∷ [])) = rw e R in
+    let (t, f) = subsumes-finds (q ∷ []) F (also (record { accepted = D; words = w; number = s .number }) none) Q d D q (List·Memᴰ·head refl) (subsumes-refl d) in
+    let (r, m, i, shows, spared) = finds-shows (p ∷ []) F (also s none) R d D (p .number) t f (replicate witnessWords 0) witness-long in
+    rw (List·Memᴰ·eq-of-singleton m) at (shows-subsumes (r .clause) d _ shows)
+
+-- ---- the cases exclude each other
+
+shape-faulty : {s : Shape} {n : ℕ} {f : Fault} → s ≡ Faulty f → s ≡ Whole n → ⊥
+shape-faulty e i = let j = sym e ∙ i in let z : _≡_ {A = ℕ} 0 1 = cc in omega arith
+
+module _ {K : List Pair} {x : Record} where
+  reason-subsumed : {c : ℕ} → Reason K x c → Decided K x → Subsumed K (x .words) → ⊥
+  reason-subsumed (faulty f e) d s = shape-faulty e (d .accepted .1)
+  reason-subsumed (number-taken u m) d s = u .unsubsumed s
+  reason-subsumed (list-full u m l) d s = u .unsubsumed s
+  reason-subsumed (no-room u m l r) d s = u .unsubsumed s
+  reason-subsumed (over-budget a b) d s = omega (arith, d .fits)
+
+  reason-takes : {c : ℕ} → Reason K x c → Takes K x → ⊥
+  reason-takes (faulty f e) t = shape-faulty e (t .uncovered .decided .accepted .1)
+  reason-takes (number-taken u m) t = t .new m
+  reason-takes (list-full u m l) t = omega (arith, t .few)
+  reason-takes (no-room u m l r) t = omega (arith, t .room)
+  reason-takes (over-budget a b) t = omega (arith, t .uncovered .decided .fits)
+
+  reason-only : {c d : ℕ} → Reason K x c → Reason K x d → c ≡ d
+  reason-only (faulty f e) (faulty g i) = let j = sym e ∙ i in let k : f ≡ g = cc in ap (λ (h : Fault). codeOf (BadClause h)) k
+  reason-only (faulty f e) (number-taken u m) = absurd (shape-faulty e (u .decided .accepted .1))
+  reason-only (faulty f e) (list-full u m l) = absurd (shape-faulty e (u .decided .accepted .1))
+  reason-only (faulty f e) (no-room u m l r) = absurd (shape-faulty e (u .decided .accepted .1))
+  reason-only (faulty f e) (over-budget a b) = absurd (shape-faulty e (a .1))
+  reason-only (number-taken u m) (faulty f e) = absurd (shape-faulty e (u .decided .accepted .1))
+  reason-only (number-taken u m) (number-taken v n) = refl
+  reason-only (number-taken u m) (list-full v n l) = absurd (n m)
+  reason-only (number-taken u m) (no-room v n l r) = absurd (n m)
+  reason-only (number-taken u m) (over-budget a b) = absurd (omega (arith, u .decided .fits))
+  reason-only (list-full u m l) (faulty f e) = absurd (shape-faulty e (u .decided .accepted .1))
+  reason-only (list-full u m l) (number-taken v n) = absurd (m n)
+  reason-only (list-full u m l) (list-full v n k) = refl
+  reason-only (list-full u m l) (no-room v n k r) = absurd (omega arith)
+  reason-only (list-full u m l) (over-budget a b) = absurd (omega (arith, u .decided .fits))
+  reason-only (no-room u m l r) (faulty f e) = absurd (shape-faulty e (u .decided .accepted .1))
+  reason-only (no-room u m l r) (number-taken v n) = absurd (m n)
+  reason-only (no-room u m l r) (list-full v n k) = absurd (omega arith)
+  reason-only (no-room u m l r) (no-room v n k s) = refl
+  reason-only (no-room u m l r) (over-budget a b) = absurd (omega (arith, u .decided .fits))
+  reason-only (over-budget a b) (faulty f e) = absurd (shape-faulty e (a .1))
+  reason-only (over-budget a b) (number-taken v n) = absurd (omega (arith, v .decided .fits))
+  reason-only (over-budget a b) (list-full v n k) = absurd (omega (arith, v .decided .fits))
+  reason-only (over-budget a b) (no-room v n k s) = absurd (omega (arith, v .decided .fits))
+  reason-only (over-budget a b) (over-budget c d) = refl
+
+  reason-code : {c : ℕ} → Reason K x c → List·Memᴰ c (3 ∷ 4 ∷ 5 ∷ 7 ∷ 10 ∷ 11 ∷ 12 ∷ [])
+  reason-code (faulty BadLength e) = List·Memᴰ·head refl
+  reason-code (faulty (Bad at) e) = List·Memᴰ·tail (List·Memᴰ·head refl)
+  reason-code (faulty (Ninth at) e) = List·Memᴰ·tail (List·Memᴰ·tail (List·Memᴰ·head refl))
+  reason-code (number-taken u m) = List·Memᴰ·tail (List·Memᴰ·tail (List·Memᴰ·tail (List·Memᴰ·head refl)))
+  reason-code (list-full u m l) = List·Memᴰ·tail (List·Memᴰ·tail (List·Memᴰ·tail (List·Memᴰ·tail (List·Memᴰ·head refl))))
+  reason-code (no-room u m l r) = List·Memᴰ·tail (List·Memᴰ·tail (List·Memᴰ·tail (List·Memᴰ·tail (List·Memᴰ·tail (List·Memᴰ·head refl)))))
+  reason-code (over-budget a b) = List·Memᴰ·tail (List·Memᴰ·tail (List·Memᴰ·tail (List·Memᴰ·tail (List·Memᴰ·tail (List·Memᴰ·tail (List·Memᴰ·head refl))))))
+
+  striking : {n k : ℕ} → Strikes K x n k → Subsumed K (x .words)
+  striking s = (s .striking, s .kept, s .subsumes)
+
+-- ---- what becomes of a record
+
+pub data Fate (K : List Pair) (x : Record) : Outcome → List Pair → Type 0 where
+  refuses : {c : ℕ} → Reason K x c → Fate K x (Refused c) K
+  strikes : {n k : ℕ} → Strikes K x n k → Fate K x (Struck n k) K
+  keeps : Takes K x → Fate K x (Kept (wordsOf (pairOf x ∷ K))) (pairOf x ∷ K)
+
+kept-code : (u c : ℕ) → Kept u ≡ Refused c → ⊥
+kept-code u c e = let z : _≡_ {A = ℕ} 0 1 = cc in omega arith
+
+kept-struck : (u n k : ℕ) → Kept u ≡ Struck n k → ⊥
+kept-struck u n k e = let z : _≡_ {A = ℕ} 0 1 = cc in omega arith
+
+struck-code : (n k c : ℕ) → Struck n k ≡ Refused c → ⊥
+struck-code n k c e = let z : _≡_ {A = ℕ} 0 1 = cc in omega arith
+
+pub ruled : {K : List Pair} {x : Record} {o : Outcome} {L : List Pair} → Fate K x o L → Ruled K x o L
+ruled {K} {x} (refuses {c = c} r) =
+    record {
+      struck = (λ s. absurd (struck-code (s .0) (s .1) c (sym (s .2))), λ d. absurd (reason-subsumed r (d .0) (d .1)));
+      strikes = λ n k. (λ e. absurd (struck-code n k c (sym e)), λ s. absurd (reason-subsumed r (s .decided) (striking s)));
+      kept = λ u. (λ e. absurd (kept-code u c (sym e)), λ t. absurd (reason-takes r (t .0)));
+      refused = λ d. (λ e. let i : c ≡ d = cc in rw i at r, λ q. ap Refused (reason-only r q));
+      codes = λ d e. let i : c ≡ d = cc in rw i at (reason-code r);
+      grows = λ k. absurd (kept-code (k .0) c (sym (k .1)));
+      stays = λ n. refl;
+    }
+ruled {K} {x} (strikes {n = n} {k = k} s) =
+    record {
+      struck = (λ e. (s .decided, striking s), λ d. (n, k, refl));
+      strikes = λ m l. (
+        λ e. let i : n ≡ m = cc in let j : k ≡ l = cc in rw (i, j) at s,
+        λ t. let w = sym (s .walked) ∙ t .walked in let i : n ≡ m = cc in let j : k ≡ l = cc in ap₂ Struck i j,
+      );
+      kept = λ u. (λ e. absurd (kept-struck u n k (sym e)), λ t. absurd (t .0 .uncovered .unsubsumed (striking s)));
+      refused = λ d. (λ e. absurd (struck-code n k d e), λ q. absurd (reason-subsumed q (s .decided) (striking s)));
+      codes = λ d e. absurd (struck-code n k d e);
+      grows = λ h. absurd (kept-struck (h .0) n k (sym (h .1)));
+      stays = λ m. refl;
+    }
+ruled {K} {x} (keeps t) =
+    record {
+      struck = (λ s. absurd (kept-struck (wordsOf (pairOf x ∷ K)) (s .0) (s .1) (s .2)), λ d. absurd (t .uncovered .unsubsumed (d .1)));
+      strikes = λ n k. (λ e. absurd (kept-struck (wordsOf (pairOf x ∷ K)) n k e), λ s. absurd (t .uncovered .unsubsumed (striking s)));
+      kept = λ u. (λ e. let i : wordsOf (pairOf x ∷ K) ≡ u = cc in (t, sym i), λ s. ap Kept (sym (s .1)));
+      refused = λ d. (λ e. absurd (kept-code (wordsOf (pairOf x ∷ K)) d e), λ q. absurd (reason-takes q t));
+      codes = λ d e. absurd (kept-code (wordsOf (pairOf x ∷ K)) d e);
+      grows = λ h. refl;
+      stays = λ n. absurd (n (wordsOf (pairOf x ∷ K), refl));
+    }
+
+-- ---- the insertion
+
+-- what an insertion does to the tree of the book, by the book
+data Tried (K : List Pair) (x : Record) : Change → Type 0 where
+  taken : Numbered K (x .number) → Tried K x (refuse NumberTaken)
+  varied : (m : ℕ) → Subsumed K (x .words) → Tried K x (refuse (Held m))
+  full : (Numbered K (x .number) → ⊥) → maxKept ≤ length K → Tried K x (refuse ListFull)
+  crowded : (Numbered K (x .number) → ⊥) → length K < maxKept → treeWords ≤ wordsOf (pairOf x ∷ K) → Tried K x (refuse NoRoom)
+  larger : (Numbered K (x .number) → ⊥) → length K < maxKept → wordsOf (pairOf x ∷ K) < treeWords → (G : Forest) → size G ≡ wordsOf (pairOf x ∷ K) → leaves G ≤ maxKept
+      → Tried K x (change G)
+
+-- the used words stand in the first word
+used-layout : (len : ℕ) (F : Forest) → leaves F ≤ maxKept → usedOf (getD (layout len F) 0 0) ≡ size F
+unfolding layout
+used-layout len F h = omega arith
+
+refuse≢change : (r : Refusal) (G : Forest) → refuse r ≡ change G → ⊥
+refuse≢change r G e = let z : _≡_ {A = ℕ} 0 1 = cc in omega arith
+
+module _ (K : List Pair) (F : Forest) (h : Holds treeWords K F) (x : Record) (f : Fit (insert (x .words) (x .number))) (q : ℕ) (s : shape (x .words) ≡ Whole q) where
+  body : Body (keys (x .words))
+  body = plain-body (sequence-plain (x .words) (accepted (x .words) (q, s)) (f .0))
+
+  -- a number that a Success has is in the book
+  find-numbered : (cs : List ℕ) → find (x .number) F ≡ some cs → Numbered K (x .number)
+  find-numbered cs u =
+      let (p, m, i, j) = kept-pair K cs (x .number) (h .keeps .mirrors .paths cs (x .number) .0 (find-some (x .number) F (f .1) (h .keeps .mirrors .formed) cs u)) in
+      (p, m, sym j)
+
+  find-new : find (x .number) F ≡ nobody → Numbered K (x .number) → ⊥
+  find-new u (p, m, e) =
+      find-none (x .number) F (f .1) (h .keeps .mirrors .formed) u (keys (p .clause))
+      (h .keeps .mirrors .paths (keys (p .clause)) (x .number) .1 (rw e at (pair-kept K p m)))
+
+  -- a sequence that is held is that of a clause that subsumes the record's
+  held-subsumed : (m : ℕ) → Has F (keys (x .words)) m → Subsumed K (x .words)
+  held-subsumed m w =
+      let (p, k, i, j) = kept-pair K (keys (x .words)) m (h .keeps .mirrors .paths (keys (x .words)) m .0 w) in
+      (p, k, variant-subsumed p (x .words) (all-mem (h .sound) k) (q, s) (f .0) i)
+
+  -- the larger tree has as many words as there are beginnings
+  larger-size : Free (keys (x .words)) F → size (ins (keys (x .words)) (x .number) F) ≡ wordsOf (pairOf x ∷ K)
+  larger-size w =
+      book-size (ins (keys (x .words)) (x .number) F) (map entry (pairOf x ∷ K))
+      (mirrors-ins F (map entry K) (entry (pairOf x)) (h .keeps .mirrors) body (f .1) (λ m p. w m (h .keeps .mirrors .paths (keys (x .words)) m .1 p)))
+
+  tried : Tried K x (insertInto treeWords F (entry (pairOf x)))
+  unfolding insertInto
+  tried =
+      go (find (x .number) F) refl (holder (keys (x .words)) F) refl (holding 0 (keys (x .words)) F (h .keeps .mirrors .formed)) (leb maxKept (leaves F)) refl
+      (leb treeWords (size (ins (keys (x .words)) (x .number) F))) refl
+    where
+      go : (o : Option (List ℕ)) → find (x .number) F ≡ o → (k : Option ℕ) → holder (keys (x .words)) F ≡ k → Holding (keys (x .words)) F k
+          → (a : Bool) → leb maxKept (leaves F) ≡ a → (b : Bool) → leb treeWords (size (ins (keys (x .words)) (x .number) F)) ≡ b
+          → Tried K x (insertInto treeWords F (entry (pairOf x)))
+      go (some cs) u k v w a i b j = rw (u, insertInto) (taken (find-numbered cs u))
+      go nobody u (some m) v w a i b j = rw (u, v, insertInto) (varied m (held-subsumed m w))
+      go nobody u nobody v w true i b j =
+          rw (u, v, i, insertInto) (full (find-new u) (omega (arith, holds-leaves h, leb-true maxKept (leaves F) i)))
+      go nobody u nobody v w false i true j =
+          rw (u, v, i, j, insertInto)
+          (crowded (find-new u) (omega (arith, holds-leaves h, leb-false maxKept (leaves F) i)) (omega (arith, larger-size w, leb-true treeWords (size (ins (keys (x .words)) (x .number) F)) j)))
+      go nobody u nobody v w false i false j =
+          rw (u, v, i, j, insertInto)
+          (larger (find-new u) (omega (arith, holds-leaves h, leb-false maxKept (leaves F) i)) (omega (arith, larger-size w, leb-false treeWords (size (ins (keys (x .words)) (x .number) F)) j))
+          (ins (keys (x .words)) (x .number) F) (larger-size w) (omega (arith, ins-leaves (keys (x .words)) (x .number) F body (f .1), leb-false maxKept (leaves F) i)))
+
+  -- the book after the insertion
+  inserting : Inserts treeWords F (map entry K) (entry (pairOf x))
+  inserting = inserts treeWords (entry (pairOf x)) F (map entry K) body (f .1) (h .keeps)
+
+  book-left : (r : Refusal) → insertInto treeWords F (entry (pairOf x)) ≡ refuse r → bookStep treeWords K (insert (x .words) (x .number)) ≡ K
+  unfolding bookStep
+  book-left r e = go inserting
+    where
+      go : Inserts treeWords F (map entry K) (entry (pairOf x)) → bookStep treeWords K (insert (x .words) (x .number)) ≡ K
+      go (refused r′ i b) = rw (s, b)
+      go (grown i b k new room few) = absurd (refuse≢change r _ (sym e ∙ i))
+
+  book-grown : (G : Forest) → insertInto treeWords F (entry (pairOf x)) ≡ change G → bookStep treeWords K (insert (x .words) (x .number)) ≡ pairOf x ∷ K
+  unfolding bookStep
+  book-grown G e = go inserting
+    where
+      go : Inserts treeWords F (map entry K) (entry (pairOf x)) → bookStep treeWords K (insert (x .words) (x .number)) ≡ pairOf x ∷ K
+      go (refused r i b) = absurd (refuse≢change r G (sym i ∙ e))
+      go (grown i b k new room few) = rw (s, b)
+
+  -- what an insertion makes of the record
+  abbrev Inserted : Change → Type 0
+  Inserted y =
+      let r : Called = changed (layout treeWords F) call.Kept y in
+      Fate K x (insertedAs (r .answer) (r .slice)) (bookStep treeWords K (insert (x .words) (x .number)))
+
+  fate-inserted : Uncovered K x → {y : Change} → insertInto treeWords F (entry (pairOf x)) ≡ y → Tried K x y → Inserted y
+  fate-inserted u e (taken m) = rw (book-left NumberTaken e) (refuses (number-taken u m))
+  fate-inserted u e (varied m k) = absurd (u .unsubsumed k)
+  fate-inserted u e (full n l) = rw (book-left ListFull e) (refuses (list-full u n l))
+  fate-inserted u e (crowded n l r) = rw (book-left NoRoom e) (refuses (no-room u n l r))
+  fate-inserted u e (larger n l r G i j) =
+      rw (book-grown G e, used-layout (length (layout treeWords F)) G j, i) (keeps (record { uncovered = u; new = n; few = l; room = r }))
+
+-- ---- the record
+
+-- what the walk answers where the query is answered covered
+told-covered : (b : ℕ) (W : List ℕ) (a : Answer State) (n k : ℕ) → told b W a .answer ≡ Covered n k → (t : State) × (a ≡ covered n t k)
+told-covered b W (covered m t l) n k e = let i : m ≡ n = cc in let j : l ≡ k = cc in (t, rw (i, j))
+told-covered b W (notCovered c) n k e = let z : _≡_ {A = ℕ} 0 1 = cc in absurd (omega arith)
+told-covered b W spent n k e = let z : _≡_ {A = ℕ} 0 1 = cc in absurd (omega arith)
+told-covered b W broken n k e = let z : _≡_ {A = ℕ} 0 1 = cc in absurd (omega arith)
+
+module _ (K : List Pair) (h : Holds treeWords K (treeOf K)) (x : Record) (f : Fit (insert (x .words) (x .number))) where
+  abbrev T : List ℕ
+  T = layout treeWords (treeOf K)
+
+  abbrev W : List ℕ
+  W = replicate witnessWords 0
+
+  -- by the query's answer
+  fate-as : (a : QueryAnswer) → query T (x .words) budget W .answer ≡ a → Fate K x (answeredAs a T x .outcome) (bookFrom treeWords K (callsOn a x))
+      → Fate K x (answered T x .outcome) (bookFrom treeWords K (callsFor T x))
+  unfolding answered callsFor
+  fate-as a e r = rw e r
+
+  -- a clause with a fault
+  asked-faulty : (v : Fault) → shape (x .words) ≡ Faulty v → query T (x .words) budget W .answer ≡ Unanswered (BadClause v)
+  unfolding query
+  asked-faulty v e = rw (length-layout treeWords (treeOf K) (h .room), e)
+
+  module _ (q : ℕ) (s : shape (x .words) ≡ Whole q) where
+    asked : Answers K (treeOf K) T (x .words) budget W
+    asked = answers K (treeOf K) (h .sound) (h .keeps .mirrors) (holds-leaves h) (x .words) (q, s) treeWords (omega arith) (omega arith) (h .room) budget W witness-long
+
+    -- within the budget, where it is not spent
+    within : (IsSpent T (x .words) budget W → ⊥) → Decided K x
+    within n = record { accepted = (q, s); fits = go (decLe (candidates (treeOf K) (x .words)) budget) }
+      where
+        go : Dec (candidates (treeOf K) (x .words) ≤ budget) → candidates (treeOf K) (x .words) ≤ budget
+        go (yes l) = l
+        go (no l) = absurd (n (asked .spends .1 (omega arith)))
+
+    fate-covered : (n k : ℕ) → query T (x .words) budget W .answer ≡ Covered n k → Strikes K x n k
+    fate-covered n k e =
+        let (p, m, i, shows, spared) = asked .covers n k e in
+        let over = query-tree treeWords (treeOf K) (omega arith) (omega arith) (h .room) (x .words) (q, s) budget W witness-long (h .keeps .mirrors .formed) in
+        let (t, w) = told-covered budget W (walk (machine (x .words)) (upTo budget) (treeOf K) initial 0) n k (ap (λ y. y .answer) (sym over) ∙ e) in
+        record {
+          decided = within (λ z. let y = sym e ∙ z in let o : _≡_ {A = ℕ} 0 1 = cc in omega arith);
+          state = t;
+          walked = w;
+          count = asked .counts n k e;
+          striking = p;
+          kept = m;
+          number = i;
+          subsumes = shows-subsumes (p .clause) (x .words) _ shows;
+          shows = rw (ap (λ y. y .witness) over ∙ ap (λ a. told budget W a .witness) w) at shows;
+        }
+
+    fate-new : (k : ℕ) → query T (x .words) budget W .answer ≡ NotCovered k → Uncovered K x
+    fate-new k e =
+        record { decided = within (λ z. let y = sym e ∙ z in let o : _≡_ {A = ℕ} 0 1 = cc in omega arith); unsubsumed = asked .spares k e .0 }
+
+    fate-kinds : IsCovered T (x .words) budget W ⊎ (IsNotCovered T (x .words) budget W ⊎ IsSpent T (x .words) budget W)
+        → Fate K x (answered T x .outcome) (bookFrom treeWords K (callsFor T x))
+    fate-kinds (inl (n, k, e)) = fate-as (Covered n k) e (strikes (fate-covered n k e))
+    fate-kinds (inr (inl (k, e))) =
+        fate-as (NotCovered k) e
+        (rw (insertion-is treeWords K (treeOf K) h (omega arith) (omega arith) (x .words) (x .number) q s)
+        (fate-inserted K (treeOf K) h x f q s (fate-new k e) refl (tried K (treeOf K) h x f q s)))
+    fate-kinds (inr (inr e)) = fate-as (Unanswered (Spent budget)) e (refuses (over-budget (q, s) (asked .spends .0 e)))
+
+  pub fate : Fate K x (answered T x .outcome) (bookFrom treeWords K (callsFor T x))
+  fate = go (shape (x .words)) refl
+    where
+      go : (s : Shape) → shape (x .words) ≡ s → Fate K x (answered T x .outcome) (bookFrom treeWords K (callsFor T x))
+      go (Faulty v) e = fate-as (Unanswered (BadClause v)) (asked-faulty v e) (refuses (faulty v e))
+      go (Whole q) e = fate-kinds q e (asked q e .kinds)
+
+-- the slice after a record is that after its insertion, if any
+pub slice-after : (T : List ℕ) (x : Record) → answered T x .slice ≡ after T (callsFor T x)
+unfolding answered callsFor
+slice-after T x = go (query T (x .words) budget (replicate witnessWords 0) .answer)
+  where
+    go : (a : QueryAnswer) → answeredAs a T x .slice ≡ after T (callsOn a x)
+    go (Unanswered r) = refl
+    go (Covered n k) = refl
+    go (NotCovered k) = refl
+
+-- its insertion fits where its words and its number do
+pub calls-fit : (T : List ℕ) (x : Record) → Fit (insert (x .words) (x .number)) → AllFit (callsFor T x)
+unfolding callsFor
+calls-fit T x f = go (query T (x .words) budget (replicate witnessWords 0) .answer)
+  where
+    go : (a : QueryAnswer) → AllFit (callsOn a x)
+    go (Unanswered r) = tt
+    go (Covered n k) = tt
+    go (NotCovered k) = (f, tt)

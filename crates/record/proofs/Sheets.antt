@@ -1,0 +1,132 @@
+-- The claims about a whole input.
+use mathlib.Core.Path.{_≡_, refl, sym, ap, _∙_}
+use mathlib.Core.Logic.{⊎-elim}
+use mathlib.Core.List.{List, [], _∷_, _++_, append-assoc, append-nil, List·Memᴰ}
+use Prim.Native.Nat.{ℕ, _≤_}
+use native.Mathlib.Omega.{arith}
+use lib.ListN.{replicate, length-replicate}
+use borrow.Author.Tests.{le-leb}
+use Rattle.clause.specs.Clause.{Subsumes}
+use Rattle.tree.specs.Entries.{Pair}
+use Rattle.tree.specs.Calls.{fresh}
+use Rattle.book.specs.Book.{Call, after, sliceOf, bookFrom, treeOf}
+use Rattle.record.specs.Answer.{treeWords, Record}
+use Rattle.record.specs.Output.{recordsOf, Row, rowOn, zeros, rowsOf, callsOf, none}
+use Rattle.record.specs.Ruled.{pairOf, IsKept}
+use Rattle.record.specs.Sheet.{Bytes, bookAfter, keptOf, Stands, Place, Placed, Covers, Sheets, NoStrikeIsWrong}
+use Rattle.tree.specs.declared.CallAnswer.the-variants.{Ready}
+use Rattle.clause.proofs.Order.{subsumes-refl}
+use Rattle.book.proofs.Holds.{holds-empty, fresh-layout, holds-numbers, holds-clauses}
+use Rattle.record.proofs.Reading.{complete, input-fits}
+use Rattle.record.proofs.Ruling.{Fate, ruled}
+use Rattle.record.proofs.Rows.{book-append, Standing, standing-after, Made, made, rows-records, made-first, made-last, made-row, made-fit, Fated, fated, fated-first, fated-last, fated-row, kept-book, kept-count, kept-mem, mem-kept, StruckBy, fate-struck, struck-book}
+
+-- ---- the slice before the first record
+
+fresh-zeros : (n : ℕ) → 2 ≤ n → n ≤ 65_536 → fresh (replicate n 0) ≡ record { answer = Ready; slice = replicate n 0 }
+unfolding fresh
+fresh-zeros n l h = rw (length-replicate {A = ℕ} n 0, le-leb 2 n l, le-leb n 65_536 h)
+
+-- fresh leaves it
+pub slice-from : (cs : List Call) → sliceOf zeros cs ≡ after zeros cs
+slice-from cs = ap (λ r. after (r .slice) cs) (fresh-zeros treeWords (omega arith) (omega arith))
+
+standing-none : Standing [] zeros
+unfolding treeOf
+standing-none = record { holds = holds-empty treeWords (omega arith); slice = fresh-layout treeWords (omega arith) }
+
+-- ---- some rows
+
+module _ {rs : List Row} (m : Made zeros rs) where
+  standing : Standing (bookAfter rs) (after zeros (callsOf rs))
+  unfolding bookAfter
+  standing = standing-after (callsOf rs) [] zeros standing-none (made-fit m)
+
+  stands : Stands rs
+  stands =
+      record {
+        calls = record { ready = ap (λ r. r .answer) (fresh-zeros treeWords (omega arith) (omega arith)); fit = made-fit m };
+        numbers = holds-numbers (standing .holds);
+        clauses = holds-clauses (standing .holds);
+      }
+
+-- the book after some rows is what the `kept` lines say
+book-kept : {rs : List Row} → Fated [] rs → bookAfter rs ≡ keptOf rs
+unfolding bookAfter
+book-kept {rs} f = kept-book f ∙ append-nil (keptOf rs)
+
+-- ---- one row
+
+calls-more : (rs : List Row) (r : Row) → callsOf (rs ++ (r ∷ [])) ≡ callsOf rs ++ r .calls
+calls-more [] r = append-nil (r .calls)
+calls-more (s ∷ rs) r = ap (λ (l : List Call). s .calls ++ l) (calls-more rs r) ∙ sym (append-assoc (s .calls) (callsOf rs) (r .calls))
+
+book-more : (rs : List Row) (r : Row) → bookAfter (rs ++ (r ∷ [])) ≡ bookFrom treeWords (bookAfter rs) (r .calls)
+unfolding bookAfter
+book-more rs r = ap (bookFrom treeWords []) (calls-more rs r) ∙ book-append [] (callsOf rs) (r .calls)
+
+-- a clause of the book has a row with a `kept` line
+earlier-row : (rs : List Row) → Fated [] rs → (x : Record) (n : ℕ) → StruckBy (bookAfter rs) x n
+    → (r : Row) × List·Memᴰ r rs × IsKept (r .outcome) × (r .of .number ≡ n) × Subsumes (r .of .words) (x .words)
+earlier-row rs f x n (p, m, i, s) =
+    let k = mem-kept rs p (rw (book-kept f) at m) in
+    (k .row, k .among, k .kept, sym (ap (λ (q : Pair). q .number) (k .pair)) ∙ i, rw (ap (λ (q : Pair). q .clause) (k .pair)) at s)
+
+module _ {rs : List Row} (m : Made zeros rs) (f : Fated [] rs) (a : Place rs) where
+  made-here : Made zeros (a .before ++ (a .this ∷ a .after))
+  made-here = rw (a .whole) at m
+
+  fated-here : Fated [] (a .before ++ (a .this ∷ a .after))
+  fated-here = rw (a .whole) at f
+
+  fate-here : Fate (bookAfter (a .before)) (a .this .of) (a .this .outcome) (bookAfter (a .before ++ (a .this ∷ [])))
+  unfolding bookAfter
+  fate-here = rw (book-more (a .before) (a .this)) (fated-row (fated-last (a .before) (a .this ∷ a .after) [] fated-here))
+
+  placed : Placed a
+  placed =
+      record {
+        asked = made-row (made-last (a .before) (a .this ∷ a .after) zeros made-here) ∙ ap (λ (T : List ℕ). rowOn T (a .this .of)) (sym (slice-from (callsOf (a .before))));
+        stands = stands (made-first (a .before) (a .this ∷ a .after) zeros made-here);
+        ruled = ruled fate-here;
+        earlier = λ n k e. earlier-row (a .before) (fated-first (a .before) (a .this ∷ a .after) [] fated-here) (a .this .of) n (fate-struck fate-here n k e);
+      }
+
+-- ---- the whole input
+
+-- the rows of the input
+rows-made : (input : List ℕ) → Bytes input → Made zeros (rowsOf input)
+unfolding rowsOf
+rows-made input b = made zeros (recordsOf input) (input-fits input b)
+
+rows-fated : (input : List ℕ) → Bytes input → Fated [] (rowsOf input)
+rows-fated input b = fated [] standing-none (rows-made input b)
+
+covers : (input : List ℕ) → Fated [] (rowsOf input) → Covers input
+unfolding bookAfter
+covers input f =
+    record {
+      covered = λ r m o. ⊎-elim
+          (λ k. (pairOf (r .of), rw (book-kept f) (kept-mem (rowsOf input) r m k), subsumes-refl (r .of .words)))
+          (λ s. let (n, k, e) = s in let (p, i, j, u) = struck-book f r m n k e in (p, i, u))
+          o;
+      named = struck-book f;
+      pairs = book-kept f;
+      many = kept-count none f refl;
+    }
+
+pub sheets : Sheets
+unfolding rowsOf
+sheets input b =
+    let m = rows-made input b in
+    let f = rows-fated input b in
+    record {
+      reads = complete input;
+      rows = rows-records zeros (recordsOf input);
+      placed = placed m f;
+      stands = stands m;
+      covers = covers input f;
+    }
+
+pub no-strike-is-wrong : NoStrikeIsWrong
+no-strike-is-wrong input b = sheets input b .covers

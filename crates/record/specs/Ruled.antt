@@ -1,0 +1,99 @@
+-- What becomes of one record, by the clause book before it.
+use mathlib.Core.Path.{_≡_}
+use mathlib.Core.Logic.{_↔_}
+use mathlib.Core.List.{List, [], _∷_, map, List·Memᴰ}
+use Prim.Native.Nat.{ℕ, _≤_, _<_}
+use lib.ListN.{length, replicate}
+use Rattle.clause.specs.Clause.{shape, Accepted, Subsumes}
+use Rattle.machine.specs.Machine.{State, initial}
+use Rattle.tree.specs.Laid.{maxKept}
+use Rattle.tree.specs.Entries.{Pair, entry}
+use Rattle.tree.specs.Beginnings.{beginnings, different}
+use Rattle.tree.specs.Refusal.{codeOf}
+use Rattle.walk.specs.Walk.{covered, upTo, walk}
+use Rattle.walk.specs.Query.{machine, witnessWords, shown, written}
+use Rattle.walk.specs.Covering.{Subsumed, Shows, candidates}
+use Rattle.book.specs.Book.{treeOf}
+use Rattle.record.specs.Answer.{budget, treeWords, Record}
+use Rattle.clause.specs.declared.Fault.{Fault}
+use Rattle.clause.specs.declared.Shape.the-variants.{Faulty}
+use Rattle.tree.specs.declared.Refusal.the-variants.{BadClause}
+use Rattle.record.specs.declared.Outcome.{Outcome}
+use Rattle.record.specs.declared.Outcome.the-variants.{Kept, Struck, Refused}
+
+-- the pair of a record
+abbrev pub pairOf : Record → Pair
+pairOf x = record { number = x .number; clause = x .words }
+
+-- a number is in the book
+abbrev pub Numbered : List Pair → ℕ → Type 0
+Numbered K n = (p : Pair) × List·Memᴰ p K × (p .number ≡ n)
+
+-- the words that the tree of some pairs takes: as many as their sequences have different beginnings
+abbrev pub wordsOf : List Pair → ℕ
+wordsOf K = different (beginnings (map entry K))
+
+-- the record's clause is accepted, and the walk over the tree of the book takes no more candidates than the budget
+pub record Decided (K : List Pair) (x : Record) : Type 0 where
+  pub accepted : Accepted (x .words)
+  pub fits : candidates (treeOf K) (x .words) ≤ budget
+
+-- and no clause of the book subsumes it
+pub record Uncovered (K : List Pair) (x : Record) : Type 0 where
+  pub decided : Decided K x
+  pub unsubsumed : Subsumed K (x .words) → ⊥
+
+-- and the book takes it: its number is new, there are fewer than 1,024 pairs, and the tree has room
+pub record Takes (K : List Pair) (x : Record) : Type 0 where
+  pub uncovered : Uncovered K x
+  pub new : Numbered K (x .number) → ⊥
+  pub few : length K < maxKept
+  pub room : wordsOf (pairOf x ∷ K) < treeWords
+
+-- the book strikes it: the walk over the tree of the book ends at the number n after k candidates
+pub record Strikes (K : List Pair) (x : Record) (n k : ℕ) : Type 0 where
+  pub decided : Decided K x
+  pub state : State
+  pub walked : walk (machine (x .words)) (upTo budget) (treeOf K) initial 0 ≡ covered n state k
+  pub count : k ≡ candidates (treeOf K) (x .words)
+  -- the clause of the book with that number subsumes the record's, and the witness that the walk leaves shows it
+  pub striking : Pair
+  pub kept : List·Memᴰ striking K
+  pub number : striking .number ≡ n
+  pub subsumes : Subsumes (striking .clause) (x .words)
+  pub shows : Shows (striking .clause) (x .words) (written (shown state) (replicate witnessWords 0))
+
+-- why a record is refused, by the code
+pub data Reason (K : List Pair) (x : Record) : (code : ℕ) → Type 0 where
+  -- 3, 4, 5: its clause has that fault; a record of more than 64 words has the first
+  faulty : (f : Fault) → shape (x .words) ≡ Faulty f → Reason K x (codeOf (BadClause f))
+  -- 7: its number is in the book
+  number-taken : Uncovered K x → Numbered K (x .number) → Reason K x 7
+  -- 10: the book has 1,024 pairs
+  list-full : Uncovered K x → (Numbered K (x .number) → ⊥) → maxKept ≤ length K → Reason K x 10
+  -- 11: with it, the sequences would have more than 8,191 different beginnings
+  no-room : Uncovered K x → (Numbered K (x .number) → ⊥) → length K < maxKept → treeWords ≤ wordsOf (pairOf x ∷ K) → Reason K x 11
+  -- 12: the walk would take more candidates than the budget
+  over-budget : Accepted (x .words) → budget < candidates (treeOf K) (x .words) → Reason K x 12
+
+-- a record is kept
+abbrev pub IsKept : Outcome → Type 0
+IsKept o = (u : ℕ) × (o ≡ Kept u)
+
+-- a record is struck
+abbrev pub IsStruck : Outcome → Type 0
+IsStruck o = (n : ℕ) × (k : ℕ) × (o ≡ Struck n k)
+
+-- what becomes of a record, by the book K before it; L is the book after it
+pub record Ruled (K : List Pair) (x : Record) (o : Outcome) (L : List Pair) : Type 0 where
+  -- struck exactly if some clause of the book subsumes it, the walk fitting into the budget; and by which clause, with which count
+  pub struck : IsStruck o ↔ (Decided K x × Subsumed K (x .words))
+  pub strikes : (n k : ℕ) → (o ≡ Struck n k) ↔ Strikes K x n k
+  -- kept exactly if the book takes it, with the used words
+  pub kept : (u : ℕ) → (o ≡ Kept u) ↔ (Takes K x × (u ≡ wordsOf (pairOf x ∷ K)))
+  -- refused exactly for a reason, and never with another code
+  pub refused : (code : ℕ) → (o ≡ Refused code) ↔ Reason K x code
+  pub codes : (code : ℕ) → o ≡ Refused code → List·Memᴰ code (3 ∷ 4 ∷ 5 ∷ 7 ∷ 10 ∷ 11 ∷ 12 ∷ [])
+  -- the book has one pair more exactly where it is kept
+  pub grows : IsKept o → L ≡ pairOf x ∷ K
+  pub stays : (IsKept o → ⊥) → L ≡ K

@@ -1,0 +1,112 @@
+-- What is claimed of every input: what becomes of its records, by the clauses that are kept before each of them.
+use mathlib.Core.Path.{_≡_}
+use mathlib.Core.Logic.{_≢_, _⊎_}
+use mathlib.Core.List.{List, [], _∷_, _++_, map, List·Memᴰ}
+use Prim.Native.Nat.{ℕ, _<_}
+use lib.ListN.{length}
+use Rattle.clause.specs.Lists.{All, Each}
+use Rattle.clause.specs.Clause.{Subsumes}
+use Rattle.machine.specs.Compile.{Variants}
+use Rattle.tree.specs.Entries.{Pair}
+use Rattle.walk.specs.Covering.{Subsumed}
+use Rattle.book.specs.Book.{sliceOf, bookOf}
+use Rattle.book.specs.Claims.{Run}
+use Rattle.record.specs.Answer.{treeWords, Record}
+use Rattle.record.specs.Output.{fields, recordsOf, Row, rowOn, zeros, rowsOf, callsOf, totalsWith, none}
+use Rattle.record.specs.Ruled.{pairOf, IsKept, IsStruck, Ruled}
+use Rattle.record.specs.declared.Outcome.{Outcome}
+use Rattle.record.specs.declared.Outcome.the-variants.{Kept, Struck, Refused}
+
+-- an input is bytes
+abbrev pub Bytes : List ℕ → Type 0
+Bytes = All (λ b. b < 256)
+
+-- ---- some rows
+
+-- the clause book that their calls leave
+unfoldable pub bookAfter : List Row → List Pair
+bookAfter rs = bookOf treeWords (callsOf rs)
+
+-- the pair of a record, if it is kept
+abbrev pub keptOn : Outcome → Record → List Pair
+keptOn (Kept used) x = pairOf x ∷ []
+keptOn (Struck n k) x = []
+keptOn (Refused code) x = []
+
+-- the pairs of those with a `kept` line, the last one first
+abbrev pub keptOf : List Row → List Pair
+keptOf [] = []
+keptOf (r ∷ rs) = keptOf rs ++ keptOn (r .outcome) (r .of)
+
+-- their calls are a list of which `Reach`, `Demand2` and `Demand3` speak; in the book they leave, numbers differ and no two clauses are variants
+pub record Stands (rs : List Row) : Type 0 where
+  pub calls : Run zeros (callsOf rs)
+  pub numbers : Each (λ p q. p .number ≢ q .number) (bookAfter rs)
+  pub clauses : Each (λ p q. Variants (p .clause) (q .clause) → ⊥) (bookAfter rs)
+
+-- ---- one row
+
+-- one row of some, with those before it and those after it
+pub record Place (rs : List Row) : Type 0 where
+  pub before : List Row
+  pub this : Row
+  pub after : List Row
+  pub whole : rs ≡ before ++ (this ∷ after)
+
+-- what is claimed of it
+pub record Placed {rs : List Row} (a : Place rs) : Type 0 where
+  -- it is the row of its record, asked on the slice that the calls of the rows before it leave
+  pub asked : a .this ≡ rowOn (sliceOf zeros (callsOf (a .before))) (a .this .of)
+  pub stands : Stands (a .before)
+  -- the book before it rules it
+  pub ruled : Ruled (bookAfter (a .before)) (a .this .of) (a .this .outcome) (bookAfter (a .before ++ (a .this ∷ [])))
+  -- where it is struck, an earlier row says that the number was kept, and the clause of that row subsumes this one's
+  pub earlier : (n k : ℕ) → a .this .outcome ≡ Struck n k
+      → (r : Row) × List·Memᴰ r (a .before) × IsKept (r .outcome) × (r .of .number ≡ n) × Subsumes (r .of .words) (a .this .of .words)
+
+-- ---- the whole input
+
+-- the fields of a record
+abbrev pub fieldsOf : Record → List ℕ
+fieldsOf x = x .number ∷ length (x .words) ∷ x .words
+
+-- those of some records one after another
+abbrev pub allFields : List Record → List ℕ
+allFields [] = []
+allFields (x ∷ xs) = fieldsOf x ++ allFields xs
+
+-- the records are all that are complete: after them come fields that begin with none
+pub record Complete (xs : List Record) (fs : List ℕ) : Type 0 where
+  pub rest : List ℕ
+  pub whole : fs ≡ allFields xs ++ rest
+  pub cut : (x : Record) (ys : List ℕ) → rest ≡ fieldsOf x ++ ys → ⊥
+
+-- the last book covers what was kept or struck, and it is what the `kept` lines say
+pub record Covers (input : List ℕ) : Type 0 where
+  -- every record that was kept or struck is subsumed by a clause of the last book
+  pub covered : (r : Row) → List·Memᴰ r (rowsOf input) → IsKept (r .outcome) ⊎ IsStruck (r .outcome)
+      → Subsumed (bookAfter (rowsOf input)) (r .of .words)
+  -- one that was struck is so by the clause with the number that its line says
+  pub named : (r : Row) → List·Memᴰ r (rowsOf input) → (n k : ℕ) → r .outcome ≡ Struck n k
+      → (p : Pair) × List·Memᴰ p (bookAfter (rowsOf input)) × (p .number ≡ n) × Subsumes (p .clause) (r .of .words)
+  -- the pairs of the last book are exactly the records with a `kept` line, as many as the last line says
+  pub pairs : bookAfter (rowsOf input) ≡ keptOf (rowsOf input)
+  pub many : totalsWith none (rowsOf input) .kept ≡ length (bookAfter (rowsOf input))
+
+-- what is claimed of an input; `outputOf` is the lines of its rows, and their totals
+pub record Sheet (input : List ℕ) : Type 0 where
+  -- a row for each complete record, in order
+  pub reads : Complete (recordsOf input) (fields input)
+  pub rows : map (λ r. r .of) (rowsOf input) ≡ recordsOf input
+  -- each row in its place, and the last book
+  pub placed : (a : Place (rowsOf input)) → Placed a
+  pub stands : Stands (rowsOf input)
+  pub covers : Covers input
+
+-- the claim
+abbrev pub Sheets : Type 0
+Sheets = (input : List ℕ) → Bytes input → Sheet input
+
+-- and its last part by itself: every record that was kept or struck is subsumed by a clause of the last book, whose pairs are the `kept` lines
+abbrev pub NoStrikeIsWrong : Type 0
+NoStrikeIsWrong = (input : List ℕ) → Bytes input → Covers input
