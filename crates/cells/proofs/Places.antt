@@ -15,7 +15,7 @@ use Rattle.clause.specs.Clause.{literals, startOf}
 use Rattle.clause.proofs.Lists.{getD-map-lt}
 use Rattle.clause.proofs.Literals.{accepted}
 use Rattle.machine.proofs.Safe.{start-in}
-use Rattle.cells.specs.Cells.{placeOf, placed, stateOf, restored, Marked, plain, store, unwound, reserved, candidate, released, keptIn, headAt, startAt, Ready}
+use Rattle.cells.specs.inner.Cells.{placeOf, placed, stateOf, restored, Marked, plain, store, unwound, reserved, candidate, released, keptIn, headAt, startAt, Ready}
 
 pub place-none : {x : ℕ} → x ≡ 255 → placeOf x ≡ none
 unfolding placeOf

@@ -18,7 +18,7 @@ use Rattle.tree.specs.Laid.{keyOf, extentOf}
 use Rattle.walk.specs.Walk.{Machine, covered, notCovered, broken, Part, andThen, follow, tries, visitAt, visit, upTo}
 use Rattle.walk.specs.Words.{extends, walkWords}
 use Rattle.walk.specs.Query.{machine}
-use Rattle.cells.specs.Cells.{Met, past, bad, hit, firsts, below, stepped, reached, metAs, meeting, entered, Passed}
+use Rattle.cells.specs.inner.Cells.{Met, past, bad, hit, firsts, below, stepped, reached, metAs, meeting, entered, Passed}
 use Rattle.walk.proofs.Fuel.{walkWords-cons}
 use Rattle.cells.proofs.Region.{instrOf-word, success-word}
 

@@ -19,7 +19,7 @@ use Rattle.clause.proofs.Siblings.{right-inside}
 use Rattle.machine.specs.Machine.{State, Outcome, onto, down, right, next, fails, given, headed, putting, pushing, require, within, sameTerms, compareTerms, stepAt, stepFrom, step, finish, finishFrom}
 use Rattle.machine.specs.Instr.{Step, Down, Right, Put, Push, Pop, Check, Compare, Instr, First, Do, Success, instruction}
 use Rattle.walk.specs.Words.{extends}
-use Rattle.cells.specs.Cells.{placeOf, placed, stateOf, Met, bad, hit, firsts, stepped, reached, sized, metAs, meeting, metOf, stores, plain, store, Visited, Tables, Ready}
+use Rattle.cells.specs.inner.Cells.{placeOf, placed, stateOf, Met, bad, hit, firsts, stepped, reached, sized, metAs, meeting, metOf, stores, plain, store, Visited, Tables, Ready}
 use Rattle.cells.specs.declared.Go.{Go}
 use Rattle.cells.specs.declared.Go.the-variants.{Fails, Stuck, Below, Stored}
 use Rattle.tree.specs.Laid.{extentOf}

@@ -4,7 +4,7 @@ ghost use mathlib.Core.Bool.{true};
 ghost use Prim.Native.Nat.{_-_, _≤_, _<_, _/_, _%_, _^_};
 ghost use lib.ListN.{length};
 ghost use Rattle.tree.specs.Laid.{extentOf};
-ghost use Rattle.cells.specs.Cells.{wantedAt, Passed};
+ghost use Rattle.cells.specs.inner.Cells.{wantedAt, Passed};
 
 // How many words a node has, with all below it.
 pub fn extent(w: u64) -> usize

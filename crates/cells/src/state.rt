@@ -8,7 +8,7 @@ ghost use Prim.Native.Nat.{_+_, _*_, _≤_, _<_, _^_};
 ghost use lib.Dec.{eqb};
 ghost use lib.ListN.{length, getD};
 ghost use Rattle.clause.specs.Clause.{Accepted, literals};
-ghost use Rattle.cells.specs.Cells.{restored, unwound, reserved, candidate, released, keptIn, headAt, passesOf, Tables};
+ghost use Rattle.cells.specs.inner.Cells.{restored, unwound, reserved, candidate, released, keptIn, headAt, passesOf, Tables};
 
 // A cell as a position.
 pub fn wide(x: u8) -> usize

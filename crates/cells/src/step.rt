@@ -17,7 +17,7 @@ ghost use Rattle.machine.specs.Instr.{Compare, instruction};
 ghost use Rattle.machine.specs.Machine.{fails, next, given, headed, putting, pushing, require, within, sameTerms, stepAt};
 ghost use Rattle.machine.specs.Machine as m;
 ghost use Rattle.cells.specs.declared.Go.the-variants.{Stuck, Tries, Stored};
-ghost use Rattle.cells.specs.Cells.{placeOf, stateOf, hit, firsts, bad, stepped, sized, metAs, meeting, Tables, Ready, Visited};
+ghost use Rattle.cells.specs.inner.Cells.{placeOf, stateOf, hit, firsts, bad, stepped, sized, metAs, meeting, Tables, Ready, Visited};
 
 // To the first argument, if there is one.
 fn down(query: &[u16], head: usize) -> Visit

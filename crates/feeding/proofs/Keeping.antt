@@ -14,11 +14,11 @@ use Rattle.clause.proofs.Literals.{accepted}
 use Rattle.machine.specs.Compile.{keys}
 use Rattle.machine.proofs.Codes.{sequence-plain}
 use Rattle.tree.specs.Laid.{sized, region}
-use Rattle.tree.specs.Cut.{locate}
+use Rattle.tree.specs.inner.Cut.{locate}
 use Rattle.tree.specs.Refusal.{codeOf}
 use Rattle.tree.specs.Calls.{Called, insertion}
-use Rattle.tree.specs.ByWords.{insertByWords}
-use Rattle.insertion.specs.Inserting.{Ready}
+use Rattle.tree.specs.inner.ByWords.{insertByWords}
+use Rattle.insertion.specs.inner.Inserting.{Ready}
 use Rattle.tree.specs.declared.Refusal.{Refusal}
 use Rattle.tree.specs.declared.Refusal.the-variants.{BadSlice}
 use Rattle.tree.specs.declared.CallAnswer.{CallAnswer}

@@ -17,12 +17,12 @@ ghost use mathlib.Core.Option.{none};
 ghost use Prim.Native.Nat.{_+_, _-_, _<_, _≤_};
 ghost use lib.ListN.{length, take, drop, getD};
 ghost use Rattle.tree.specs.Laid.{sized, wellLaid, region};
-ghost use Rattle.tree.specs.Merge.{hold, lift, newWords};
-ghost use Rattle.tree.specs.Cut.{locate};
+ghost use Rattle.tree.specs.inner.Merge.{hold, lift, newWords};
+ghost use Rattle.tree.specs.inner.Cut.{locate};
 ghost use Rattle.clause.specs.Clause.{Accepted};
 ghost use Rattle.tree.specs.Calls.{insertion};
-ghost use Rattle.tree.specs.ByWords.{insertAt, insertByWords};
-ghost use Rattle.insertion.specs.Inserting.{holderOf, Rows, Placed, Ready, Writable, InsertHere, isSome};
+ghost use Rattle.tree.specs.inner.ByWords.{insertAt, insertByWords};
+ghost use Rattle.insertion.specs.inner.Inserting.{holderOf, Rows, Placed, Ready, Writable, InsertHere, isSome};
 
 mod moves;
 

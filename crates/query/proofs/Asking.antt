@@ -17,8 +17,8 @@ use Rattle.tree.specs.Laid.{usedOf, region}
 use Rattle.walk.specs.Walk.{Answer, covered, notCovered, spent, broken, upTo}
 use Rattle.walk.specs.Words.{walkWords}
 use Rattle.walk.specs.Query.{machine, unanswered, told, walkSlice, queryAs, query}
-use Rattle.cells.specs.Cells.{placeOf, placed, stateOf, Tables, Ready}
-use Rattle.query.specs.Findings.{seen, toldOut, refusalOf}
+use Rattle.cells.specs.inner.Cells.{placeOf, placed, stateOf, Tables, Ready}
+use Rattle.query.specs.inner.Findings.{seen, toldOut, refusalOf}
 
 -- the cells before the first candidate
 abbrev pub fresh : List ℕ

@@ -6,13 +6,13 @@ use native.Mathlib.Omega.{arith}
 use lib.ListN.{length}
 use Rattle.clause.specs.Clause.{Accepted, starts}
 use Rattle.clause.specs.Positions.{ends, siblings}
-use Rattle.clause.specs.Tables.{tablesOf, clauseOf}
+use Rattle.clause.specs.inner.Tables.{tablesOf, clauseOf}
 use Rattle.clause.specs.declared.Clause.{Clause}
 use Rattle.clause.proofs.Literals.{accepted}
 use Rattle.clause.proofs.Starts.{length-starts}
 use Rattle.clause.proofs.Ends.{ends-at}
 use Rattle.clause.proofs.Packing.{start-at, end-at, right-at, count-at}
-use Rattle.cells.specs.Cells.{Tables}
+use Rattle.cells.specs.inner.Cells.{Tables}
 
 tables-read : (d : List ℕ) → Accepted d → Tables d (tablesOf d)
 unfolding tablesOf

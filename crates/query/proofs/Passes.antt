@@ -11,8 +11,8 @@ use Rattle.clause.specs.Clause.{literals}
 use Rattle.machine.specs.Machine.{State, enter, require}
 use Rattle.walk.specs.Walk.{Answer, covered, notCovered, spent, broken, Part, andThen, tries, upTo}
 use Rattle.walk.specs.Query.{machine, shown}
-use Rattle.cells.specs.Cells.{entered, passesOf, startAt, stateOf}
-use Rattle.query.specs.Findings.{missed, seen, outBy, Walked}
+use Rattle.cells.specs.inner.Cells.{entered, passesOf, startAt, stateOf}
+use Rattle.query.specs.inner.Findings.{missed, seen, outBy, Walked}
 use Rattle.query.specs.declared.Finding.{Finding}
 use Rattle.query.specs.declared.End.{End}
 use Rattle.query.specs.declared.End.the-variants.{Missed, Found, Broken, Spent}

@@ -12,7 +12,7 @@ use borrow.Author.Tests.{lt-ltb, le-ltb}
 use lib.ListN.{length, getD, take, set, length-take, length-append, length-map}
 use lib.Seq.{getD-take, take-all}
 use Rattle.walk.specs.Query.{shown, written}
-use Rattle.cells.specs.Cells.{placeOf, placed, stateOf}
+use Rattle.cells.specs.inner.Cells.{placeOf, placed, stateOf}
 use Rattle.walk.proofs.Witnessed.{shown-front, shown-none, shown-position}
 use Rattle.cells.proofs.Places.{placed-get}
 

@@ -20,8 +20,8 @@ use Rattle.tree.specs.Laid.{keyOf, extentOf}
 use Rattle.walk.specs.Walk.{Answer, covered, notCovered, spent, broken, Part, andThen, attempt, tries, upTo}
 use Rattle.walk.specs.Words.{extends, walkWords}
 use Rattle.walk.specs.Query.{machine}
-use Rattle.cells.specs.Cells.{entered, placeOf, stateOf, Ready, Met, past, bad, firsts, below, stepped, reached, metAs, meeting, metOf, stores, Marked, plain, store, Visited, unwound, restored, wantedAt, Passed, headAt, startAt, passesOf}
-use Rattle.query.specs.Findings.{Walked}
+use Rattle.cells.specs.inner.Cells.{entered, placeOf, stateOf, Ready, Met, past, bad, firsts, below, stepped, reached, metAs, meeting, metOf, stores, Marked, plain, store, Visited, unwound, restored, wantedAt, Passed, headAt, startAt, passesOf}
+use Rattle.query.specs.inner.Findings.{Walked}
 use Rattle.cells.specs.declared.Go.{Go}
 use Rattle.cells.specs.declared.Go.the-variants.{Fails, Stuck, Hit, Tries, Below, Stored}
 use Rattle.cells.specs.declared.Visit.{Visit}

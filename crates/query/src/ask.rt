@@ -17,8 +17,8 @@ ghost use Prim.Native.Nat.{_+_, _-_, _≤_, _<_};
 ghost use lib.ListN.{length, getD};
 ghost use Rattle.clause.specs.Clause.{Accepted};
 ghost use Rattle.tree.specs.Laid.{usedOf};
-ghost use Rattle.cells.specs.Cells.{stateOf};
-ghost use Rattle.query.specs.Findings.{outBy, refusalOf, toldOut};
+ghost use Rattle.cells.specs.inner.Cells.{stateOf};
+ghost use Rattle.query.specs.inner.Findings.{outBy, refusalOf, toldOut};
 ghost use Rattle.walk.specs.Query as q;
 
 // A cell as a witness word.

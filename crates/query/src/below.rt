@@ -25,8 +25,8 @@ ghost use lib.ListN.{getD};
 ghost use Rattle.walk.specs.Walk.{upTo};
 ghost use Rattle.walk.specs.Words.{walkWords};
 ghost use Rattle.walk.specs.Query.{machine};
-ghost use Rattle.cells.specs.Cells.{entered, stateOf, Ready};
-ghost use Rattle.query.specs.Findings.{Walked};
+ghost use Rattle.cells.specs.inner.Cells.{entered, stateOf, Ready};
+ghost use Rattle.query.specs.inner.Findings.{Walked};
 
 // Walks the words below a node: from each candidate of a First, which hands on no head, or once, siblings in order. After a miss the cells are as before.
 // The last word of a row needs no call: what stands below it is the row from there on, and the trail brings its cell back.

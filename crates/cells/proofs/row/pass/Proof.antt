@@ -6,7 +6,7 @@ use borrow.Author.Tests.{not-false}
 use borrow.Author.Needs.{needs}
 use native.Mathlib.Omega.{arith}
 use lib.ListN.{length}
-use Rattle.cells.specs.Cells.{Passed}
+use Rattle.cells.specs.inner.Cells.{Passed}
 use Rattle.cells.proofs.Rows.{passed-none, passed-more, passed-left}
 use Rattle.cells.proofs.row.pass.Statement.{statement}
 use Rattle.cells.proofs.row.pass.Tie as tie

@@ -2,7 +2,7 @@
 use mathlib.Core.Path.{refl}
 use native.Mathlib.Omega.{arith}
 use borrow.Author.Needs.{needs}
-use Rattle.cells.specs.Cells.{wantedAt}
+use Rattle.cells.specs.inner.Cells.{wantedAt}
 use Rattle.cells.proofs.row.wanted.Statement.{statement}
 use Rattle.cells.proofs.row.wanted.Tie as tie
 

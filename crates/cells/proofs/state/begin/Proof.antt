@@ -2,7 +2,7 @@
 use mathlib.Core.Path.{_∙_}
 use native.Mathlib.Omega.{arith}
 use Rattle.clause.proofs.Literals.{accepted}
-use Rattle.cells.specs.Cells.{candidate, headAt}
+use Rattle.cells.specs.inner.Cells.{candidate, headAt}
 use borrow.Author.Needs.{needs}
 use Rattle.cells.proofs.state.begin.Statement.{statement}
 use Rattle.cells.proofs.state.begin.Tie as tie

@@ -1,6 +1,6 @@
 -- `passes` meets its contract.
 use borrow.Author.Needs.{needs}
-use Rattle.cells.specs.Cells.{passesOf}
+use Rattle.cells.specs.inner.Cells.{passesOf}
 use Rattle.cells.proofs.state.passes.Statement.{statement}
 use Rattle.cells.proofs.state.passes.Tie as tie
 

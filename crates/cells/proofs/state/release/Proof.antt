@@ -1,6 +1,6 @@
 -- `release` meets its contract.
 use native.Mathlib.Omega.{arith}
-use Rattle.cells.specs.Cells.{released}
+use Rattle.cells.specs.inner.Cells.{released}
 use borrow.Author.Needs.{needs}
 use Rattle.cells.proofs.state.release.Statement.{statement}
 use Rattle.cells.proofs.state.release.Tie as tie

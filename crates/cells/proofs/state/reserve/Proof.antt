@@ -3,7 +3,7 @@ use Prim.Native.Nat.{_+_}
 use native.Mathlib.Omega.{arith}
 use lib.ListN.{getD}
 use lib.Seq.{getD-set-other}
-use Rattle.cells.specs.Cells.{reserved, keptIn}
+use Rattle.cells.specs.inner.Cells.{reserved, keptIn}
 use borrow.Author.Needs.{needs}
 use Rattle.cells.proofs.state.reserve.Statement.{statement}
 use Rattle.cells.proofs.state.reserve.Tie as tie

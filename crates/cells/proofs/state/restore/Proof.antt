@@ -1,6 +1,6 @@
 -- `restore` meets its contract.
 use borrow.Author.Tests.{eq-eqb, ne-eqb}
-use Rattle.cells.specs.Cells.{restored}
+use Rattle.cells.specs.inner.Cells.{restored}
 use borrow.Author.Needs.{needs}
 use Rattle.cells.proofs.state.restore.Statement.{statement}
 use Rattle.cells.proofs.state.restore.Tie as tie

@@ -3,7 +3,7 @@ use mathlib.Core.Path.{_≡_, refl, sym, ap, _∙_}
 use Prim.Native.Nat.{_^_, _<_}
 use native.Mathlib.Omega.{arith}
 use lib.ListN.{length}
-use Rattle.cells.specs.Cells.{unwound}
+use Rattle.cells.specs.inner.Cells.{unwound}
 use Rattle.cells.proofs.Places.{restored-size, unwound-none, unwound-next}
 use Rattle.cells.proofs.state.unwind.Statement.{statement}
 use Rattle.cells.proofs.state.unwind.Tie as tie

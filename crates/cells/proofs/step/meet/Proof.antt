@@ -1,7 +1,7 @@
 -- `meet` meets its contract.
 use mathlib.Core.Path.{refl, sym, _∙_}
 use native.Mathlib.Omega.{arith}
-use Rattle.cells.specs.Cells.{metOf}
+use Rattle.cells.specs.inner.Cells.{metOf}
 use Rattle.cells.proofs.Rows.{extends-zero, extends-long}
 use Rattle.cells.proofs.Visits.{stays, met-unfit, met-sized}
 use borrow.Author.Needs.{needs}

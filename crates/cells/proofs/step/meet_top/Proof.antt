@@ -2,7 +2,7 @@
 use mathlib.Core.Path.{refl, sym, _∙_}
 use mathlib.Core.Logic.{inr}
 use native.Mathlib.Omega.{arith}
-use Rattle.cells.specs.Cells.{metOf}
+use Rattle.cells.specs.inner.Cells.{metOf}
 use Rattle.cells.proofs.Places.{place-none}
 use Rattle.cells.proofs.Rows.{extends-zero, extends-long, extends-in}
 use Rattle.cells.proofs.Visits.{stays, met-unfit, met-early, met-tries}

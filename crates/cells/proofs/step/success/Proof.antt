@@ -1,7 +1,7 @@
 -- `success` meets its contract.
 use mathlib.Core.Path.{refl}
 use borrow.Author.Tests.{eq-eqb, ne-eqb}
-use Rattle.cells.specs.Cells.{metOf, sized}
+use Rattle.cells.specs.inner.Cells.{metOf, sized}
 use Rattle.cells.proofs.Visits.{stays}
 use Rattle.cells.proofs.step.success.Statement.{statement}
 use Rattle.cells.proofs.step.success.Tie as tie

@@ -2,7 +2,7 @@
 use mathlib.Core.Path.{refl}
 use mathlib.Core.Logic.{inl, inr}
 use borrow.Author.Tests.{lt-ltb, le-ltb}
-use Rattle.cells.specs.Cells.{metOf}
+use Rattle.cells.specs.inner.Cells.{metOf}
 use Rattle.cells.proofs.Visits.{stays}
 use borrow.Author.Needs.{needs}
 use Rattle.cells.proofs.step.tries.Statement.{statement}

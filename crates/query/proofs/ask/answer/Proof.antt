@@ -1,7 +1,7 @@
 -- `answer` meets its contract.
 use mathlib.Core.Path.{sym, ap}
 use Rattle.query.specs.declared.End.{End}
-use Rattle.query.specs.Findings.{outBy, toldOut}
+use Rattle.query.specs.inner.Findings.{outBy, toldOut}
 use borrow.Author.Needs.{needs}
 use Rattle.query.proofs.ask.answer.Statement.{statement}
 use Rattle.query.proofs.ask.answer.Tie as tie

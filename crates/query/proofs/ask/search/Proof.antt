@@ -1,6 +1,6 @@
 -- `search` meets its contract.
 use mathlib.Core.Path.{refl, ap, _∙_}
-use Rattle.query.specs.Findings.{toldOut}
+use Rattle.query.specs.inner.Findings.{toldOut}
 use Rattle.query.proofs.Asking.{fresh-ready, searched}
 use Rattle.query.proofs.Packed.{clause-read}
 use borrow.Author.Needs.{needs}

@@ -7,7 +7,7 @@ use mathlib.Core.Logic.{⊎-elim}
 -- `show` meets its contract. The invariant: the first i words to show are written.
 use borrow.Author.Needs.{needs}
 use Prim.Native.Nat.{ℕ, _+_, _≤_, _-_}
-use Rattle.cells.specs.Cells.{stateOf}
+use Rattle.cells.specs.inner.Cells.{stateOf}
 use Rattle.walk.specs.Query.{shown, written}
 use Rattle.query.proofs.ask.show.Statement.{statement}
 use Rattle.query.proofs.ask.show.Tie as tie

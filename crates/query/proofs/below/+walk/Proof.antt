@@ -17,7 +17,7 @@ use Rattle.machine.specs.Machine.{State}
 use Rattle.walk.specs.Walk.{Part, andThen, upTo}
 use Rattle.walk.specs.Words.{walkWords}
 use Rattle.walk.specs.Query.{machine}
-use Rattle.cells.specs.Cells.{entered, stateOf, passesOf, candidate, released, keptIn, startAt, Ready}
+use Rattle.cells.specs.inner.Cells.{entered, stateOf, passesOf, candidate, released, keptIn, startAt, Ready}
 use Rattle.query.specs.declared.End.the-variants.{Missed}
 use Rattle.cells.specs.declared.Go.the-variants.{Tries}
 use Rattle.query.proofs.Passes.{runs, runs-whole, runs-end, runs-spent, then-on, then-broken, then-covered, then-found, walked-missed, walked-spent, walked-broken, walked-found, walked-same}

@@ -7,7 +7,7 @@ use types.Run.{miss}
 use lib.ListN.{length, getD}
 use borrow.Author.Needs.{needs}
 use Rattle.tree.specs.Laid.{extentOf}
-use Rattle.cells.specs.Cells.{stateOf, restored}
+use Rattle.cells.specs.inner.Cells.{stateOf, restored}
 use Rattle.query.specs.declared.End.the-variants.{Missed}
 use Rattle.cells.specs.declared.Go.the-variants.{Tries, Stuck}
 use Rattle.query.proofs.Passes.{walked-missed, walked-broken, walked-same}

@@ -4,7 +4,7 @@ use mathlib.Core.List.{List, [], _∷_, _++_}
 use Prim.Native.Nat.{ℕ, _+_, _-_, _*_, _^_, _≤_, _<_}
 use lib.ListN.{length, getD, take, drop, replicate}
 use Rattle.tree.specs.Laid.{extentOf, usedOf, keptOf}
-use Rattle.tree.specs.Cut.{Span, lower}
+use Rattle.tree.specs.inner.Cut.{Span, lower}
 use Rattle.removal.specs.declared.Located.{Located}
 use Rattle.removal.specs.declared.Located.the-variants.{At, Nowhere}
 

@@ -7,7 +7,7 @@ use lib.ListN.{length}
 use Rattle.machine.specs.Machine.{State}
 use Rattle.walk.specs.Walk.{Answer, covered, notCovered, spent, broken}
 use Rattle.walk.specs.Query.{shown, Asked, unanswered, written}
-use Rattle.cells.specs.Cells.{stateOf}
+use Rattle.cells.specs.inner.Cells.{stateOf}
 use Rattle.clause.specs.declared.Shape.{Shape}
 use Rattle.clause.specs.declared.Shape.the-variants.{Faulty, Whole}
 use Rattle.tree.specs.declared.Refusal.{Refusal}

@@ -9,7 +9,7 @@ use lib.ListN.{length, drop}
 use Rattle.machine.specs.Compiled.{maxKeys}
 use Rattle.tree.specs.Forest.{Body}
 use Rattle.tree.specs.Laid.{sized, row, rows, wellLaid, region}
-use Rattle.tree.specs.Merge.{seek, hold}
+use Rattle.tree.specs.inner.Merge.{seek, hold}
 use Rattle.insertion.specs.declared.Holder.{Holder}
 use Rattle.insertion.specs.declared.Holder.the-variants.{Nobody, Clause}
 use Rattle.insertion.specs.declared.Place.{Place}

@@ -7,8 +7,8 @@ use lib.Dec.{leb, ltb}
 use lib.ListN.{length, take, replicate}
 use Rattle.tree.specs.Laid.{maxKept, usedOf, keptOf}
 use Rattle.tree.specs.Entries.{Entry}
-use Rattle.tree.specs.Merge.{Spot, seek, lift, splice, hold}
-use Rattle.tree.specs.Cut.{Span, locate, cut}
+use Rattle.tree.specs.inner.Merge.{Spot, seek, lift, splice, hold}
+use Rattle.tree.specs.inner.Cut.{Span, locate, cut}
 use Rattle.tree.specs.Calls.{Called, refused}
 use Rattle.tree.specs.declared.Refusal.the-variants.{NumberTaken, Held, NoSuchNumber, ListFull, NoRoom}
 use Rattle.tree.specs.declared.CallAnswer.the-variants.{Kept, Removed}
