@@ -15,7 +15,8 @@ use Rattle.clause.specs.Clause.{literals, maxLiterals}
 use Rattle.clause.proofs.Literals.{accepted, some-literal}
 use Rattle.machine.specs.Instr.{Instr, First, Do, Success, instrOf}
 use Rattle.machine.specs.Machine.{State, Outcome, next, fails, stuck, enter, step, finish}
-use Rattle.machine.proofs.Safe.{Safe, start-in, step-safe, step-headed, starting-safe}
+use Rattle.machine.specs.inner.Safe.{Safe}
+use Rattle.machine.proofs.Safe.{start-in, step-safe, step-headed, starting-safe}
 use Rattle.tree.specs.Laid.{keyOf, extentOf}
 use Rattle.walk.specs.Walk.{Answer, covered, notCovered, spent, broken, Part, andThen, attempt, tries, upTo}
 use Rattle.walk.specs.Words.{extends, walkWords}

@@ -10,7 +10,7 @@ use Rattle.clause.specs.Clause.{Accepted, literals, startOf, maxLiterals}
 use Rattle.clause.specs.Positions.{jump, rights}
 use Rattle.machine.specs.Instr.{Instr, First, Do, Success, instrOf}
 use Rattle.machine.specs.Machine.{slots, State, Outcome, next, fails, stuck, step, finish, starting}
-use Rattle.machine.proofs.Safe.{Safe}
+use Rattle.machine.specs.inner.Safe.{Safe}
 use Rattle.tree.specs.Laid.{keyOf}
 use Rattle.walk.specs.Walk.{Part, tries, upTo}
 use Rattle.walk.specs.Words.{extends, walkWords}
