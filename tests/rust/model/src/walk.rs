@@ -1,0 +1,203 @@
+//! The walk over the words of any tree.
+use crate::instruction::{used, Instruction, Operation};
+use crate::limits::{LITERALS, NUMBERS};
+use crate::reader::Term;
+use crate::refusal::Refusal;
+use std::ops::{ControlFlow, Range};
+
+/// What a walk finds: the covering clause, or none; and the candidates tried.
+pub struct Found {
+    pub covering: Option<Covering>,
+    pub count: u64,
+}
+
+/// The number of the covering clause, its literals' candidates and the positions put, as on the path to its Success.
+pub struct Covering {
+    pub number: u32,
+    pub state: State,
+}
+
+/// The state of a path. Each sibling has a copy of its own.
+#[derive(Clone, Copy)]
+pub struct State {
+    candidates: [u8; LITERALS],
+    literals: usize,
+    head: u8,
+    pushed: [Option<u8>; NUMBERS],
+    put: [Option<u8>; NUMBERS],
+}
+
+impl State {
+    const START: State = State {
+        candidates: [0; LITERALS],
+        literals: 0,
+        head: 0,
+        pushed: [None; NUMBERS],
+        put: [None; NUMBERS],
+    };
+
+    /// Writes the literal for kept literal i at i and the position for Put k after the literals.
+    pub fn write(&self, witness: &mut [u16]) {
+        for i in 0..self.literals {
+            witness[i] = self.candidates[i] as u16;
+        }
+        for (k, position) in self.put.iter().enumerate() {
+            if let Some(position) = position {
+                witness[LITERALS + k] = *position as u16;
+            }
+        }
+    }
+}
+
+// What is at a position of the query: the first argument, the right sibling and the end of the term there.
+#[derive(Clone, Copy, Default)]
+struct Place {
+    down: Option<u8>,
+    right: Option<u8>,
+    end: u8,
+}
+
+// How a walk stops: at a word that it cannot take, at a candidate too many, at a Success.
+enum Stop {
+    Broken,
+    Spent,
+    Success(Covering),
+}
+
+struct Walk<'a> {
+    tree: &'a [u64],
+    query: &'a [u16],
+    places: Vec<Place>,
+    literals: Vec<u8>,
+    budget: u64,
+    count: u64,
+}
+
+/// Walks over a tree whose header's used words are in the slice. The query's words are those of its literals.
+pub fn walk(tree: &[u64], query: &[u16], literals: &[Term], budget: u64) -> Result<Found, Refusal> {
+    let mut walk = Walk {
+        tree,
+        query,
+        places: vec![Place::default(); query.len()],
+        literals: literals.iter().map(|literal| literal.at as u8).collect(),
+        budget,
+        count: 0,
+    };
+    for literal in literals {
+        walk.note_place(literal, None);
+    }
+    let covering = match walk.row(1..used(tree[0]) + 1, &State::START) {
+        ControlFlow::Break(Stop::Broken) => return Err(Refusal::Broken),
+        ControlFlow::Break(Stop::Spent) => return Err(Refusal::Spent(walk.count)),
+        ControlFlow::Break(Stop::Success(covering)) => Some(covering),
+        ControlFlow::Continue(()) => None,
+    };
+    let count = walk.count;
+    Ok(Found { covering, count })
+}
+
+// The value, or a broken tree.
+fn sound<T>(value: Option<T>) -> ControlFlow<Stop, T> {
+    value.map_or(ControlFlow::Break(Stop::Broken), ControlFlow::Continue)
+}
+
+impl Walk<'_> {
+    // Notes the places of a term; gives its end. Literals are never right siblings.
+    fn note_place(&mut self, term: &Term, right: Option<u8>) -> u8 {
+        let mut end = term.at as u8 + 1;
+        for (i, argument) in term.arguments.iter().enumerate() {
+            let right = term.arguments.get(i + 1).map(|sibling| sibling.at as u8);
+            end = self.note_place(argument, right);
+        }
+        let down = term.arguments.first().map(|argument| argument.at as u8);
+        self.places[term.at] = Place { down, right, end };
+        end
+    }
+
+    // Takes siblings in order, each from the same state.
+    fn row(&mut self, row: Range<usize>, state: &State) -> ControlFlow<Stop> {
+        let mut at = row.start;
+        while at < row.end {
+            let (instruction, extent) = sound(Instruction::unpack(self.tree[at]))?;
+            let inside = (1..=row.end - at).contains(&extent);
+            let leaf = instruction.operation != Operation::Success || extent == 1;
+            sound((inside && leaf).then_some(()))?;
+            self.meet(instruction, at + 1..at + extent, *state)?;
+            at += extent;
+        }
+        ControlFlow::Continue(())
+    }
+
+    // Meets a word with the words below it.
+    fn meet(
+        &mut self,
+        instruction: Instruction,
+        below: Range<usize>,
+        mut state: State,
+    ) -> ControlFlow<Stop> {
+        if instruction.operation == Operation::First {
+            return self.first(below, state);
+        }
+        sound((state.literals > 0).then_some(()))?;
+        if instruction.operation == Operation::Success {
+            let number = instruction.operand;
+            return ControlFlow::Break(Stop::Success(Covering { number, state }));
+        }
+        if self.step(instruction, &mut state)? {
+            self.row(below, &state)?;
+        }
+        ControlFlow::Continue(())
+    }
+
+    // First takes the query's literals from 0 upward, each counted as a candidate.
+    fn first(&mut self, below: Range<usize>, mut state: State) -> ControlFlow<Stop> {
+        sound((state.literals < LITERALS).then_some(()))?;
+        let i = state.literals;
+        state.literals += 1;
+        for candidate in 0..self.literals.len() {
+            if self.count == self.budget {
+                return ControlFlow::Break(Stop::Spent);
+            }
+            self.count += 1;
+            state.candidates[i] = candidate as u8;
+            state.head = self.literals[candidate];
+            self.row(below.clone(), &state)?;
+        }
+        ControlFlow::Continue(())
+    }
+
+    // Whether any other instruction succeeds; it moves the head or stores a position.
+    fn step(&self, instruction: Instruction, state: &mut State) -> ControlFlow<Stop, bool> {
+        let place = self.places[state.head as usize];
+        let operand = instruction.operand as usize;
+        match instruction.operation {
+            Operation::Success | Operation::First => unreachable!("met before"),
+            Operation::Down => state.head = sound(place.down)?,
+            Operation::Right => state.head = sound(place.right)?,
+            Operation::Put => *sound(state.put.get_mut(operand))? = Some(state.head),
+            Operation::Push => *sound(state.pushed.get_mut(operand))? = Some(sound(place.right)?),
+            Operation::Pop => state.head = sound(state.pushed.get(operand).copied().flatten())?,
+            Operation::Check => return self.go_on(operand == self.word(state.head)),
+            Operation::Compare => {
+                let put = |k: usize| sound(state.put.get(k).copied().flatten());
+                let (m, k) = (put(operand >> 16)?, put(operand & 0xFFFF)?);
+                return self.go_on(self.term(m) == self.term(k));
+            }
+        }
+        self.go_on(true)
+    }
+
+    fn go_on(&self, succeeds: bool) -> ControlFlow<Stop, bool> {
+        ControlFlow::Continue(succeeds)
+    }
+
+    fn word(&self, position: u8) -> usize {
+        self.query[position as usize] as usize
+    }
+
+    // The words of the whole term at a position.
+    fn term(&self, position: u8) -> &[u16] {
+        let start = position as usize;
+        &self.query[start..self.places[start].end as usize]
+    }
+}
