@@ -62,10 +62,11 @@ fn spoilt_trees() {
         let clause = random.clause(style);
         call_all(&mut tree, &clause, &mut random, &mut tally);
     }
-    tally.assert_least(&LEAST_SPOILT);
+    tally.assert_least(&LEAST);
 }
 
-const LEAST_SPOILT: [(&str, u64); 9] = [
+// How often each answer has to occur on such trees.
+const LEAST: [(&str, u64); 12] = [
     ("queries covered", 1_000),
     ("queries not covered", 1_000),
     ("queries refused 2", 1_000),
@@ -75,6 +76,9 @@ const LEAST_SPOILT: [(&str, u64); 9] = [
     ("removals refused 9", 1_000),
     ("insertions kept", 1_000),
     ("insertions refused 2", 1_000),
+    ("insertions refused 7", 1_000),
+    ("insertions refused 11", 1_000),
+    ("well laid", 5_000),
 ];
 
 // An instruction over the query's symbols; few numbers, so that Pops and Compares find them filled.
@@ -144,15 +148,14 @@ fn trees_of_any_instructions() {
         &[0x9001, 0x0803, 0x0001, 0x4000],
         &[0x8801, 0x0001, 0x9001, 0x4000, 0x0001],
         &[0x8001, 0x8001],
-        &[0x9001, 0x0803, 0x9001, 0x0001, 0x0001, 0x8001],
+        &[0x9001, 0x0803, 0x0001, 0x0001, 0x8001],
     ];
     for i in 0..60_000 {
         let mut tree = any_tree(i % 2 == 0, &mut random);
         let clause = random.of(&queries);
         call_all(&mut tree, clause, &mut random, &mut tally);
     }
-    tally.assert_least(&LEAST_SPOILT);
-    tally.assert_least(&[("insertions refused 7", 1_000), ("well laid", 10_000)]);
+    tally.assert_least(&LEAST);
 }
 
 #[test]

@@ -191,71 +191,77 @@ fn well_laid() {
     assert_eq!(twice[..4], tree("First 0/3, Check Q0/2, Success 1/1"));
 }
 
+// Nine Firsts, one below the other.
+const NINTH: &str = "First 0/10, First 0/9, First 0/8, First 0/7, First 0/6, First 0/5, First 0/4, First 0/3, First 0/2, Success 1/1";
+
+// A tree, a query, a budget and the answer.
+type Row = (&'static str, &'static str, u64, &'static str);
+
+const WALKS: [Row; 19] = [
+    (NINTH, "P0", 8, "refused 2"),
+    (NINTH, "P0", 7, "refused 12 7"),
+    (
+        "First 0/4, Check Q0/1, Check P0/3, Success 1/1",
+        "P0",
+        9,
+        "refused 2",
+    ),
+    ("First 0/2, Check Q0/9", "P0", 9, "refused 2"),
+    ("First 0/3, Success 1/1, Check P0/0", "P0", 9, "covered 1 1"),
+    ("First 0/3, Check Q0/2, Put 99/1", "P0", 9, "not covered 1"),
+    ("First 0/3, Right 0/2, Success 1/1", "P0 P0", 9, "refused 2"),
+    (
+        "First 0/5, Check P1/4, Down 0/3, Push 0/2, Success 1/1",
+        "P1 a",
+        9,
+        "refused 2",
+    ),
+    (
+        "First 0/8, Check P2/7, Down 0/6, Push 0/5, Pop 0/4, Check b/3, Pop 0/2, Success 1/1",
+        "P2 a b",
+        9,
+        "covered 1 1",
+    ),
+    (
+        "First 0/6, Put 0/2, Check b/1, Put 1/3, Compare 0.1/2, Success 1/1",
+        "P0",
+        9,
+        "refused 2",
+    ),
+    (
+        "First 0/5, Check P1/4, Down 0/3, Check x/2, Success 1/1",
+        "P1 x",
+        9,
+        "covered 1 1",
+    ),
+    (
+        "First 0/3, Check 18001/2, Success 1/1",
+        "P0",
+        9,
+        "not covered 1",
+    ),
+    (
+        "First 0/4, Put 0/3, Compare 0.0/2, Success 1/1",
+        "P0",
+        9,
+        "covered 1 1",
+    ),
+    (
+        "First 0/6, Put 0/5, First 0/4, Put 1/3, Compare 0.1/2, Success 1/1",
+        "P0 Q0",
+        9,
+        "covered 1 2",
+    ),
+    ("First 0/3, First 0/2, Success 1/1", "P0", 9, "covered 1 2"),
+    ("Put 0/2, Success 1/1", "P0", 9, "refused 2"),
+    ("First 0/3, Put 64/2, Success 1/1", "P0", 9, "refused 2"),
+    ("First 0/3, Down 0/2, Success 1/1", "P0", 9, "refused 2"),
+    ("First 0/2, Success 1/2", "P0", 9, "refused 2"),
+];
+
 #[test]
 fn walking() {
-    let ninth = "First 0/10, First 0/9, First 0/8, First 0/7, First 0/6, First 0/5, First 0/4, First 0/3, First 0/2, Success 1/1";
-    let rows = [
-        (ninth, "P0", 8, "refused 2"),
-        (ninth, "P0", 7, "refused 12 7"),
-        (
-            "First 0/4, Check Q0/1, Check P0/3, Success 1/1",
-            "P0",
-            9,
-            "refused 2",
-        ),
-        ("First 0/2, Check Q0/9", "P0", 9, "refused 2"),
-        ("First 0/3, Success 1/1, Check P0/0", "P0", 9, "covered 1 1"),
-        ("First 0/3, Check Q0/2, Put 99/1", "P0", 9, "not covered 1"),
-        ("First 0/3, Right 0/2, Success 1/1", "P0 P0", 9, "refused 2"),
-        (
-            "First 0/5, Check P1/4, Down 0/3, Push 0/2, Success 1/1",
-            "P1 a",
-            9,
-            "refused 2",
-        ),
-        (
-            "First 0/8, Check P2/7, Down 0/6, Push 0/5, Pop 0/4, Check b/3, Pop 0/2, Success 1/1",
-            "P2 a b",
-            9,
-            "covered 1 1",
-        ),
-        (
-            "First 0/6, Put 0/2, Check b/1, Put 1/3, Compare 0.1/2, Success 1/1",
-            "P0",
-            9,
-            "refused 2",
-        ),
-        (
-            "First 0/5, Check P1/4, Down 0/3, Check x/2, Success 1/1",
-            "P1 x",
-            9,
-            "covered 1 1",
-        ),
-        (
-            "First 0/3, Check 18001/2, Success 1/1",
-            "P0",
-            9,
-            "not covered 1",
-        ),
-        (
-            "First 0/4, Put 0/3, Compare 0.0/2, Success 1/1",
-            "P0",
-            9,
-            "covered 1 1",
-        ),
-        (
-            "First 0/6, Put 0/5, First 0/4, Put 1/3, Compare 0.1/2, Success 1/1",
-            "P0 Q0",
-            9,
-            "covered 1 2",
-        ),
-        ("First 0/3, First 0/2, Success 1/1", "P0", 9, "covered 1 2"),
-        ("Put 0/2, Success 1/1", "P0", 9, "refused 2"),
-        ("First 0/3, Put 64/2, Success 1/1", "P0", 9, "refused 2"),
-        ("First 0/3, Down 0/2, Success 1/1", "P0", 9, "refused 2"),
-        ("First 0/2, Success 1/2", "P0", 9, "refused 2"),
-    ];
-    for (text, query, budget, answer) in rows {
+    for (text, query, budget, answer) in WALKS {
         assert_eq!(ask(&tree(text), query, budget), answer, "{text}");
     }
 }

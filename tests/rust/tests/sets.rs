@@ -244,7 +244,7 @@ fn fill(length: usize, random: &mut Random, tally: &mut Tally) {
 // How often each thing has to occur; none is below what the program of random sets reached before this one.
 const LEAST: [(&str, u64); 27] = [
     ("sets", 6_003),
-    ("queries in all", 500_000),
+    ("queries in all", 600_000),
     ("insertions kept", 20_102),
     ("kept with a repeated literal", 5_573),
     ("kept with 60 or more words", 1_244),
