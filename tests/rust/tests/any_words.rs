@@ -107,6 +107,9 @@ fn grow(words: &mut Vec<u64>, depth: usize, laid: bool, random: &mut Random) {
         let number = random.below(4) as u32;
         row.insert(0, Instruction::new(Operation::Success, number));
         row.truncate(1 + depth);
+        if random.one_in(10) {
+            row.insert(1, Instruction::new(Operation::Success, number + 1));
+        }
     }
     if laid {
         row.sort();

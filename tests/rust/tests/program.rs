@@ -10,6 +10,7 @@ use std::os::fd::AsRawFd;
 use std::path::{Path, PathBuf};
 use std::process::{ChildStdin, Command, Stdio};
 use std::thread::{scope, yield_now};
+use std::time::{Duration, Instant};
 
 // The sizes of the blocks that the program reads, or may read one day.
 const BLOCKS: [usize; 2] = [65_536, 16_384];
@@ -28,10 +29,12 @@ extern "C" {
 }
 
 // Waits until the program has read all that was written to its pipe, so that the next piece is a read of its own.
+// One that reads no more is waited for some seconds.
 fn wait_until_read(pipe: &ChildStdin) {
     const FIONREAD: u64 = 0x541B;
+    let since = Instant::now();
     let mut left = 1;
-    while left > 0 {
+    while left > 0 && since.elapsed() < Duration::from_secs(5) {
         yield_now();
         // the file is open and the count is lent for the call
         let code = unsafe { ioctl(pipe.as_raw_fd(), FIONREAD, &mut left) };
