@@ -7,7 +7,7 @@ use drawn::{Random, STYLES};
 use model::calls::Cover;
 use model::instruction::{header, Instruction, Operation};
 use model::laid::well_laid;
-use model::limits::WITNESS_WORDS;
+use model::limits::{FULL_BUDGET, KEPT, LITERALS, WITNESS_WORDS};
 
 // Each call on words that need not be a tree.
 fn call_all(tree: &mut [u64], clause: &[u16], random: &mut Random, tally: &mut Tally) {
@@ -230,5 +230,7 @@ fn ceilings_of_any_size() {
             tally.answer("ceilings", "told", beside::ceiling(kept, q, m));
         }
     }
+    let highest = beside::ceiling(KEPT as u64, LITERALS as u64, LITERALS as u64);
+    assert_eq!(highest, Ok(FULL_BUDGET));
     tally.assert_least(&[("ceilings told", 6 * 64), ("ceilings refused 13", 584)]);
 }
