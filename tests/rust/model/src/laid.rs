@@ -20,9 +20,8 @@ fn row_laid(words: &[u64], row: Range<usize>) -> Option<usize> {
     let mut at = row.start;
     while at < row.end {
         let (instruction, extent) = Instruction::unpack(words[at])?;
-        let room = 1..=row.end - at;
-        if !word_laid(instruction, extent) || !room.contains(&extent) || !rises(before, instruction)
-        {
+        let inside = extent > 0 && at + extent <= row.end;
+        if !inside || !word_laid(instruction, extent) || !rises(before, instruction) {
             return None;
         }
         successes += (instruction.operation == Operation::Success) as usize;

@@ -3,7 +3,7 @@ use crate::instruction::{used, Instruction, Operation};
 use crate::limits::{LITERALS, NUMBERS};
 use crate::reader::Term;
 use crate::refusal::Refusal;
-use std::ops::{ControlFlow, Range};
+use std::ops::Range;
 
 /// What a walk finds: the covering clause, or none; and the candidates tried.
 pub struct Found {
@@ -57,12 +57,14 @@ struct Place {
     end: u8,
 }
 
-// How a walk stops: at a word that it cannot take, at a candidate too many, at a Success.
+// How a walk stops before its end.
 enum Stop {
-    Broken,
-    Spent,
+    Refused(Refusal),
     Success(Covering),
 }
+
+// A word that the walk cannot take.
+const BROKEN: Stop = Stop::Refused(Refusal::Broken);
 
 struct Walk<'a> {
     tree: &'a [u64],
@@ -87,18 +89,17 @@ pub fn walk(tree: &[u64], query: &[u16], literals: &[Term], budget: u64) -> Resu
         walk.note_place(literal, None);
     }
     let covering = match walk.row(1..used(tree[0]) + 1, &State::START) {
-        ControlFlow::Break(Stop::Broken) => return Err(Refusal::Broken),
-        ControlFlow::Break(Stop::Spent) => return Err(Refusal::Spent(walk.count)),
-        ControlFlow::Break(Stop::Success(covering)) => Some(covering),
-        ControlFlow::Continue(()) => None,
+        Ok(()) => None,
+        Err(Stop::Success(covering)) => Some(covering),
+        Err(Stop::Refused(refusal)) => return Err(refusal),
     };
     let count = walk.count;
     Ok(Found { covering, count })
 }
 
-// The value, or a broken tree.
-fn sound<T>(value: Option<T>) -> ControlFlow<Stop, T> {
-    value.map_or(ControlFlow::Break(Stop::Broken), ControlFlow::Continue)
+// The position stored under a number.
+fn filled(positions: &[Option<u8>; NUMBERS], number: usize) -> Result<u8, Stop> {
+    positions.get(number).copied().flatten().ok_or(BROKEN)
 }
 
 impl Walk<'_> {
@@ -115,84 +116,84 @@ impl Walk<'_> {
     }
 
     // Takes siblings in order, each from the same state.
-    fn row(&mut self, row: Range<usize>, state: &State) -> ControlFlow<Stop> {
+    fn row(&mut self, row: Range<usize>, state: &State) -> Result<(), Stop> {
         let mut at = row.start;
         while at < row.end {
-            let (instruction, extent) = sound(Instruction::unpack(self.tree[at]))?;
-            let inside = (1..=row.end - at).contains(&extent);
-            let leaf = instruction.operation != Operation::Success || extent == 1;
-            sound((inside && leaf).then_some(()))?;
+            let (instruction, extent) = Instruction::unpack(self.tree[at]).ok_or(BROKEN)?;
+            let success = instruction.operation == Operation::Success;
+            if extent == 0 || at + extent > row.end || success && extent != 1 {
+                return Err(BROKEN);
+            }
             self.meet(instruction, at + 1..at + extent, *state)?;
             at += extent;
         }
-        ControlFlow::Continue(())
+        Ok(())
     }
 
-    // Meets a word with the words below it.
+    // Meets a word, which has these words below it.
     fn meet(
         &mut self,
         instruction: Instruction,
         below: Range<usize>,
         mut state: State,
-    ) -> ControlFlow<Stop> {
+    ) -> Result<(), Stop> {
         if instruction.operation == Operation::First {
             return self.first(below, state);
         }
-        sound((state.literals > 0).then_some(()))?;
+        if state.literals == 0 {
+            return Err(BROKEN);
+        }
         if instruction.operation == Operation::Success {
             let number = instruction.operand;
-            return ControlFlow::Break(Stop::Success(Covering { number, state }));
+            return Err(Stop::Success(Covering { number, state }));
         }
         if self.step(instruction, &mut state)? {
             self.row(below, &state)?;
         }
-        ControlFlow::Continue(())
+        Ok(())
     }
 
     // First takes the query's literals from 0 upward, each counted as a candidate.
-    fn first(&mut self, below: Range<usize>, mut state: State) -> ControlFlow<Stop> {
-        sound((state.literals < LITERALS).then_some(()))?;
+    fn first(&mut self, below: Range<usize>, mut state: State) -> Result<(), Stop> {
         let i = state.literals;
+        if i == LITERALS {
+            return Err(BROKEN);
+        }
         state.literals += 1;
         for candidate in 0..self.literals.len() {
             if self.count == self.budget {
-                return ControlFlow::Break(Stop::Spent);
+                return Err(Stop::Refused(Refusal::Spent(self.count)));
             }
             self.count += 1;
             state.candidates[i] = candidate as u8;
             state.head = self.literals[candidate];
             self.row(below.clone(), &state)?;
         }
-        ControlFlow::Continue(())
+        Ok(())
     }
 
     // Whether any other instruction succeeds; it moves the head or stores a position.
-    fn step(&self, instruction: Instruction, state: &mut State) -> ControlFlow<Stop, bool> {
+    fn step(&self, instruction: Instruction, state: &mut State) -> Result<bool, Stop> {
         let place = self.places[state.head as usize];
         let operand = instruction.operand as usize;
         match instruction.operation {
             Operation::Success | Operation::First => unreachable!("met before"),
-            Operation::Down => state.head = sound(place.down)?,
-            Operation::Right => state.head = sound(place.right)?,
-            Operation::Put => *sound(state.put.get_mut(operand))? = Some(state.head),
-            Operation::Push => *sound(state.pushed.get_mut(operand))? = Some(sound(place.right)?),
-            Operation::Pop => state.head = sound(state.pushed.get(operand).copied().flatten())?,
-            Operation::Check => return self.go_on(operand == self.word(state.head)),
+            Operation::Down => state.head = place.down.ok_or(BROKEN)?,
+            Operation::Right => state.head = place.right.ok_or(BROKEN)?,
+            Operation::Put => *state.put.get_mut(operand).ok_or(BROKEN)? = Some(state.head),
+            Operation::Push => {
+                let position = place.right.ok_or(BROKEN)?;
+                *state.pushed.get_mut(operand).ok_or(BROKEN)? = Some(position);
+            }
+            Operation::Pop => state.head = filled(&state.pushed, operand)?,
+            Operation::Check => return Ok(operand == self.query[state.head as usize] as usize),
             Operation::Compare => {
-                let put = |k: usize| sound(state.put.get(k).copied().flatten());
-                let (m, k) = (put(operand >> 16)?, put(operand & 0xFFFF)?);
-                return self.go_on(self.term(m) == self.term(k));
+                let m = filled(&state.put, operand >> 16)?;
+                let k = filled(&state.put, operand & 0xFFFF)?;
+                return Ok(self.term(m) == self.term(k));
             }
         }
-        self.go_on(true)
-    }
-
-    fn go_on(&self, succeeds: bool) -> ControlFlow<Stop, bool> {
-        ControlFlow::Continue(succeeds)
-    }
-
-    fn word(&self, position: u8) -> usize {
-        self.query[position as usize] as usize
+        Ok(true)
     }
 
     // The words of the whole term at a position.
