@@ -331,7 +331,7 @@ fn overlong_records_across_blocks() {
 // Many short lines: more bytes out than in, and both over a block.
 #[test]
 fn more_out_than_in() {
-    let short = |i: u32| record(i as u16, &[0x8000 | i as u16 % 700]);
+    let short = |i: u32| record(i as u16, &[0x8000 + i as u16 % 700]);
     let page: Vec<u8> = (0..30_000).flat_map(short).collect();
     let expected = output(&page);
     assert!(page.len() > 2 * 65_536 && expected.len() > 4 * 65_536);

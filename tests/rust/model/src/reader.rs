@@ -52,7 +52,7 @@ impl Reader<'_> {
     // A head, a variable with arguments and the end may not stand here.
     fn argument(&mut self) -> Result<Term, Refusal> {
         match self.words.get(self.at) {
-            Some(&word) if !is_head(word) && !(is_variable(word) && arity(word) > 0) => self.term(),
+            Some(&word) if !(is_head(word) || is_variable(word) && arity(word) > 0) => self.term(),
             _ => Err(Refusal::BadClause(self.at)),
         }
     }

@@ -7,7 +7,7 @@ use std::ops::Range;
 
 /// What a walk finds: the covering clause, or none; and the candidates tried.
 pub struct Found {
-    pub covering: Option<Covering>,
+    pub covering: Option<Box<Covering>>,
     pub count: u64,
 }
 
@@ -38,8 +38,8 @@ impl State {
 
     /// Writes the literal for kept literal i at i and the position for Put k after the literals.
     pub fn write(&self, witness: &mut [u16]) {
-        for i in 0..self.literals {
-            witness[i] = self.candidates[i] as u16;
+        for (i, &candidate) in self.candidates[..self.literals].iter().enumerate() {
+            witness[i] = candidate as u16;
         }
         for (k, position) in self.put.iter().enumerate() {
             if let Some(position) = position {
@@ -60,7 +60,7 @@ struct Place {
 // How a walk stops before its end.
 enum Stop {
     Refused(Refusal),
-    Success(Covering),
+    Success(Box<Covering>),
 }
 
 // A word that the walk cannot take.
@@ -145,7 +145,7 @@ impl Walk<'_> {
         }
         if instruction.operation == Operation::Success {
             let number = instruction.operand;
-            return Err(Stop::Success(Covering { number, state }));
+            return Err(Stop::Success(Box::new(Covering { number, state })));
         }
         if self.step(instruction, &mut state)? {
             self.row(below, &state)?;
