@@ -10,7 +10,7 @@ use lib.Seq.{drop-cons, drop-drop, take-all, getD-drop, take-append-seam, drop-a
 use Rattle.clause.specs.Lists.{All, none, also}
 use Rattle.clause.specs.Word.{Words}
 use Rattle.clause.proofs.Lists.{all-append, all-take}
-use Rattle.book.specs.Book.{Call, insert, remove, AllFit, call, after}
+use Rattle.book.specs.Book.{Call, insert, remove, AllFit, after}
 use Rattle.book.specs.Encoding.{whole, callsWithin, callsOf, Short, HasWords, Ran}
 
 -- more fuel than words makes no difference

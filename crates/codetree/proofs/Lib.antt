@@ -1,4 +1,4 @@
 -- What the proofs of several functions use.
 mod Telling
 mod Apart
-mod Listed
+mod Lists

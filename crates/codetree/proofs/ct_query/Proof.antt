@@ -4,7 +4,7 @@ use Rattle.book.specs.Table.{asked}
 use Rattle.codetree.specs.Calls.{ctQuery}
 use Rattle.codetree.proofs.Telling.{hands}
 use Rattle.codetree.proofs.Apart.{told-apart}
-use Rattle.codetree.proofs.Listed.{ct-reach, ct-demand2, ct-demand3}
+use Rattle.codetree.proofs.Lists.{ct-reach, ct-demand2, ct-demand3}
 use borrow.Author.Needs.{needs}
 use Rattle.codetree.proofs.ct_query.Statement.{statement}
 use Rattle.codetree.proofs.ct_query.Tie as tie

@@ -2,32 +2,28 @@
 use mathlib.Core.Path.{_≡_, refl, sym, ap, _∙_}
 use mathlib.Core.Logic.{_↔_, _⊎_, inl, inr}
 use mathlib.Core.List.{List, [], _∷_}
-use Prim.Native.Nat.{ℕ, _≤_, _<_}
+use Prim.Native.Nat.{ℕ, _≤_}
 use native.Mathlib.Decide.{decLe}
 use native.Mathlib.Omega.{arith}
 use lib.ListN.{length, replicate, length-replicate}
-use Rattle.clause.specs.Clause.{Accepted}
-use Rattle.clause.specs.Word.{Words}
 use Rattle.tree.specs.Entries.{Pair}
 use Rattle.tree.specs.Calls.{fresh}
-use Rattle.tree.specs.Refusal.{codeOf}
-use Rattle.tree.specs.declared.Refusal.{Refusal}
 use Rattle.tree.specs.declared.Refusal.the-variants.{Spent}
 use Rattle.tree.specs.declared.CallAnswer.{CallAnswer}
-use Rattle.tree.specs.declared.CallAnswer.the-variants.{Refused, Ready, Kept, Removed}
+use Rattle.tree.specs.declared.CallAnswer.the-variants.{Ready, Kept, Removed}
 use Rattle.walk.specs.Ceiling.{fullBudget}
 use Rattle.walk.specs.Query.{witnessWords, query}
-use Rattle.walk.specs.Covering.{Subsumed, IsCovered, IsNotCovered, IsSpent, Answers}
+use Rattle.walk.specs.Covering.{IsCovered, IsNotCovered, IsSpent, Answers}
 use Rattle.walk.specs.declared.QueryAnswer.{QueryAnswer}
 use Rattle.walk.specs.declared.QueryAnswer.the-variants.{Unanswered, Covered, NotCovered}
 use Rattle.book.specs.Table.{saidCall, saidQuery}
-use Rattle.book.specs.Book.{Call, insert, remove, AllFit, call, done, after, sliceOf, bookOf, treeOf}
-use Rattle.book.specs.Claims.{Run, Reached, Alone, Together, Same}
+use Rattle.book.specs.Book.{Call, insert, remove, call, done, after, sliceOf, treeOf}
+use Rattle.book.specs.Claims.{Run, Reached, Together, Same}
 use Rattle.book.proofs.Reach.{reach, demand2}
 use Rattle.book.proofs.Agreement.{demand3}
 use Rattle.codetree.specs.Told.{numberOf, shownAs, answered}
 use Rattle.codetree.specs.Calls.{ctFresh, ctInsert, ctRemove, ctQuery}
-use Rattle.codetree.specs.Claims.{Made, ctCall, ctAfter, ctTree, callsMade, ctBook, CtRun, CtReached, CtReach, Askable, Says, SaysCovered, SaysNot, SaysSpent, needed, CtAnswers, CtDemand2, CtSame, CtCovered, CtTogether, CtDemand3}
+use Rattle.codetree.specs.Claims.{Made, ctCall, ctAfter, ctTree, callsMade, CtRun, CtReach, Says, SaysCovered, SaysNot, SaysSpent, needed, CtAnswers, CtDemand2, CtSame, CtCovered, CtDemand3}
 use Rattle.codetree.proofs.Apart.{Freshened, ready, bad-slice, Inserted, kept, refusal, Taken, removed, broken, no-such, fresh-answers, insert-answers, remove-answers, code-some, query-apart}
 
 -- ---- the words, and the numbers returned
@@ -96,10 +92,6 @@ module _ (T d : List ℕ) (b : ℕ) (W ts : List ℕ) (long : 3 ≤ length ts) w
     λ s. query-apart (query T d b W .answer) a ts ts long long (s .0) (s .1),
     λ e. (ap (λ y. answered (saidQuery y) ts .number) e, ap (λ y. answered (saidQuery y) ts .told) e),
   )
-
-  witness-words : ctQuery T d b W ts .words ≡ query T d b W .witness
-  unfolding ctQuery
-  witness-words = refl
 
 -- one is not another
 covered≢spent : {n c b : ℕ} → Covered n c ≡ Unanswered (Spent b) → ⊥
