@@ -31,7 +31,7 @@ use Rattle.walk.specs.Query.{witnessWords, Asked, unanswered, queryAs, query}
 use Rattle.walk.specs.declared.QueryAnswer.{QueryAnswer}
 use Rattle.walk.specs.declared.QueryAnswer.the-variants.{Unanswered, Covered, NotCovered}
 use Rattle.record.specs.Answer.{budget, inserted, answered}
-use Rattle.feeding.specs.Feed.{Steady, Answers}
+use Rattle.feeding.specs.Feed.{numberCount, Steady, Answers}
 use Rattle.record.specs.declared.Outcome.{Outcome}
 use Rattle.record.specs.declared.Outcome.the-variants.{Kept, Struck, Refused}
 use Rattle.feeding.proofs.Steady.{View, refused-left, kept-steady, steady-sized, number-taken, viewed}
@@ -42,7 +42,7 @@ use Rattle.feeding.proofs.Steady.{View, refused-left, kept-steady, stea
 pub clause-short : (c : List ℕ) → Accepted c → length c ≤ maxWords
 clause-short c a = accepted c a .fits
 
-module _ {S K : List ℕ} (h : Steady S K) (c : List ℕ) (a : Accepted c) (u : Words c) (n : ℕ) (l : n < 65_536) where
+module _ {S K : List ℕ} (h : Steady S K) (c : List ℕ) (a : Accepted c) (u : Words c) (n : ℕ) (l : n < numberCount) where
   pub ready : {ks : List ℕ} → ks ≡ keys c → Ready S ks
   ready e = rw e (record { size = steady-sized h; laid = h .laid; body = plain-body (sequence-plain c (accepted c a) u); few = keys-few c a })
 

@@ -29,10 +29,10 @@ use Rattle.book.specs.Book.{after}
 use Rattle.record.specs.Line.{lineOf, totalsLine}
 use Rattle.record.specs.Answer.{treeWords, budget, Record, Answered, answeredAs, answered}
 use Rattle.record.specs.Output.{fields, recordsFor, recordsOf, rowOn, rowsFrom, zeros, rowsOf, callsOf, linesOf, counted, totalsWith, none, outputOf}
-use Rattle.feeding.specs.Feed.{Store, Fed, finishing, finished, storing, marked, takeField, andThen, feed, opening, opened, WholeInput}
+use Rattle.feeding.specs.Feed.{Store, Fed, finishing, finished, marked, takeField, andThen, feed, opening, opened, WholeInput}
 use Rattle.record.proofs.Rows.{slice-more}
 use Rattle.record.proofs.Sheets.{slice-from, sheets, no-strike-is-wrong}
-use Rattle.feeding.proofs.Blocks.{at-count, at-empty, at-word, feed-append}
+use Rattle.feeding.proofs.Blocks.{storing, at-count, at-empty, at-word, feed-append}
 use Rattle.feeding.proofs.Whole.{feedFields, even-after, filling, collect}
 use Rattle.record.specs.declared.Outcome.the-variants.{Kept}
 use Rattle.record.specs.declared.Totals.{Totals}

@@ -34,7 +34,7 @@ use Rattle.tree.proofs.InsertWords.{ins-leaves}
 use Rattle.tree.proofs.Laws.{tree-laws}
 use Rattle.book.proofs.Holds.{fresh-layout}
 use Rattle.record.specs.Answer.{treeWords}
-use Rattle.feeding.specs.Feed.{Steady}
+use Rattle.feeding.specs.Feed.{numberCount, Steady}
 
 -- an insertion is refused and leaves the slice, or it is kept and the new slice and marks hold together
 pub data View (S K : List ℕ) (n : ℕ) : Called → Type 0 where
@@ -56,7 +56,7 @@ module _ {S K : List ℕ} (h : Steady S K) where
   stands : Stands S (decode S)
   stands = laid-decode S (omega (arith, h .sized)) (rw (h .laid) tt)
 
-  module _ (c : List ℕ) (n q : ℕ) (e : shape c ≡ Whole q) (u : Words c) (l : n < 65_536) where
+  module _ (c : List ℕ) (n q : ℕ) (e : shape c ≡ Whole q) (u : Words c) (l : n < numberCount) where
     -- by what it does to the tree
     by-tree : insertion S c n ≡ changed S Kept (insertInto (length S) (decode S) (entry (record { number = n; clause = c })))
     unfolding insertion
@@ -85,7 +85,7 @@ module _ {S K : List ℕ} (h : Steady S K) where
       grown = tree-laws .paths (ins (keys c) n (decode S)) (formed .0)
 
       -- a number other than n is where it was
-      other : (m : ℕ) → m < 65_536 → (m ≡ n → ⊥) → (find m (decode S) ≡ none → find m (ins (keys c) n (decode S)) ≡ none) × (find m (ins (keys c) n (decode S)) ≡ none → find m (decode S) ≡ none)
+      other : (m : ℕ) → m < numberCount → (m ≡ n → ⊥) → (find m (decode S) ≡ none → find m (ins (keys c) n (decode S)) ≡ none) × (find m (ins (keys c) n (decode S)) ≡ none → find m (decode S) ≡ none)
       other m k d = (
         λ v. grown .missing m (omega arith) .1 (λ cs p. ⊎-elim (λ w. d (w .1)) (λ w. paths .missing m (omega arith) .0 v cs w) (formed .1 cs m .0 p)),
         λ v. paths .missing m (omega arith) .1 (λ cs p. grown .missing m (omega arith) .0 v cs (formed .1 cs m .1 (inr p))),
@@ -104,11 +104,11 @@ module _ {S K : List ℕ} (h : Steady S K) where
             taken = λ m k v. takes m k (rw (decode-layout (length S) (ins (keys c) n (decode S)) (omega (arith, h .sized))) at v) (ℕ-discrete m n);
           }
         where
-          frees : (m : ℕ) → m < 65_536 → getD (set K n 1) m 0 ≡ 0 → Dec (m ≡ n) → find m (ins (keys c) n (decode S)) ≡ none
+          frees : (m : ℕ) → m < numberCount → getD (set K n 1) m 0 ≡ 0 → Dec (m ≡ n) → find m (ins (keys c) n (decode S)) ≡ none
           frees m k v (yes d) = absurd (let z : getD (set K n 1) n 0 ≡ 1 = getD-set-same K n 1 0 (omega (arith, h .numbers)) in let y : getD (set K n 1) n 0 ≡ 0 = rw d at v in omega arith)
           frees m k v (no d) = other m k d .0 (h .free m k (sym (getD-set-other K n m 1 0 d) ∙ v))
 
-          takes : (m : ℕ) → m < 65_536 → find m (ins (keys c) n (decode S)) ≡ none → Dec (m ≡ n) → getD (set K n 1) m 0 ≡ 0
+          takes : (m : ℕ) → m < numberCount → find m (ins (keys c) n (decode S)) ≡ none → Dec (m ≡ n) → getD (set K n 1) m 0 ≡ 0
           takes m k v (yes d) = absurd (new (rw d at v))
           takes m k v (no d) = getD-set-other K n m 1 0 d ∙ h .taken m k (other m k d .1 v)
 
@@ -134,14 +134,14 @@ words-of [] f = nothing
 words-of (w ∷ c) f = also (f 0) (words-of c (λ i. f (suc i)))
 
 -- the fresh slice, and no marks
-pub steady-fresh : Steady (replicate treeWords 0) (replicate 65_536 0)
+pub steady-fresh : Steady (replicate treeWords 0) (replicate numberCount 0)
 unfolding find
 steady-fresh =
     let e : decode (replicate treeWords 0) ≡ empty = rw (fresh-layout treeWords (omega arith)) (decode-layout treeWords empty (omega arith)) in
     record {
       sized = length-replicate {A = ℕ} treeWords 0;
       laid = rw (fresh-layout treeWords (omega arith)) (laid-layout treeWords empty (omega arith) (omega arith) tt (omega arith));
-      numbers = length-replicate {A = ℕ} 65_536 0;
+      numbers = length-replicate {A = ℕ} numberCount 0;
       free = λ n l v. rw e;
-      taken = λ n l v. getD-replicate {A = ℕ} 65_536 n 0 0 l;
+      taken = λ n l v. getD-replicate {A = ℕ} numberCount n 0 0 l;
     }

@@ -9,20 +9,16 @@ use native.Mathlib.Numerals.{add-one}
 use lib.Dec.{ltb, eqb}
 use lib.ListN.{length, take, drop, getD, set, drop-of-length-le}
 use lib.Seq.{sets, take-all, take-take, drop-cons, length-take-le}
-use borrow.Author.Tests.{le-ltb}
-use Rattle.record.specs.Text.{Written, written}
-use Rattle.record.specs.Line.{lineOf}
-use Rattle.record.specs.Answer.{answered}
-use Rattle.record.specs.Output.{fields, counted}
-use Rattle.feeding.specs.Feed.{Store, Fed, finishing, finished, going, storing, takeField, andThen, feed, Answers, Took, WholeRecord}
-use Rattle.feeding.proofs.Blocks.{finishes, at-count, at-empty, at-word, at-last, took-as}
-use Rattle.record.specs.declared.Outcome.{Outcome}
+use Rattle.record.specs.Output.{fields}
+use Rattle.feeding.specs.Feed.{Store, Fed, storeOf, finished, proceeding, takeField, andThen, feed, WholeRecord, Stepped}
+use Rattle.feeding.proofs.Blocks.{storing, at-count, at-empty, at-word, at-last}
 use Rattle.record.specs.declared.Totals.{Totals}
 use Rattle.feeding.specs.declared.Half.{Half}
 use Rattle.feeding.specs.declared.Half.the-variants.{Even}
 use Rattle.feeding.specs.declared.Stage.{Stage}
 use Rattle.feeding.specs.declared.Stage.the-variants.{AtNumber, AtCount, AtWord}
 use Rattle.feeding.specs.declared.Session.{Session}
+use Rattle.feeding.specs.declared.Next.the-variants.{Reads, Ends}
 
 -- ---- field by field
 
@@ -38,14 +34,18 @@ unfolding takeField finished
 even-after AtNumber t m w = refl
 even-after (AtCount n) t m w = go (eqb w 0)
   where
-    go : (b : Bool) → cond b (finished n 0 t m) (going (AtWord n w 0) t m) .session
-        ≡ record { half = Even; stage = cond b (finished n 0 t m) (going (AtWord n w 0) t m) .session .stage; totals = cond b (finished n 0 t m) (going (AtWord n w 0) t m) .session .totals }
+    after : Bool → Session
+    after b = proceeding (cond b (Ends (record { number = n; count = 0 })) (Reads Even (AtWord n w 0))) t m .session
+
+    go : (b : Bool) → after b ≡ record { half = Even; stage = after b .stage; totals = after b .totals }
     go true = refl
     go false = refl
 even-after (AtWord n count i) t m w = go (ltb (i + 1) count)
   where
-    go : (b : Bool) → cond b (going (AtWord n count (i + 1)) t (storing m i w)) (finished n count t (storing m i w)) .session
-        ≡ record { half = Even; stage = cond b (going (AtWord n count (i + 1)) t (storing m i w)) (finished n count t (storing m i w)) .session .stage; totals = cond b (going (AtWord n count (i + 1)) t (storing m i w)) (finished n count t (storing m i w)) .session .totals }
+    after : Bool → Session
+    after b = proceeding (cond b (Reads Even (AtWord n count (i + 1))) (Ends (record { number = n; count = count }))) t (storing m i w) .session
+
+    go : (b : Bool) → after b ≡ record { half = Even; stage = after b .stage; totals = after b .totals }
     go true = refl
     go false = refl
 
@@ -127,26 +127,15 @@ whole-record s (a ∷ b ∷ c ∷ d ∷ bs) count m w =
     ∙ ap (λ (k : ℕ). feedFields AtNumber (s .totals) m ((a * 256 + b) ∷ k ∷ fields ws)) (sym (w .counts))
     ∙ fields-record count (a * 256 + b) (fields ws) (s .totals) m (length-fields ws count l)
 
--- what becomes of a record of at most 64 words
-pub finishing-short : (n count : ℕ) (words slice : List ℕ) → count ≤ 64 → finishing n count words slice ≡ answered slice (record { number = n; words = take count words })
-unfolding finishing
-finishing-short n count words slice h = rw (le-ltb 64 count h)
-
--- a whole record that was read, answered, printed and counted
-pub record-taken : (s : Session) (input : List ℕ) (count : ℕ) (m : Store) (o : List ℕ) (at : ℕ) {n next : ℕ} {ws T K p : List ℕ} {r : Outcome} {u : Totals} → WholeRecord s input count
+-- a whole record that was read
+pub record-read : (s : Session) (input words : List ℕ) (count : ℕ) {n c : ℕ} {ws : List ℕ} → WholeRecord s input count
     → n ≡ getD input 0 0 * 256 + getD input 1 0
-    → ws ≡ sets (m .words) 0 (fields (take (count * 2) (take (length input - 4) (drop 4 input))))
-    → Answers (answered (m .slice) (record { number = n; words = take count ws })) n (m .marks) r T K
-    → u ≡ counted r (s .totals)
-    → _≡_ {A = Written} (record { next = next; output = p }) (written (lineOf n r) o at)
-    → Took (feed s m (take (4 + count * 2) input)) o at (record { half = Even; stage = AtNumber; totals = u }) (record { words = ws; slice = T; marks = K })
-    (record { next = next; output = p })
-record-taken s input count m o at {n} {ws = ws} w en ew a eu l =
+    → c ≡ count
+    → ws ≡ sets words 0 (fields (take (count * 2) (take (length input - 4) (drop 4 input))))
+    → Stepped s input words (record { taken = 4 + count * 2; next = Ends (record { number = n; count = c }) }) ws
+record-read s input words count w en ec ew =
     let e : take (count * 2) (take (length input - 4) (drop 4 input)) ≡ take (count * 2) (drop 4 input) = take-take (count * 2) (length input - 4) (drop 4 input) (omega (arith, w .inside)) in
-    let k : Store = record { words = ws; slice = m .slice; marks = m .marks } in
-    let f : feed s m (take (4 + count * 2) input) ≡ finished n count (s .totals) k =
-    whole-record s input count m w ∙ rw (en, ew, e) in
-    took-as f (finishes n count (s .totals) k o at (rw (finishing-short n count ws (m .slice) (w .few)) a) eu l)
+    record { some = omega arith; inside = w .inside; feeds = λ T K. whole-record s input count (storeOf words T K) w ∙ rw (en, ec, ew, e) }
 
 -- ---- the words, one after another
 

@@ -3,14 +3,15 @@ use mathlib.Core.Bool.{true, cond}
 use mathlib.Core.Path.{_≡_}
 use mathlib.Core.Option.{none}
 use mathlib.Core.List.{List, [], _∷_, _++_}
-use Prim.Native.Nat.{ℕ, _+_, _*_, _≤_, _<_}
+use Prim.Native.Nat.{ℕ, _+_, _*_, _^_, _≤_, _<_}
 use lib.Dec.{ltb, eqb}
 use lib.ListN.{length, take, getD, set, replicate}
+use Rattle.clause.specs.Clause.{maxWords}
 use Rattle.tree.specs.Forest.{find}
 use Rattle.tree.specs.Laid.{wellLaid, decode}
 use Rattle.book.specs.Book.{sliceOf}
 use Rattle.record.specs.Text.{Written, written}
-use Rattle.record.specs.Line.{lineOf, totalsLine}
+use Rattle.record.specs.Line.{longestLine, lineOf, totalsLine}
 use Rattle.record.specs.Answer.{treeWords, Answered, answered}
 use Rattle.record.specs.Output.{counted, zeros, rowsOf, callsOf, outputOf}
 use Rattle.record.specs.Output as output
@@ -23,6 +24,13 @@ use Rattle.feeding.specs.declared.Half.the-variants.{Even, Odd}
 use Rattle.feeding.specs.declared.Stage.{Stage}
 use Rattle.feeding.specs.declared.Stage.the-variants.{AtNumber, AtCount, AtWord}
 use Rattle.feeding.specs.declared.Session.{Session}
+use Rattle.feeding.specs.declared.Next.{Next}
+use Rattle.feeding.specs.declared.Next.the-variants.{Reads, Ends}
+use Rattle.feeding.specs.declared.Step.{Step}
+
+-- how many numbers a record can have: 16 bits
+abbrev pub numberCount : ℕ
+numberCount = 65_536
 
 -- the lent words: those of the record that is being read, the tree's slice, and a byte for each number, 1 if it is taken
 pub record Store : Type 0 where
@@ -57,30 +65,36 @@ finishedAs a n t m =
 
 -- what becomes of a whole record of `count` words; one of more than 64 was skipped over, with code 3
 unfoldable pub finishing : (number count : ℕ) (words slice : List ℕ) → Answered
-finishing n count ws T = cond (ltb 64 count) (record { outcome = Refused 3; slice = T }) (answered T (record { number = n; words = take count ws }))
+finishing n count ws T = cond (ltb maxWords count) (record { outcome = Refused 3; slice = T }) (answered T (record { number = n; words = take count ws }))
 
 -- a whole record ended
 unfoldable pub finished : (number count : ℕ) → Totals → Store → Fed
 finished n count t m = finishedAs (finishing n count (m .words) (m .slice)) n t m
 
--- the reading goes on: nothing is printed
-abbrev pub going : Stage → Totals → Store → Fed
-going g t m = record { session = record { half = Even; stage = g; totals = t }; store = m; text = [] }
+-- what one more field leads to: the reading goes on, or the record is whole
+abbrev pub advanced : Stage → (field : ℕ) → Next
+advanced AtNumber w = Reads Even (AtCount w)
+advanced (AtCount n) w = cond (eqb w 0) (Ends (record { number = n; count = 0 })) (Reads Even (AtWord n w 0))
+advanced (AtWord n count at) w = cond (ltb (at + 1) count) (Reads Even (AtWord n count (at + 1))) (Ends (record { number = n; count = count }))
 
--- the words with one more stored; past the 64 none is
-abbrev pub storing : Store → (at word : ℕ) → Store
-storing m at w = record { words = set (m .words) at w; slice = m .slice; marks = m .marks }
+-- the words after one more field, if it is one of them; past the 64 none is stored
+abbrev pub stored : Stage → (words : List ℕ) (field : ℕ) → List ℕ
+stored AtNumber ws w = ws
+stored (AtCount n) ws w = ws
+stored (AtWord n count at) ws w = set ws at w
+
+-- the reading goes on, and nothing is printed, or a whole record is ended
+abbrev pub proceeding : Next → Totals → Store → Fed
+proceeding (Reads h g) t m = record { session = record { half = h; stage = g; totals = t }; store = m; text = [] }
+proceeding (Ends x) t m = finished (x .number) (x .count) t m
 
 -- one more field
 unfoldable pub takeField : Stage → Totals → Store → (field : ℕ) → Fed
-takeField AtNumber t m w = going (AtCount w) t m
-takeField (AtCount n) t m w = cond (eqb w 0) (finished n 0 t m) (going (AtWord n w 0) t m)
-takeField (AtWord n count at) t m w =
-    cond (ltb (at + 1) count) (going (AtWord n count (at + 1)) t (storing m at w)) (finished n count t (storing m at w))
+takeField g t m w = proceeding (advanced g w) t (storeOf (stored g (m .words) w) (m .slice) (m .marks))
 
 -- one more byte: the first or the second of a field
 abbrev pub takeAs : Half → Stage → Totals → Store → (byte : ℕ) → Fed
-takeAs Even g t m b = record { session = record { half = Odd b; stage = g; totals = t }; store = m; text = [] }
+takeAs Even g t m b = proceeding (Reads (Odd b) g) t m
 takeAs (Odd a) g t m b = takeField g t m (a * 256 + b)
 
 -- one more byte
@@ -102,7 +116,7 @@ opening = record { half = Even; stage = AtNumber; totals = output.none }
 
 -- the lent words before the first byte: all zeros
 unfoldable pub opened : Store
-opened = record { words = replicate 64 0; slice = replicate treeWords 0; marks = replicate 65_536 0 }
+opened = record { words = replicate maxWords 0; slice = replicate treeWords 0; marks = replicate numberCount 0 }
 
 -- what was fed, with its text put into the output from a place on
 pub record Placed : Type 0 where
@@ -118,9 +132,9 @@ placedAt f o at = record { session = f .session; store = f .store; written = wri
 pub record Steady (slice marks : List ℕ) : Type 0 where
   pub sized : length slice ≡ treeWords
   pub laid : wellLaid slice ≡ true
-  pub numbers : length marks ≡ 65_536
-  pub free : (n : ℕ) → n < 65_536 → getD marks n 0 ≡ 0 → find n (decode slice) ≡ none
-  pub taken : (n : ℕ) → n < 65_536 → find n (decode slice) ≡ none → getD marks n 0 ≡ 0
+  pub numbers : length marks ≡ numberCount
+  pub free : (n : ℕ) → n < numberCount → getD marks n 0 ≡ 0 → find n (decode slice) ≡ none
+  pub taken : (n : ℕ) → n < numberCount → find n (decode slice) ≡ none → getD marks n 0 ≡ 0
 
 -- a record came out as it should: the outcome and the slice, the marks, and what holds from record to record
 pub record Answers (expected : Answered) (number : ℕ) (before : List ℕ) (outcome : Outcome) (slice marks : List ℕ) : Type 0 where
@@ -128,30 +142,36 @@ pub record Answers (expected : Answered) (number : ℕ) (before : List ℕ) (out
   pub marking : marks ≡ marked outcome number before
   pub steady : Steady slice marks
 
--- some of the input was taken as it should be: the session, the lent words and the output, and what holds from record to record
-pub record Took (expected : Fed) (output : List ℕ) (at : ℕ) (session : Session) (store : Store) (written : Written) : Type 0 where
+-- how many records were counted
+abbrev pub recordsIn : Totals → ℕ
+recordsIn t = t .kept + t .struck + t .refused
+
+-- some bytes can be fed: what holds from record to record, the words of a record, a number for each total, room for a line a byte from a place on
+pub record Ready (store : Store) (totals : Totals) (bytes at : ℕ) (output : List ℕ) : Type 0 where
+  pub steady : Steady (store .slice) (store .marks)
+  pub words : length (store .words) ≡ maxWords
+  pub counts : recordsIn totals + bytes < 2 ^ 64
+  pub room : at + bytes * longestLine ≤ length output
+
+-- some bytes were fed as they should be: the session, the lent words and the output; what holds from record to record; at most a line a byte
+pub record Took (expected : Fed) (bytes at : ℕ) (output : List ℕ) (session : Session) (store : Store) (written : Written) : Type 0 where
   pub placed : record { session = session; store = store; written = written } ≡ placedAt expected output at
   pub steady : Steady (store .slice) (store .marks)
+  pub short : written .next ≤ at + bytes * longestLine
+
+-- some of the input was read: feeding it, whatever the slice and the marks, is to go on with what it leads to and the words that it leaves
+pub record Stepped (session : Session) (input words : List ℕ) (step : Step) (after : List ℕ) : Type 0 where
+  pub some : 0 < step .taken
+  pub inside : step .taken ≤ length input
+  pub feeds : (T m : List ℕ) → feed session (storeOf words T m) (take (step .taken) input) ≡ proceeding (step .next) (session .totals) (storeOf after T m)
 
 -- the input begins with a whole record of at most 64 words
 pub record WholeRecord (session : Session) (input : List ℕ) (count : ℕ) : Type 0 where
   pub half : session .half ≡ Even
   pub stage : session .stage ≡ AtNumber
-  pub few : count ≤ 64
+  pub few : count ≤ maxWords
   pub inside : 4 + count * 2 ≤ length input
   pub counts : count ≡ getD input 2 0 * 256 + getD input 3 0
-
--- how many records were counted
-abbrev pub recordsIn : Totals → ℕ
-recordsIn t = t .kept + t .struck + t .refused
-
--- how much of an input of `len` bytes was taken, and of an output of `room` bytes used: all is taken unless no line fits any more
-pub record Bounds (len room : ℕ) (before : Totals) (taken next : ℕ) (after : Totals) : Type 0 where
-  pub inside : taken ≤ len
-  pub fits : next ≤ room
-  pub full : taken < len → room < next + 45
-  pub moves : 45 ≤ room → 0 < len → 0 < taken
-  pub records : recordsIn after ≤ recordsIn before + taken
 
 -- the claims about every input
 pub record WholeInput : Type 0 where

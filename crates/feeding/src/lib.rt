@@ -3,9 +3,20 @@ use record::Totals;
 
 mod answering;
 mod feeding;
+mod reading;
 
 pub use feeding::begin;
 pub use feeding::feed;
+
+// The words that a run lends, beside those of a clause.
+pub struct Lent {}
+
+impl Lent {
+    // The words of the tree's slice.
+    pub const TREE: usize = 8192;
+    // The marks: a byte for each number that a record can have.
+    pub const MARKS: usize = 65536;
+}
 
 // Whether the next byte is the first of a field, or the second, with the first.
 pub enum Half {
@@ -27,15 +38,26 @@ pub struct Session {
     pub totals: Totals,
 }
 
+// A whole record's number and word count.
+pub struct Head {
+    pub number: u16,
+    pub count: u16,
+}
+
+// What some more of the input leads to: the reading goes on, or a record is whole.
+pub enum Next {
+    Reads(Half, Stage),
+    Ends(Head),
+}
+
+// Some more of the input: how many bytes were taken, and what they lead to.
+pub struct Step {
+    pub taken: usize,
+    pub next: Next,
+}
+
 // A session after some more of the input, and the place in the output after what was printed.
 pub struct Turn {
     pub session: Session,
-    pub next: usize,
-}
-
-// A session after a block: how many bytes of it were taken, and the place in the output after what was printed.
-pub struct Progress {
-    pub session: Session,
-    pub taken: usize,
     pub next: usize,
 }

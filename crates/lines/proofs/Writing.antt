@@ -6,8 +6,8 @@ use Prim.Native.Nat.{ℕ, zero, suc, _+_, _/_, _%_, _^_, _≤_, _<_}
 use native.Mathlib.Omega.{arith}
 use native.Mathlib.Decide.{decLt}
 use native.Mathlib.Numerals.{add-one}
-use lib.ListN.{length, take, getD, length-append, set}
-use lib.Seq.{sets, set-comm, length-sets, take-suc, length-take-le}
+use lib.ListN.{length, take, drop, getD, length-append, set}
+use lib.Seq.{sets, sets-eq, set-comm, length-sets, take-suc, take-at, length-take-le}
 use borrow.Author.Tests.{lt-ltb, le-ltb}
 use Rattle.record.specs.Text.{digitsFor, decimal, Written, written}
 
@@ -54,6 +54,12 @@ written-append s t o at = rw (length-append, sets-append s t o at) (let e : at +
 pub placed : (t o : List ℕ) (at : ℕ) {r : ℕ} {p : List ℕ} → _≡_ {A = Written} (record { next = r; output = p }) (written t o at)
     → (r ≡ at + length t) × (length p ≡ length o)
 placed t o at e = (ap (λ (w : Written). w .next) e, ap (λ (w : Written). length (w .output)) e ∙ length-sets o at t)
+
+-- what was put at the beginning of the output stands there
+pub text-there : (t o : List ℕ) {r : ℕ} {p : List ℕ} → length t ≤ length o → _≡_ {A = Written} (record { next = r; output = p }) (written t o 0) → take r p ≡ t
+text-there t o h e =
+    ap (λ (w : Written). take (w .next) (w .output)) e
+    ∙ rw (sets-eq t o 0 (omega arith)) (take-at t (drop (0 + length t) o) (0 + length t) (omega arith))
 
 -- ---- a number, digit after digit
 

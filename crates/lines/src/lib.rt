@@ -4,3 +4,11 @@ mod text;
 
 pub use line::put_line;
 pub use line::put_totals;
+
+// The most bytes of a line.
+pub struct Longest {}
+
+impl Longest {
+    // Of a record's line.
+    pub const LINE: usize = 45;
+}

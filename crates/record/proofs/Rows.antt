@@ -2,7 +2,7 @@
 use mathlib.Core.Path.{_≡_, refl, sym, ap, subst, _∙_}
 use mathlib.Core.Logic.{_⊎_, inl, inr}
 use mathlib.Core.List.{List, [], _∷_, _++_, map, append-assoc, List·Memᴰ, List·Memᴰ·head, List·Memᴰ·tail, Memᴰ·append-left, Memᴰ·append-right, List·Memᴰ·append-cases, List·Memᴰ·eq-of-singleton}
-use Prim.Native.Nat.{ℕ}
+use Prim.Native.Nat.{ℕ, _+_}
 use native.Mathlib.Omega.{arith}
 use lib.ListN.{length}
 use Rattle.clause.specs.Lists.{All, none, also}
@@ -146,6 +146,19 @@ fate-count t (keeps k) e = omega arith
 pub kept-count : {K : List Pair} {rs : List Row} (t : Totals) → Fated K rs → t .kept ≡ length K → totalsWith t rs .kept ≡ length (bookFrom treeWords K (callsOf rs))
 kept-count t fated-none h = h
 kept-count {K} t (fated-more {r = r} {rs = rs} e f) h = rw (book-append K (r .calls) (callsOf rs)) (kept-count (counted (r .outcome) t) f (fate-count t e h))
+
+-- each row is counted once
+abbrev sum : Totals → ℕ
+sum t = t .kept + t .struck + t .refused
+
+counted-one : (o : Outcome) (t : Totals) → sum (counted o t) ≡ sum t + 1
+counted-one (Kept used) t = omega arith
+counted-one (Struck n c) t = omega arith
+counted-one (Refused code) t = omega arith
+
+pub rows-counted : (rs : List Row) (t : Totals) → sum (totalsWith t rs) ≡ sum t + length rs
+rows-counted [] t = omega arith
+rows-counted (r ∷ rs) t = omega (arith, rows-counted rs (counted (r .outcome) t), counted-one (r .outcome) t)
 
 -- the pair of a row with a `kept` line
 kept-one : {o : Outcome} {x : Record} → IsKept o → List·Memᴰ (pairOf x) (keptOn o x)

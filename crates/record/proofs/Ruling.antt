@@ -23,7 +23,7 @@ use Rattle.tree.specs.Calls.{Called, changed}
 use Rattle.tree.specs.Refusal.{codeOf}
 use Rattle.walk.specs.Walk.{Answer, covered, notCovered, spent, broken, upTo, walk}
 use Rattle.walk.specs.Query.{machine, witnessWords, told, query}
-use Rattle.walk.specs.Covering.{Subsumed, candidates, IsCovered, IsNotCovered, IsSpent, Answers}
+use Rattle.walk.specs.Covering.{Subsumed, Shows, candidates, IsCovered, IsNotCovered, IsSpent, Answers}
 use Rattle.book.specs.Book.{insert, Fit, AllFit, after, bookStep, bookFrom, treeOf}
 use Rattle.record.specs.Answer.{budget, treeWords, Record, insertedAs, answeredAs, answered, callsOn, callsFor}
 use Rattle.record.specs.Ruled.{pairOf, Numbered, wordsOf, Decided, Uncovered, Takes, Strikes, Reason, faulty, number-taken, list-full, no-room, over-budget, Ruled}
@@ -61,6 +61,10 @@ witness-long = rw (length-replicate {A = ℕ} witnessWords 0) (omega arith)
 
 -- ---- a variant of a clause is subsumed by it
 
+-- the only clause that there is
+lone : (p r : Pair) (d W : List ℕ) → List·Memᴰ r (p ∷ []) → Shows (r .clause) d W → Subsumes (p .clause) d
+lone p r d W m s = rw (List·Memᴰ·eq-of-singleton m) at (shows-subsumes (r .clause) d W s)
+
 variant-subsumed : (p : Pair) (d : List ℕ) → Sound p → Accepted d → Words d → keys d ≡ keys (p .clause) → Subsumes (p .clause) d
 variant-subsumed p d s D w e =
     let q : Pair = record { number = p .number; clause = d } in
@@ -70,7 +74,7 @@ variant-subsumed p d s D w e =
     let Q : Mirrors F (map entry (q ∷ [])) = rw e R in
     let (t, f) = subsumes-finds (q ∷ []) F (also (record { accepted = D; words = w; number = s .number }) none) Q d D q (List·Memᴰ·head refl) (subsumes-refl d) in
     let (r, m, i, shows, spared) = finds-shows (p ∷ []) F (also s none) R d D (p .number) t f (replicate witnessWords 0) witness-long in
-    rw (List·Memᴰ·eq-of-singleton m) at (shows-subsumes (r .clause) d _ shows)
+    lone p r d _ m shows
 
 -- ---- the cases exclude each other
 

@@ -4,7 +4,7 @@ use mathlib.Core.Logic.{⊎-elim}
 use mathlib.Core.List.{List, [], _∷_, _++_, append-assoc, append-nil, List·Memᴰ}
 use Prim.Native.Nat.{ℕ, _≤_}
 use native.Mathlib.Omega.{arith}
-use lib.ListN.{replicate, length-replicate}
+use lib.ListN.{length, replicate, length-map, length-replicate}
 use borrow.Author.Tests.{le-leb}
 use Rattle.clause.specs.Clause.{Subsumes}
 use Rattle.tree.specs.Entries.{Pair}
@@ -19,7 +19,7 @@ use Rattle.clause.proofs.Order.{subsumes-refl}
 use Rattle.book.proofs.Holds.{holds-empty, fresh-layout, holds-numbers, holds-clauses}
 use Rattle.record.proofs.Reading.{complete, input-fits}
 use Rattle.record.proofs.Ruling.{Fate, ruled}
-use Rattle.record.proofs.Rows.{book-append, Standing, standing-after, Made, made, rows-records, made-first, made-last, made-row, made-fit, Fated, fated, fated-first, fated-last, fated-row, kept-book, kept-count, kept-mem, mem-kept, StruckBy, fate-struck, struck-book}
+use Rattle.record.proofs.Rows.{book-append, Standing, standing-after, Made, made, rows-records, made-first, made-last, made-row, made-fit, Fated, fated, fated-first, fated-last, fated-row, kept-book, kept-count, rows-counted, kept-mem, mem-kept, StruckBy, fate-struck, struck-book}
 
 -- ---- the slice before the first record
 
@@ -123,6 +123,7 @@ sheets input b =
     record {
       reads = complete input;
       rows = rows-records zeros (recordsOf input);
+      counts = omega (arith, rows-counted (rowsOf input) none, length-map (rowsOf input) (λ (r : Row). r .of), ap length (rows-records zeros (recordsOf input)));
       placed = placed m f;
       stands = stands m;
       covers = covers input f;

@@ -40,6 +40,18 @@ saying (Kept used) = named saysKept used
 saying (Struck covering candidates) = named saysStruck covering ++ named space candidates
 saying (Refused code) = named saysRefused code
 
+-- the most bytes of that: ` struck `, a number of 32 bits, a space and a number of 64
+abbrev pub longestSaying : ℕ
+longestSaying = 39
+
+-- the most bytes of a record's line: a number of 16 bits, what is said, the line's end
+abbrev pub longestLine : ℕ
+longestLine = 45
+
+-- the most bytes of the last line: three numbers of 64 bits, `kept `, ` struck `, ` refused `, the line's end
+abbrev pub longestLast : ℕ
+longestLast = 83
+
 -- the line of a record
 unfoldable pub lineOf : (number : ℕ) → Outcome → List ℕ
 lineOf n o = decimal n ++ (saying o ++ lineEnd)

@@ -2,7 +2,7 @@
 use mathlib.Core.Path.{_≡_}
 use mathlib.Core.Logic.{_≢_, _⊎_}
 use mathlib.Core.List.{List, [], _∷_, _++_, map, List·Memᴰ}
-use Prim.Native.Nat.{ℕ, _<_}
+use Prim.Native.Nat.{ℕ, _+_, _<_}
 use lib.ListN.{length}
 use Rattle.clause.specs.Lists.{All, Each}
 use Rattle.clause.specs.Clause.{Subsumes}
@@ -95,9 +95,10 @@ pub record Covers (input : List ℕ) : Type 0 where
 
 -- what is claimed of an input; `outputOf` is the lines of its rows, and their totals
 pub record Sheet (input : List ℕ) : Type 0 where
-  -- a row for each complete record, in order
+  -- a row for each complete record, in order; the last line counts each of them once
   pub reads : Complete (recordsOf input) (fields input)
   pub rows : map (λ r. r .of) (rowsOf input) ≡ recordsOf input
+  pub counts : let t = totalsWith none (rowsOf input) in t .kept + t .struck + t .refused ≡ length (recordsOf input)
   -- each row in its place, and the last book
   pub placed : (a : Place (rowsOf input)) → Placed a
   pub stands : Stands (rowsOf input)

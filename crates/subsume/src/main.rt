@@ -1,17 +1,86 @@
 // The program: it reads records from standard input, and writes what becomes of them to standard output (document 01, "The program").
 // Every line is made by `feeding::feed`; here is only what moves the bytes.
+use clause::Clause;
+use feeding::Lent;
 use feeding::Session;
 use feeding::begin;
 use feeding::feed;
 use libc::STDIN_FILENO;
 use libc::STDOUT_FILENO;
+use lines::Longest;
 use lines::put_totals;
 ghost use mathlib.Core.Path.{_≡_};
-ghost use Prim.Native.Nat.{_+_, _^_, _≤_, _<_};
-ghost use lib.ListN.{length};
-ghost use Rattle.feeding.specs.Feed.{Steady, recordsIn};
+ghost use Prim.Native.Nat.{_≤_, _<_};
+ghost use lib.ListN.{length, take};
+ghost use Rattle.feeding.specs.Feed.{storeOf, Steady, Ready, opened};
+ghost use Rattle.feeding.specs.Feed.{feed as Feed·feed};
+ghost use Rattle.subsume.specs.Run.{blockBytes, mostBlocks, Buffers, Stands, LastLine};
 
-// Feeds a block, and writes what it prints, as often as the output is full.
+// The limits of a run.
+struct Limit {}
+
+impl Limit {
+    // The most bytes of a block.
+    const BLOCK: usize = 16384;
+    // The most blocks. A proved loop has to end, and nothing says that the input does: no run uses them up.
+    const BLOCKS: u64 = 140737488355328;
+}
+
+// What a read gave: how many bytes, and whether more may come.
+struct Got {
+    count: usize,
+    more: bool,
+}
+
+// What was fed: the session after it, the place in the output after its lines, and whether they were written.
+struct Fed {
+    session: Session,
+    next: usize,
+    good: bool,
+}
+
+// Reads a block. A read that was interrupted gives no bytes, and more may come; one that fails is reported, and ends the input.
+fn read_block(input: &mut [u8]) -> Got
+    ensures { λ r. ⌜ r .count ≤ length (now (input .exit)) ⌝ }
+{
+    let got = libc::read(STDIN_FILENO, input);
+    if got < 0 {
+        if os::errno() == libc::EINTR {
+            return Got {
+                count: 0,
+                more: true,
+            };
+        }
+        os::fail(b"subsume: reading standard input");
+        return Got {
+            count: 0,
+            more: false,
+        };
+    }
+    let count = io::count(got, input);
+    Got {
+        count: count,
+        more: count > 0,
+    }
+}
+
+// Writes some text, and tells whether all of it was taken. A write that fails is reported.
+fn write_text(text: &[u8]) -> bool {
+    let good = io::write_all(STDOUT_FILENO, text);
+    if !good {
+        os::fail(b"subsume: writing standard output");
+    }
+    good
+}
+
+// Writes the last line, unless a write has failed.
+fn write_last(line: &[u8], good: bool) {
+    if good {
+        write_text(line);
+    }
+}
+
+// Feeds a block, and writes its lines.
 fn feed_block(
     block: &[u8],
     session: Session,
@@ -19,51 +88,92 @@ fn feed_block(
     marks: &mut [u8],
     words: &mut [u16],
     output: &mut [u8],
-) -> Session
-    requires { ⌜ Steady (now tree) (now marks) × (length (now words) ≡ 64) × (recordsIn (session .totals) + length (now block) < 2 ^ 64) × (45 ≤ length (now output)) ⌝ }
+) -> Fed
+    requires { ⌜ Ready (storeOf (now words) (now tree) (now marks)) (session .totals) (length (now block)) 0 (now output) ⌝ }
+    ensures fed { λ r. ⌜ record {
+      session = r .session;
+      store = storeOf (now (words .exit)) (now (tree .exit)) (now (marks .exit));
+      text = take (r .next) (now (output .exit));
+    }
+        ≡ Feed·feed session (storeOf (now (words .entry)) (now (tree .entry)) (now (marks .entry))) (now (block .entry)) ⌝ }
     ensures steady { λ _. ⌜ Steady (now (tree .exit)) (now (marks .exit)) ⌝ }
-    ensures records { λ r. ⌜ recordsIn (r .totals) ≤ recordsIn (session .totals) + length (now (block .entry)) ⌝ }
 {
-    let mut here = session;
-    let mut from = 0;
-    while from < block.len() {
-        let progress = feed(&block[from..], here, tree, marks, words, output);
-        let next = progress.next;
-        io::write_all(STDOUT_FILENO, &output[..next]);
-        let after = progress.session;
-        here = after;
-        from += progress.taken;
+    let turn = feed(block, session, tree, marks, words, output);
+    let next = turn.next;
+    let good = write_text(&output[..next]);
+    let after = turn.session;
+    Fed {
+        session: after,
+        next: next,
+        good: good,
+    }
+}
+
+// How many blocks are left after one more: none if no more may come, or if nothing more can be written.
+fn left_after(blocks: u64, more: bool, good: bool) -> u64
+    requires { ⌜ 0 < blocks ⌝ }
+    ensures { λ r. ⌜ r < blocks ⌝ }
+{
+    if more {
+        if good {
+            return blocks - 1;
+        }
+    }
+    0
+}
+
+// Reads and feeds block after block. The end of the input is a block of no bytes.
+fn feed_all(
+    input: &mut [u8],
+    tree: &mut [u64],
+    marks: &mut [u8],
+    words: &mut [u16],
+    output: &mut [u8],
+) -> Fed
+    requires { ⌜ Buffers (now input) (now output) × (storeOf (now words) (now tree) (now marks) ≡ opened) ⌝ }
+    ensures { λ r. ⌜ Stands (r .session) (storeOf (now (words .exit)) (now (tree .exit)) (now (marks .exit))) ⌝ }
+{
+    let mut here = Fed {
+        session: begin(),
+        next: 0,
+        good: true,
+    };
+    let mut blocks = Limit::BLOCKS;
+    while blocks > 0 {
+        let got = read_block(input);
+        let count = got.count;
+        let session = here.session;
+        let fed = feed_block(&input[..count], session, tree, marks, words, output);
+        blocks = left_after(blocks, got.more, fed.good);
+        here = fed;
     }
     here
 }
 
-// Reads blocks up to the end of the input, and then writes the last line. A proved loop has to end, and nothing says that the input does: the
-// blocks are counted down from a number that no run uses up.
-fn run(input: &mut [u8], tree: &mut [u64], marks: &mut [u8], words: &mut [u16], output: &mut [u8])
-    requires { ⌜ Steady (now tree) (now marks) × (length (now words) ≡ 64) × (length (now input) ≤ 65536) × (83 ≤ length (now output)) ⌝ }
+// Feeds the whole input, and then puts the last line into the output and writes it, unless a write has failed. Gives the place after it.
+fn run(
+    input: &mut [u8],
+    tree: &mut [u64],
+    marks: &mut [u8],
+    words: &mut [u16],
+    output: &mut [u8],
+) -> usize
+    requires { ⌜ Buffers (now input) (now output) × (storeOf (now words) (now tree) (now marks) ≡ opened) ⌝ }
+    ensures { λ r. ⌜ LastLine (storeOf (now (words .exit)) (now (tree .exit)) (now (marks .exit))) (now (output .exit)) r ⌝ }
 {
-    let mut session = begin();
-    let mut blocks: u64 = 140737488355328;
-    while blocks > 0 {
-        let got = libc::read(STDIN_FILENO, input);
-        let count = io::count(got, input);
-        if count == 0 {
-            break;
-        }
-        let after = feed_block(&input[..count], session, tree, marks, words, output);
-        session = after;
-        blocks -= 1;
-    }
+    let all = feed_all(input, tree, marks, words, output);
+    let session = all.session;
     let totals = session.totals;
     let end = put_totals(output, 0, totals);
-    io::write_all(STDOUT_FILENO, &output[..end]);
+    write_last(&output[..end], all.good);
+    end
 }
 
 fn main() {
-    let mut input = [0u8; 65536];
-    let mut tree = [0u64; 8192];
-    let mut marks = [0u8; 65536];
-    let mut words = [0u16; 64];
-    let mut output = [0u8; 65536];
+    let mut input = [0u8; Limit::BLOCK];
+    let mut tree = [0u64; Lent::TREE];
+    let mut marks = [0u8; Lent::MARKS];
+    let mut words = [0u16; Clause::WORDS];
+    let mut output = [0u8; Limit::BLOCK * Longest::LINE];
     run(&mut input, &mut tree, &mut marks, &mut words, &mut output);
 }

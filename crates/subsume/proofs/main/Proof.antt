@@ -1,10 +1,16 @@
--- The buffers, all zeros: the fresh slice and no marks.
-use mathlib.Core.Path.{refl}
+-- The buffers, all zeros: what is opened.
+use Rattle.subsume.proofs.Blocks.{room-in, enough}
+use Rattle.feeding.specs.Feed.{opened}
+use mathlib.Core.Path.{refl, sym}
+use Prim.Native.Nat.{ℕ}
 use native.Mathlib.Omega.{arith}
-use Rattle.feeding.proofs.Steady.{steady-fresh}
+use lib.ListN.{length-replicate}
 use borrow.Author.Needs.{needs}
 use Rattle.subsume.proofs.main.Statement.{statement}
 use Rattle.subsume.proofs.main.Tie as tie
+use Rattle.subsume.proofs.main.Reads as reads
+use Rattle.subsume.proofs.main.Lts as lts
+use Rattle.subsume.proofs.run.Reads as run-reads
 
 slice-aggregate-run : tie.Need-slice-aggregate-run
 slice-aggregate-run c = search needs
@@ -19,10 +25,11 @@ slice-aggregate-run-4 : tie.Need-slice-aggregate-run-4
 slice-aggregate-run-4 c = search needs
 
 slice-aggregate-run-5 : tie.Need-slice-aggregate-run-5
-slice-aggregate-run-5 c = search needs
+slice-aggregate-run-5 c = sym (length-replicate {A = ℕ} 737_280 0)
 
 run-requires : tie.Need-run-requires
-run-requires c κs = (steady-fresh, refl, omega arith, omega arith)
+unfolding opened
+run-requires c κs = (record { block = refl; room = room-in 737_280 enough }, refl)
 
 returns : tie.Need-returns
 returns c = search needs

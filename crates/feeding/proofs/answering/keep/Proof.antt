@@ -6,6 +6,7 @@ use Rattle.clause.specs.Word.{Words}
 use mathlib.Core.List.{[], _∷_}
 use lib.Seq.{length-take-le}
 use types.Run.{miss}
+use Rattle.feeding.specs.Feed.{numberCount}
 use Rattle.feeding.proofs.Steady.{words-of}
 use Rattle.machine.proofs.Compiled.{compiled-fits, compiled-keys}
 use Rattle.feeding.proofs.Keeping.{clause-short, ready, number-new, called, keep-marked, keep-refused, keep-kept}
@@ -20,7 +21,7 @@ returns : tie.Need-returns
 returns c =
     let s = c .before .before .before .before .before .before in
     let w : Words (s .args .words .now) = words-of (s .args .words .now) (λ i. omega (arith, c .before .before .shared-slice-known .given i)) in
-    let l : s .args .number < 65_536 = omega (arith, s .fits .number) in
+    let l : s .args .number < numberCount = omega (arith, s .fits .number) in
     keep-marked (s .pre .0) (s .args .words .now) (s .pre .1) w (s .args .number) l (c .if1 .taken)
 
 compile-requires : tie.Need-compile-requires
@@ -36,7 +37,7 @@ insert-new-requires : tie.Need-insert-new-requires
 insert-new-requires c κs =
     let s = c .before .before .before .before .before .before .before .before .before .before .before .before in
     let w : Words (s .args .words .now) = words-of (s .args .words .now) (λ i. omega (arith, c .before .before .before .before .before .before .before .before .shared-slice-known .given i)) in
-    let l : s .args .number < 65_536 = omega (arith, s .fits .number) in (
+    let l : s .args .number < numberCount = omega (arith, s .fits .number) in (
       ready (s .pre .0) (s .args .words .now) (s .pre .1) w (s .args .number) l (compiled-keys (c .before .before .before .before .compile .ensures)),
       number-new (s .pre .0) (s .args .words .now) (s .pre .1) w (s .args .number) l (c .before .before .before .before .before .before .if1 .left),
     )
@@ -63,7 +64,7 @@ returns-2 : tie.Need-returns-2
 returns-2 c =
     let s = c .before .before .before .before .before .before .before .before .before .before .before .before .before .before .before .before .before in
     let w : Words (s .args .words .now) = words-of (s .args .words .now) (λ i. omega (arith, c .before .before .before .before .before .before .before .before .before .before .before .before .before .shared-slice-known .given i)) in
-    let l : s .args .number < 65_536 = omega (arith, s .fits .number) in
+    let l : s .args .number < numberCount = omega (arith, s .fits .number) in
     let i = c .before .before .before .before .insert-new in
     let k = c .before .match .keys2 in
     keep-kept (s .pre .0) (s .args .words .now) (s .pre .1) w (s .args .number) l (c .before .before .before .before .before .before .before .before .before .before .before .if1 .left)
@@ -83,7 +84,7 @@ returns-3 : tie.Need-returns-3
 returns-3 c =
     let s = c .before .before .before .before .before .before .before .before .before .before .before .before .before .before .before .before .before .before .before in
     let w : Words (s .args .words .now) = words-of (s .args .words .now) (λ i. omega (arith, c .before .before .before .before .before .before .before .before .before .before .before .before .before .before .before .shared-slice-known .given i)) in
-    let l : s .args .number < 65_536 = omega (arith, s .fits .number) in
+    let l : s .args .number < numberCount = omega (arith, s .fits .number) in
     let g = c .before .before .answer .given in
     keep-refused (s .pre .0) (s .args .words .now) (s .pre .1) w (s .args .number) l (c .before .before .before .before .before .before .before .before .before .before .before .before .before .if1 .left)
     (called (s .pre .0) (s .args .words .now) (s .pre .1) w (s .args .number) l (compiled-keys (c .before .before .before .before .before .before .before .before .before .before .before .compile .ensures)) (c .before .before .before .before .before .before .insert-new .ensures)) (g .0 .0) (g .1) (c .code .ensures)

@@ -1,9 +1,14 @@
 -- The outcome, its line, the totals.
-use Rattle.feeding.specs.Feed.{storeOf}
 use Rattle.feeding.proofs.Blocks.{finishes}
+use Rattle.feeding.specs.Feed.{storeOf}
 use borrow.Author.Needs.{needs}
 use Rattle.feeding.proofs.feeding.finish.Statement.{statement}
 use Rattle.feeding.proofs.feeding.finish.Tie as tie
+use Rattle.feeding.proofs.feeding.finish.Reads as reads
+use Rattle.feeding.proofs.feeding.finish.Lts as lts
+use Rattle.feeding.proofs.feeding.count_outcome.Reads as count-outcome-reads
+use Rattle.feeding.proofs.feeding.outcome_of.Reads as outcome-of-reads
+use Rattle.lines.proofs.put_line.Reads as put-line-reads
 
 outcome-of-requires : tie.Need-outcome-of-requires
 outcome-of-requires c κs = search needs
@@ -25,9 +30,10 @@ same-length-3 c = search needs
 
 returns : tie.Need-returns
 returns c =
-    let a = c .before .before .before .before .before .before .before .before .before .before .before .before .before .before .before .before .before .args in
-    let p = c .before .before .before .put-line .ensures in
-    (finishes (a .number) (a .count) (a .totals) (storeOf (a .words .now) (a .tree .now) (a .marks .now)) (a .output .now) (a .at) (c .before .before .before .before .before .before .before .before .before .outcome-of .ensures) (c .count-outcome .ensures) (p .0), p .1)
+    let a = c .before .before .before .before .before .before .before .before .before .before .before .before .before .before .before .before .before .before .before .args in
+    let m = storeOf (a .words .now) (a .tree .now) (a .marks .now) in
+    let p = c .before .before .before .before .before .put-line .ensures in
+    finishes (a .head .number) (a .head .count) (a .turn .session .totals) m (a .output .now) (a .turn .next) (c .before .before .before .before .before .before .before .before .before .before .before .outcome-of .ensures) (c .count-outcome .ensures) (p .0) (p .1)
 
 pub finish-spec : {M : Type 1} → statement M
 finish-spec =

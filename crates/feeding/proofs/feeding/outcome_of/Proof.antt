@@ -1,22 +1,26 @@
 -- More than 64 words, or the record is answered.
-use mathlib.Core.Path.{refl, sym}
-use native.Mathlib.Omega.{arith}
-use lib.Seq.{length-take-le}
-use borrow.Author.Tests.{lt-ltb, le-ltb}
 use Rattle.feeding.specs.Feed.{finishing}
+use Rattle.clause.specs.Clause.{maxWords}
+use borrow.Author.Tests.{lt-ltb, le-ltb}
+use lib.Seq.{length-take-le}
+use native.Mathlib.Omega.{arith}
+use mathlib.Core.Path.{refl, sym}
 use borrow.Author.Needs.{needs}
 use Rattle.feeding.proofs.feeding.outcome_of.Statement.{statement}
 use Rattle.feeding.proofs.feeding.outcome_of.Tie as tie
+use Rattle.feeding.proofs.feeding.outcome_of.Reads as reads
+use Rattle.feeding.proofs.feeding.outcome_of.Lts as lts
+use Rattle.feeding.proofs.answering.answer.Reads as answer-reads
 
-cast-if1 : tie.Need-cast-if1
-cast-if1 c = search needs
+cast-end : tie.Need-cast-end
+cast-end c = search needs
 
 returns : tie.Need-returns
 unfolding finishing
-returns c = record { answer = rw (lt-ltb 64 _ (c .if1 .taken)); marking = refl; steady = c .before .before .before .before .pre .0 }
+returns c = record { answer = rw (lt-ltb maxWords _ (c .if1 .taken)); marking = refl; steady = c .before .before .before .before .before .pre .0 }
 
 slice-aggregate-answer : tie.Need-slice-aggregate-answer
-slice-aggregate-answer c = sym (length-take-le _ _ (omega (arith, c .before .before .before .before .before .before .before .before .pre .1, c .before .before .before .before .if1 .left)))
+slice-aggregate-answer c = sym (length-take-le _ _ (omega (arith, c .before .before .before .before .before .before .before .before .before .pre .1, c .before .before .before .before .if1 .left)))
 
 answer-requires : tie.Need-answer-requires
 answer-requires c κs = search needs
@@ -31,9 +35,16 @@ returns-2 : tie.Need-returns-2
 unfolding finishing
 returns-2 c =
     let a = c .before .before .before .before .answer .ensures in
-    record { answer = rw (le-ltb 64 _ (c .before .before .before .before .before .before .before .before .before .if1 .left)) (a .answer); marking = a .marking; steady = a .steady }
+    record { answer = rw (le-ltb maxWords _ (c .before .before .before .before .before .before .before .before .before .if1 .left)) (a .answer); marking = a .marking; steady = a .steady }
 
 pub outcome-of-spec : {M : Type 1} → statement M
 outcome-of-spec =
     tie.close
-    (tie.spec cast-if1 returns slice-aggregate-answer answer-requires same-length same-length-2 returns-2)
+    (tie.spec
+    cast-end
+    returns
+    slice-aggregate-answer
+    answer-requires
+    same-length
+    same-length-2
+    returns-2)

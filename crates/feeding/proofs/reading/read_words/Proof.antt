@@ -7,8 +7,8 @@ use lib.Seq.{sets}
 use Rattle.record.specs.Output.{fields}
 use Rattle.feeding.proofs.Whole.{read-more, read-all}
 use borrow.Author.Needs.{needs}
-use Rattle.feeding.proofs.feeding.read_words.Statement.{statement}
-use Rattle.feeding.proofs.feeding.read_words.Tie as tie
+use Rattle.feeding.proofs.reading.read_words.Statement.{statement}
+use Rattle.feeding.proofs.reading.read_words.Tie as tie
 
 abbrev Inv-loop : tie.InvT-loop
 Inv-loop input words₀ count i₀ at₀ words i at =

@@ -1,8 +1,8 @@
 -- Either the answer is 65, or all the tests were passed.
 use native.Mathlib.Omega.{arith}
 use borrow.Author.Needs.{needs}
-use Rattle.feeding.proofs.feeding.words_ahead.Statement.{statement}
-use Rattle.feeding.proofs.feeding.words_ahead.Tie as tie
+use Rattle.feeding.proofs.reading.words_ahead.Statement.{statement}
+use Rattle.feeding.proofs.reading.words_ahead.Tie as tie
 
 enum-told : tie.Need-enum-told
 enum-told c = search needs

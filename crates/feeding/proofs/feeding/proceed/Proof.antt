@@ -1,0 +1,52 @@
+-- The reading goes on, or a record is ended.
+use Rattle.feeding.proofs.Blocks.{goes, ends, took-as}
+use Rattle.feeding.specs.Feed.{storeOf}
+use borrow.Author.Needs.{needs}
+use Rattle.feeding.proofs.feeding.proceed.Statement.{statement}
+use Rattle.feeding.proofs.feeding.proceed.Tie as tie
+use Rattle.feeding.proofs.feeding.proceed.Reads as reads
+use Rattle.feeding.proofs.feeding.proceed.Lts as lts
+use Rattle.feeding.proofs.feeding.finish.Reads as finish-reads
+
+enum-known-next : tie.Need-enum-known-next
+enum-known-next c = search needs
+
+enum-known-next-2 : tie.Need-enum-known-next-2
+enum-known-next-2 c = search needs
+
+finish-requires : tie.Need-finish-requires
+finish-requires c κs = search needs
+
+returns : tie.Need-returns
+returns c =
+    let a = c .before .before .before .before .before .before .before .before .before .args in
+    let n = c .before .before .before .next .given in
+    goes (n .0 .0) (n .0 .1 .0) (a .turn .session .totals) (storeOf (a .words .now) (a .tree .now) (a .marks .now)) (a .output .now) (a .turn .next) (n .1) (c .before .before .before .before .before .before .before .before .before .pre .steady)
+
+same-length : tie.Need-same-length
+same-length c = search needs
+
+same-length-2 : tie.Need-same-length-2
+same-length-2 c = search needs
+
+same-length-3 : tie.Need-same-length-3
+same-length-3 c = search needs
+
+returns-2 : tie.Need-returns-2
+returns-2 c =
+    let a = c .before .before .before .before .before .before .before .before .before .before .before .before .before .before .before .before .before .before .args in
+    let n = c .before .before .before .before .before .before .before .before .before .before .before .before .next2 .given in
+    took-as (ends (n .0 .0) (a .turn .session .totals) (storeOf (a .words .now) (a .tree .now) (a .marks .now)) (n .1)) (c .before .before .before .before .before .before .finish .ensures)
+
+pub proceed-spec : {M : Type 1} → statement M
+proceed-spec =
+    tie.close
+    (tie.spec
+    enum-known-next
+    enum-known-next-2
+    finish-requires
+    returns
+    same-length
+    same-length-2
+    same-length-3
+    returns-2)

@@ -1,0 +1,54 @@
+-- The first byte of a field, or the second.
+use mathlib.Core.Path.{refl}
+use Rattle.feeding.proofs.Blocks.{first-byte, second-byte}
+use Rattle.feeding.specs.Feed.{storeOf}
+use borrow.Author.Needs.{needs}
+use Rattle.feeding.proofs.reading.read_byte.Statement.{statement}
+use Rattle.feeding.proofs.reading.read_byte.Tie as tie
+use Rattle.feeding.proofs.reading.read_byte.Reads as reads
+use Rattle.feeding.proofs.reading.read_byte.Lts as lts
+use Rattle.feeding.proofs.reading.advance.Reads as advance-reads
+use Rattle.feeding.proofs.reading.field_of.Reads as field-of-reads
+use Rattle.feeding.proofs.reading.store.Reads as store-reads
+
+enum-told : tie.Need-enum-told
+enum-told c = search needs
+
+enum-known-half : tie.Need-enum-known-half
+enum-known-half c = search needs
+
+field-of-requires : tie.Need-field-of-requires
+field-of-requires c κs = search needs
+
+store-requires : tie.Need-store-requires
+store-requires c κs = search needs
+
+advance-requires : tie.Need-advance-requires
+advance-requires c κs = search needs
+
+returns : tie.Need-returns
+returns c = λ T m.
+    let a = c .before .before .before .args in
+    first-byte (a .session) (storeOf (a .words .now) T m) (a .byte) (c .enum-told .given .1) refl
+
+same-length : tie.Need-same-length
+same-length c = search needs
+
+returns-2 : tie.Need-returns-2
+returns-2 c = λ T m.
+    let a = c .before .before .before .before .before .before .before .before .before .before .args in
+    let h = c .before .before .before .before .before .before .before .half .given in
+    second-byte (a .session) (storeOf (a .words .now) T m) (a .byte) (h .0 .0) (h .1) (c .before .before .before .before .before .field-of .ensures) (c .before .before .before .store .ensures) (c .advance .ensures)
+
+pub read-byte-spec : {M : Type 1} → statement M
+read-byte-spec =
+    tie.close
+    (tie.spec
+    enum-told
+    enum-known-half
+    field-of-requires
+    store-requires
+    advance-requires
+    returns
+    same-length
+    returns-2)

@@ -1,0 +1,69 @@
+-- Block after block: what was fed so far.
+use mathlib.Core.Path.{_≡_, refl, ap, ap₂, sym, _∙_}
+use mathlib.Core.List.{List, [], _++_}
+use Prim.Native.Nat.{ℕ, _+_, _*_, _≤_, _<_}
+use native.Mathlib.Omega.{arith}
+use lib.ListN.{length, replicate, length-replicate}
+use Rattle.clause.specs.Clause.{maxWords}
+use Rattle.record.specs.Text.{Written, written}
+use Rattle.record.specs.Line.{longestLine, longestLast, totalsLine}
+use Rattle.lines.proofs.Writing.{text-there}
+use Rattle.feeding.specs.Feed.{Store, Fed, andThen, feed, opening, opened, Steady, recordsIn, Ready}
+use Rattle.feeding.specs.declared.Session.{Session}
+use Rattle.feeding.proofs.Blocks.{feed-append, feed-records}
+use Rattle.feeding.proofs.Steady.{steady-fresh}
+use Rattle.subsume.specs.Run.{blockBytes, mostBlocks, Buffers, Stands, LastLine}
+
+-- where the run is before a block: what was fed, what holds from record to record, and the blocks that may still come
+pub record Running (session : Session) (store : Store) (blocks : ℕ) : Type 0 where
+  pub stands : Stands session store
+  pub steady : Steady (store .slice) (store .marks)
+  pub words : length (store .words) ≡ maxWords
+  pub counts : recordsIn (session .totals) + blocks * blockBytes ≤ mostBlocks * blockBytes
+
+-- zeros in which the lines of any block fit
+pub room-in : (n : ℕ) → blockBytes * longestLine ≤ n → blockBytes * longestLine ≤ length {A = ℕ} (replicate n 0)
+room-in n h = rw (length-replicate {A = ℕ} n 0) h
+
+pub enough : blockBytes * longestLine ≤ 737_280
+enough = omega arith
+
+-- before the first block
+pub running-none : {s : Session} {m : Store} → s ≡ opening → m ≡ opened → Running s m mostBlocks
+unfolding feed opened
+running-none e f =
+    record { stands = record { bytes = []; read = e; lent = f }; steady = rw f steady-fresh; words = rw f (length-replicate {A = ℕ} maxWords 0); counts = rw e (omega arith) }
+
+-- a block can be fed
+pub block-ready : {s : Session} {m : Store} {n k : ℕ} {o : List ℕ} → Running s m n → 0 < n → k ≤ blockBytes → blockBytes * longestLine ≤ length o
+    → Ready m (s .totals) k 0 o
+block-ready r h l b = record { steady = r .steady; words = r .words; counts = omega (arith, r .counts); room = omega arith }
+
+-- one block more
+pub running-more : {s s′ : Session} {m m′ : Store} {n n′ : ℕ} {t : List ℕ} (block : List ℕ) → Running s m n → n′ < n → length block ≤ blockBytes
+    → _≡_ {A = Fed} (record { session = s′; store = m′; text = t }) (feed s m block) → Steady (m′ .slice) (m′ .marks) → length (m′ .words) ≡ length (m .words)
+    → Running s′ m′ n′
+running-more {s} {s′} {m} {m′} block r h l e d w =
+    let b : List ℕ = r .stands .bytes in
+    let q : feed s m block ≡ feed (feed opening opened b .session) (feed opening opened b .store) block = ap₂ (λ (x : Session) (y : Store). feed x y block) (r .stands .read) (r .stands .lent) in
+    let a = feed-append b block opening opened in
+    let u : s′ ≡ feed s m block .session = ap (λ (f : Fed). f .session) e in
+    let n : recordsIn (s′ .totals) ≤ recordsIn (s .totals) + length block = rw u (feed-records block s m) in
+    record {
+      stands =
+          record {
+            bytes = b ++ block;
+            read = ap (λ (f : Fed). f .session) (e ∙ q) ∙ sym (ap (λ (f : Fed). f .session) a);
+            lent = ap (λ (f : Fed). f .store) (e ∙ q) ∙ sym (ap (λ (f : Fed). f .store) a);
+          };
+      steady = d;
+      words = w ∙ r .words;
+      counts = omega (arith, r .counts, n);
+    }
+
+-- the last line
+pub last-line : {s : Session} {m : Store} (o : List ℕ) {r : ℕ} {p : List ℕ} → Stands s m → r ≤ longestLast → longestLast ≤ length o
+    → _≡_ {A = Written} (record { next = r; output = p }) (written (totalsLine (s .totals)) o 0) → LastLine m p r
+last-line {s} o h l k e =
+    let n : length (totalsLine (s .totals)) ≤ length o = omega (arith, ap (λ (w : Written). w .next) e) in
+    record { bytes = h .bytes; lent = h .lent; line = text-there (totalsLine (s .totals)) o n e ∙ ap (λ (x : Session). totalsLine (x .totals)) (h .read) }

@@ -1,0 +1,33 @@
+-- What a run has fed, and the last line. Nothing says which bytes a read gives, so these speak of some bytes.
+use mathlib.Core.Path.{_≡_}
+use mathlib.Core.List.{List}
+use Prim.Native.Nat.{ℕ, _*_, _≤_}
+use lib.ListN.{length, take}
+use Rattle.record.specs.Line.{longestLine, totalsLine}
+use Rattle.feeding.specs.Feed.{Store, feed, opening, opened}
+use Rattle.feeding.specs.declared.Session.{Session}
+
+-- the most bytes of a block
+abbrev pub blockBytes : ℕ
+blockBytes = 16_384
+
+-- the most blocks of a run
+abbrev pub mostBlocks : ℕ
+mostBlocks = 140_737_488_355_328
+
+-- the buffers: a block, and an output in which the lines of any block fit
+pub record Buffers (input output : List ℕ) : Type 0 where
+  pub block : length input ≡ blockBytes
+  pub room : blockBytes * longestLine ≤ length output
+
+-- some bytes were fed from the opening on, and left the session and the lent words
+pub record Stands (session : Session) (store : Store) : Type 0 where
+  pub bytes : List ℕ
+  pub read : session ≡ feed opening opened bytes .session
+  pub lent : store ≡ feed opening opened bytes .store
+
+-- the lent words are those that some bytes left, and the output begins with their last line, which ends at a place
+pub record LastLine (store : Store) (output : List ℕ) (end : ℕ) : Type 0 where
+  pub bytes : List ℕ
+  pub lent : store ≡ feed opening opened bytes .store
+  pub line : take end output ≡ totalsLine (feed opening opened bytes .session .totals)
