@@ -31,7 +31,8 @@ use Rattle.walk.specs.Query.{witnessWords, Asked, unanswered, queryAs, query}
 use Rattle.walk.specs.declared.QueryAnswer.{QueryAnswer}
 use Rattle.walk.specs.declared.QueryAnswer.the-variants.{Unanswered, Covered, NotCovered}
 use Rattle.record.specs.Answer.{budget, inserted, answered}
-use Rattle.feeding.specs.Feed.{numberCount, Steady, Answers}
+use Rattle.feeding.specs.Feed.{numberCount}
+use Rattle.feeding.specs.inner.Steady.{Steady, Answers}
 use Rattle.record.specs.declared.Outcome.{Outcome}
 use Rattle.record.specs.declared.Outcome.the-variants.{Kept, Struck, Refused}
 use Rattle.feeding.proofs.Steady.{View, refused-left, kept-steady, steady-sized, number-taken, viewed}
