@@ -1,14 +1,17 @@
 -- The calls that words stand for, read one after another.
 use mathlib.Core.Path.{_≡_, refl, sym, ap, _∙_}
-use mathlib.Core.List.{List, [], _∷_}
-use Prim.Native.Nat.{ℕ, zero, suc, _+_, _-_, _≤_, _<_, min}
+use mathlib.Core.List.{List, [], _∷_, _++_}
+use Prim.Native.Nat.{ℕ, zero, suc, _+_, _-_, _/_, _%_, _^_, _≤_, _<_, min}
 use native.Mathlib.Nat.{le-refl}
 use native.Mathlib.Decide.{decLe}
 use native.Mathlib.Omega.{arith}
-use lib.ListN.{length, take, drop, getD, length-drop, drop-of-length-le}
-use lib.Seq.{drop-cons, drop-drop, take-all}
-use Rattle.book.specs.Book.{insert, remove, call, after}
-use Rattle.book.specs.Encoding.{whole, callsWithin, callsOf, Ran}
+use lib.ListN.{length, take, drop, getD, length-drop, length-append, drop-of-length-le}
+use lib.Seq.{drop-cons, drop-drop, take-all, getD-drop, take-append-seam, drop-append-seam}
+use Rattle.clause.specs.Lists.{All, none, also}
+use Rattle.clause.specs.Word.{Words}
+use Rattle.clause.proofs.Lists.{all-append, all-take}
+use Rattle.book.specs.Book.{Call, insert, remove, AllFit, after}
+use Rattle.book.specs.Encoding.{whole, callsWithin, callsOf, Short, HasWords, Ran}
 
 -- more fuel than words makes no difference
 pub calls-fuel : (f g : ℕ) (ws : List ℕ) → length ws ≤ f → length ws ≤ g → callsWithin f ws ≡ callsWithin g ws
@@ -52,6 +55,15 @@ take-min n ws m e = go (decLe n (length ws))
     go (yes h) = let f : m ≡ n = omega arith in rw f
     go (no h) = take-all m ws (omega arith) ∙ sym (take-all n ws (omega arith))
 
+-- words of 16 bits, one by one
+words-of : (ws : List ℕ) → ((i : ℕ) → getD ws i 0 < 2 ^ 16) → Words ws
+words-of [] f = none
+words-of (w ∷ ws) f = also (f 0) (words-of ws (λ i. f (suc i)))
+
+-- those of a part
+pub words-part : (ws : List ℕ) → ((i : ℕ) → getD ws i 0 < 2 ^ 16) → (from n : ℕ) → Words (take n (drop from ws))
+words-part ws f from n = all-take n (words-of (drop from ws) (λ i. rw (getD-drop from ws i 0) (f (from + i))))
+
 module _ (ws : List ℕ) (at : ℕ) (inside : at + 3 ≤ length ws) where
   -- the three words of a call, and what follows them
   three : drop at ws ≡ getD ws at 0 ∷ getD ws (at + 1) 0 ∷ getD ws (at + 2) 0 ∷ drop (at + 3) ws
@@ -92,3 +104,54 @@ module _ {T U ws : List ℕ} {at next : ℕ} (R : Ran T ws at next U) where
 
   pub ran-after : after T (callsOf (drop at ws)) ≡ after U (callsOf (drop next ws))
   ran-after = rw (ran-calls, R .slice)
+
+  -- where the calls after it fit, all do
+  pub ran-fit : AllFit (callsOf (drop next ws)) → AllFit (callsOf (drop at ws))
+  ran-fit f = rw ran-calls (R .fit, f)
+
+-- ---- the words of a list
+
+wordsOf : List Call → List ℕ
+wordsOf [] = []
+wordsOf (insert c n ∷ xs) = suc (length c) ∷ n / 2 ^ 16 ∷ n % 2 ^ 16 ∷ (c ++ wordsOf xs)
+wordsOf (remove n ∷ xs) = 0 ∷ n / 2 ^ 16 ∷ n % 2 ^ 16 ∷ wordsOf xs
+
+whole-halves : (n : ℕ) → whole (n / 2 ^ 16) (n % 2 ^ 16) ≡ n
+whole-halves n = omega arith
+
+-- a call's first three words
+three-fit : (k n : ℕ) {ws : List ℕ} → k < 2 ^ 16 → n < 2 ^ 32 → Words ws → Words (k ∷ n / 2 ^ 16 ∷ n % 2 ^ 16 ∷ ws)
+three-fit k n h l w =
+    let u : n / 2 ^ 16 < 2 ^ 16 = omega arith in
+    let v : n % 2 ^ 16 < 2 ^ 16 = omega arith in
+    also h (also u (also v w))
+
+words-fit : (xs : List Call) → AllFit xs → All Short xs → Words (wordsOf xs)
+unfolding wordsOf
+words-fit [] fit none = none
+words-fit (insert c n ∷ xs) fit (also h s) = three-fit (suc (length c)) n (omega (arith, h)) (fit .0 .1) (all-append (fit .0 .0) (words-fit xs (fit .1) s))
+words-fit (remove n ∷ xs) fit (also h s) = three-fit 0 n (omega arith) (fit .0) (words-fit xs (fit .1) s)
+
+step-insert : (f n h l : ℕ) (ws : List ℕ) → callsWithin (suc f) (suc n ∷ h ∷ l ∷ ws) ≡ insert (take n ws) (whole h l) ∷ callsWithin f (drop n ws)
+unfolding callsWithin
+step-insert f n h l ws = refl
+
+step-remove : (f h l : ℕ) (ws : List ℕ) → callsWithin (suc f) (0 ∷ h ∷ l ∷ ws) ≡ remove (whole h l) ∷ callsWithin f ws
+unfolding callsWithin
+step-remove f h l ws = refl
+
+words-calls : (xs : List Call) → callsOf (wordsOf xs) ≡ xs
+unfolding wordsOf
+words-calls [] = calls-short 0 [] (omega arith)
+words-calls (insert c n ∷ xs) =
+    let ws : List ℕ = wordsOf xs in
+    let more : length ws ≤ suc (suc (length (c ++ ws))) = simp length-append (omega arith) in
+    step-insert (suc (suc (length (c ++ ws)))) (length c) (n / 2 ^ 16) (n % 2 ^ 16) (c ++ ws)
+    ∙ rw (whole-halves n, take-append-seam c ws, drop-append-seam c ws) (ap (insert c n ∷_) (calls-fuel (suc (suc (length (c ++ ws)))) (length ws) ws more (omega arith) ∙ words-calls xs))
+words-calls (remove n ∷ xs) =
+    let ws : List ℕ = wordsOf xs in
+    step-remove (suc (suc (length ws))) (n / 2 ^ 16) (n % 2 ^ 16) ws
+    ∙ rw (whole-halves n) (ap (remove n ∷_) (calls-fuel (suc (suc (length ws))) (length ws) ws (omega arith) (omega arith) ∙ words-calls xs))
+
+pub has-words : HasWords
+has-words xs fit s = (wordsOf xs, words-fit xs fit s, words-calls xs)

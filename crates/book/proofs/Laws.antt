@@ -17,6 +17,7 @@ use Rattle.clause.proofs.Lists.{all-mem}
 use Rattle.clause.proofs.Literals.{accepted}
 use Rattle.machine.proofs.Keys.{keys-same}
 use Rattle.machine.proofs.Codes.{sequence-plain}
+use Rattle.book.proofs.Beginnings.{counted}
 use Rattle.tree.proofs.Changes.{kept-numbered, numbered-kept, kept-varied, varied-kept}
 use Rattle.walk.proofs.Kept.{kept-pair, pair-kept}
 use Rattle.clause.specs.declared.Fault.the-variants.{BadLength, Bad, Ninth}
@@ -130,4 +131,5 @@ book-laws =
       ceiling = λ a b e. sym (ceiling-back a) ∙ ap (λ s. ceilingAs (s .title) (s .values)) e ∙ ceiling-back b;
       number = number;
       variant = variant;
+      counted = counted;
     }

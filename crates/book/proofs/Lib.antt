@@ -4,6 +4,7 @@ pub mod Step
 pub mod Reach
 pub mod Agreement
 pub mod Trials
+mod Beginnings
 pub mod Laws
 pub mod Encoding
 pub mod Believable

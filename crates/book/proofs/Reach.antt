@@ -6,10 +6,13 @@ use native.Mathlib.Omega.{arith}
 use lib.Dec.{leb}
 use borrow.Author.Tests.{leb-true}
 use Prim.Native.Nat.{ℕ, _≤_}
-use lib.ListN.{length, replicate}
+use lib.ListN.{length, replicate, length-map}
 use Rattle.clause.specs.Clause.{Accepted}
+use Rattle.machine.specs.Instr.{key}
+use Rattle.machine.specs.Compile.{sequence}
+use Rattle.machine.specs.Compiled.{maxKeys}
 use Rattle.machine.specs.Machine.{initial}
-use Rattle.tree.specs.Forest.{Forest, empty, layout}
+use Rattle.tree.specs.Forest.{Forest, empty, layout, Has}
 use Rattle.tree.specs.Laid.{sized}
 use Rattle.walk.specs.Walk.{upTo, walk}
 use Rattle.walk.specs.Query.{machine, witnessWords, told, query}
@@ -17,6 +20,10 @@ use Rattle.walk.specs.Covering.{Answers}
 use Rattle.tree.specs.Calls.{refused, fresh}
 use Rattle.book.specs.Book.{Call, AllFit, after, sliceOf, bookStep, bookFrom, bookOf, treeOf}
 use Rattle.book.specs.Claims.{Run, Reached, Reach, Demand2}
+use Rattle.clause.proofs.Lists.{all-mem}
+use Rattle.clause.proofs.Literals.{accepted}
+use Rattle.machine.proofs.Length.{sequence-length}
+use Rattle.walk.proofs.Kept.{kept-pair}
 use Rattle.walk.proofs.Covering.{query-tree, answers}
 use Rattle.book.proofs.Holds.{Holds, holds-empty, fresh-layout, holds-tree, holds-leaves, holds-numbers, holds-clauses}
 use Rattle.book.proofs.Step.{Steps, steps}
@@ -36,6 +43,13 @@ laid-after len [] K F low high fit h = record { tree = F; holds = h; slice = ref
 laid-after len (x ∷ xs) K F low high fit h =
     let s : Steps len K F x = steps len K F h low high x (fit .0) in
     rw (s .slice) (laid-after len xs (bookStep len K x) (s .tree) low high (fit .1) (s .holds))
+
+-- a path is the sequence of a kept clause
+short-path : {len : ℕ} {K : List Pair} {F : Forest} → Holds len K F → (cs : List ℕ) (n : ℕ) → Has F cs n → length cs ≤ maxKeys
+short-path {K = K} h cs n p =
+    let (q, m, e, f) = kept-pair K cs n (h .keeps .mirrors .paths cs n .0 p) in
+    let l = sequence-length (q .clause) (accepted (q .clause) (all-mem (h .sound) m .accepted)) in
+    rw (e, length-map (sequence (q .clause)) key) l
 
 -- a slice on which fresh has answered "ready"
 record Usable (T : List ℕ) : Type 0 where
@@ -69,6 +83,7 @@ module _ (T : List ℕ) (xs : List Call) (R : Run T xs) where
         numbers = holds-numbers (laid .holds);
         clauses = holds-clauses (laid .holds);
         few = laid .holds .few;
+        short = λ cs n k. short-path (laid .holds) cs n (rw (holds-tree (laid .holds)) at k);
         changes = λ x f. rw (laid .slice) (steps (length T) (bookOf (length T) xs) (laid .tree) (laid .holds) (start .low) (start .high) x f .changes);
       }
 

@@ -9,7 +9,8 @@ use Rattle.clause.specs.Lists.{Each}
 use Rattle.clause.specs.Clause.{Accepted, Subsumes}
 use Rattle.machine.specs.Compile.{Variants, keys}
 use Rattle.machine.specs.Machine.{initial}
-use Rattle.tree.specs.Forest.{layout, ins, del}
+use Rattle.machine.specs.Compiled.{maxKeys}
+use Rattle.tree.specs.Forest.{layout, Has, ins, del}
 use Rattle.tree.specs.Laid.{maxKept, decode}
 use Rattle.tree.specs.Entries.{Mirrors, Pair, entry}
 use Rattle.walk.specs.Walk.{upTo, walk}
@@ -51,6 +52,8 @@ pub record Reached (T : List ℕ) (xs : List Call) : Type 0 where
   pub numbers : Each (λ p q. p .number ≢ q .number) (bookOf (length T) xs)
   pub clauses : Each (λ p q. Variants (p .clause) (q .clause) → ⊥) (bookOf (length T) xs)
   pub few : length (bookOf (length T) xs) ≤ maxKept
+  -- no path of that tree has more than 320 instructions above its Success, so that a query nests no more calls
+  pub short : (cs : List ℕ) (n : ℕ) → Has (treeOf (bookOf (length T) xs)) cs n → length cs ≤ maxKeys
   -- "kept" and "removed" are answered exactly where the book changes
   pub changes : (x : Call) → Fit x → (call (sliceOf T xs) x .answer ≡ done x) ↔ (bookStep (length T) (bookOf (length T) xs) x ≢ bookOf (length T) xs)
 

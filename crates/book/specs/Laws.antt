@@ -1,12 +1,15 @@
 -- What is claimed of the table's names and of the book's tests: nothing is lost by the names, and the tests ask what document 01 says.
 use mathlib.Core.Path.{_≡_}
-use mathlib.Core.Logic.{_↔_}
+use mathlib.Core.Logic.{_↔_, _≢_}
 use mathlib.Core.Bool.{true}
-use mathlib.Core.List.{List, map, List·Memᴰ}
+use mathlib.Core.List.{List, [], _++_, map, List·Memᴰ}
 use Prim.Native.Nat.{ℕ}
-use Rattle.clause.specs.Lists.{All}
+use lib.ListN.{length}
+use Rattle.clause.specs.Lists.{All, Each}
 use Rattle.clause.specs.Clause.{Accepted}
-use Rattle.machine.specs.Compile.{Variants, keys}
+use Rattle.machine.specs.Instr.{Instr}
+use Rattle.machine.specs.Compile.{Variants, compile, keys}
+use Rattle.tree.specs.Beginnings.{beginnings, different}
 use Rattle.tree.specs.Changes.{numbered, varied}
 use Rattle.book.specs.Table.{saidCall, saidQuery, saidCeiling}
 use Rattle.tree.specs.Entries.{Pair, Sound, entry}
@@ -14,6 +17,15 @@ use Rattle.clause.specs.Word.{Words}
 use Rattle.walk.specs.declared.CeilingAnswer.{CeilingAnswer}
 use Rattle.walk.specs.declared.QueryAnswer.{QueryAnswer}
 use Rattle.tree.specs.declared.CallAnswer.{CallAnswer}
+
+-- a beginning of a sequence, of one instruction or more
+abbrev pub Begins : (beginning sequence : List Instr) → Type 0
+Begins b is = (b ≢ []) × (rest : List Instr) × (b ++ rest ≡ is)
+
+-- the different beginnings that the sequences of a book's clauses have, each Success with its clause's number
+pub record AllBeginnings (K : List Pair) (bs : List (List Instr)) : Type 0 where
+  pub differ : Each (λ a b. a ≢ b) bs
+  pub exactly : (b : List Instr) → List·Memᴰ b bs ↔ ((p : Pair) × List·Memᴰ p K × Begins b (compile (p .clause) (p .number)))
 
 -- the claim
 pub record BookLaws : Type 0 where
@@ -27,3 +39,5 @@ pub record BookLaws : Type 0 where
   pub variant :
       (c : List ℕ) (K : List Pair) → Accepted c → Words c → All Sound K
       → (varied (keys c) (map entry K) ≡ true) ↔ ((p : Pair) × List·Memᴰ p K × Variants c (p .clause))
+  -- the beginnings that the book counts
+  pub counted : (K : List Pair) → All Sound K → (bs : List (List Instr)) × AllBeginnings K bs × (length bs ≡ different (beginnings (map entry K)))

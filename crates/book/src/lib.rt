@@ -3,9 +3,11 @@ ghost use mathlib.Core.Path.{_≡_};
 ghost use Prim.Native.Nat.{_+_, _≤_, min};
 ghost use lib.ListN.{length, getD};
 ghost use Rattle.book.specs.Book.{sliceOf};
-ghost use Rattle.book.specs.Encoding.{whole, callsOf, Ran};
+ghost use Rattle.book.specs.Encoding.{whole, callsOf, HasWords, Ran};
 ghost use Rattle.book.specs.Believable.{Believable};
-ghost use Rattle.book.specs.Claims.{Demand1, Reach, Demand2, Demand3};
+ghost use Rattle.book.specs.Claims.{Run, Reached, Demand1, Reach, Demand2, Demand3};
+ghost use Rattle.tree.specs.Calls.{fresh};
+ghost use Rattle.tree.specs.declared.CallAnswer.the-variants.{Ready};
 
 // The number of a call, upper half first. The caller has seen that its two words are there.
 fn number_at(calls: &[u16], at: usize) -> u32
@@ -44,9 +46,13 @@ fn run_one(tree: &mut [u64], calls: &[u16], at: usize) -> usize
 }
 
 // Makes an empty tree of a slice and runs the calls that words stand for, each on the slice as the call before left it.
-// The contract carries the claims, so that nothing is proved without them.
+// Where fresh answers "ready" the claims apply to these calls, whatever the words are; every list of calls has words, but for one with a clause of
+// 65,535 words or more. The contract carries the claims, so that nothing is proved without them.
 pub fn run(tree: &mut [u64], calls: &[u16])
     ensures slice { λ _. ⌜ now (tree .exit) ≡ sliceOf (now (tree .entry)) (callsOf (now (calls .entry))) ⌝ }
+    ensures reached { λ _. ⌜ (fresh (now (tree .entry)) .answer ≡ Ready
+        → Run (now (tree .entry)) (callsOf (now (calls .entry))) × Reached (now (tree .entry)) (callsOf (now (calls .entry)))) ⌝ }
+    ensures lists { λ _. ⌜ HasWords ⌝ }
     ensures definitions { λ _. ⌜ Believable ⌝ }
     ensures demands { λ _. ⌜ Demand1 × Reach × Demand2 × Demand3 ⌝ }
 {

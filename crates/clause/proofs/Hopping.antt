@@ -10,7 +10,7 @@ use lib.Seq.{take-all, take-suc, length-take-le}
 use Rattle.clause.specs.Word.{arity}
 use Rattle.clause.specs.Clause.{Accepted, maxLiterals, literals, starts, startOf, skip}
 use Rattle.clause.specs.Positions.{jump, ends, siblings}
-use Rattle.clause.specs.Tables.{packed, tablesOf, tablesFrom}
+use Rattle.clause.specs.inner.Tables.{packed, tablesOf, tablesFrom}
 use Rattle.clause.proofs.Lists.{all-get}
 use Rattle.clause.proofs.Skip.{skip-shaped}
 use Rattle.clause.proofs.Jump.{enough-here}

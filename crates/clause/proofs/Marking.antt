@@ -11,7 +11,7 @@ use Rattle.clause.specs.Lists.{none, also}
 use Rattle.clause.specs.Word.{arity}
 use Rattle.clause.specs.Clause.{maxWords, Accepted, skip}
 use Rattle.clause.specs.Positions.{jump, ends, pushDue, siblings}
-use Rattle.clause.specs.Tables.{packed, tablesFrom}
+use Rattle.clause.specs.inner.Tables.{packed, tablesFrom}
 use Rattle.clause.proofs.Skip.{Enough, enough-fewer}
 use Rattle.clause.proofs.Jump.{jump-zero, jump-suc, enough-here, enough-word, enough-term}
 use Rattle.clause.proofs.Literals.{accepted}

@@ -7,7 +7,7 @@ use native.Mathlib.Omega.{arith}
 use lib.ListN.{length, getD, set, replicate, length-append, List·getD-append}
 use lib.Seq.{getD-append-add, getD-at, set-append-left, set-at, take-set-lt}
 use Rattle.clause.specs.Clause.{maxWords, maxLiterals}
-use Rattle.clause.specs.Tables.{padded, packed}
+use Rattle.clause.specs.inner.Tables.{padded, packed}
 use Rattle.clause.proofs.Padded.{length-padded, getD-zeros, padded-get, padded-is, padded-snoc}
 
 set-append-add : (xs ys : List ℕ) (n v : ℕ) → set (xs ++ ys) (length xs + n) v ≡ xs ++ set ys n v

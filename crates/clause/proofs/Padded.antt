@@ -6,7 +6,7 @@ use native.Mathlib.Decide.{ℕ-discrete, decLt}
 use native.Mathlib.Omega.{arith}
 use lib.ListN.{length, getD, set, replicate, length-append, length-take, length-set, length-replicate, List·getD-append, List·getD-eq-default}
 use lib.Seq.{ext-getD, getD-take, getD-append-seam, getD-set-same, getD-set-other}
-use Rattle.clause.specs.Tables.{padded}
+use Rattle.clause.specs.inner.Tables.{padded}
 use Rattle.clause.proofs.Lists.{length-snoc}
 
 pub length-padded : (n : ℕ) (l : List ℕ) → length (padded n l) ≡ n

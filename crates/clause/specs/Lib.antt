@@ -3,5 +3,5 @@ pub mod Word
 pub mod Clause
 pub mod Cursor
 pub mod Positions
-pub mod Tables
 pub mod Accepted
+pub mod inner

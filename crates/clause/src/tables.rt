@@ -5,7 +5,7 @@ ghost use mathlib.Core.Path.{_≡_};
 ghost use Prim.Native.Nat.{suc, _<_};
 ghost use lib.ListN.{length, replicate};
 ghost use Rattle.clause.specs.Clause.{Accepted};
-ghost use Rattle.clause.specs.Tables.{tablesOf, tablesFrom, clauseOf};
+ghost use Rattle.clause.specs.inner.Tables.{tablesOf, tablesFrom, clauseOf};
 
 // Notes the right siblings of each argument of a word, and where the word's term ends: past the word, then past its arguments.
 fn note_term(words: &[u16], tables: &mut [u8; Clause::TABLES], p: usize)

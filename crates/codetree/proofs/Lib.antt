@@ -1,2 +1,4 @@
 -- What the proofs of several functions use.
 mod Telling
+mod Apart
+mod Lists

@@ -1,6 +1,7 @@
 // The C interface: the calls of document 01 on pointers and lengths (include/code_tree.h).
 ghost use mathlib.Core.Path.{_≡_};
 ghost use Rattle.codetree.specs.Calls.{ctFresh, ctInsert, ctRemove, ctQuery, ctCeiling};
+ghost use Rattle.codetree.specs.Claims.{CtReach, CtDemand2, CtDemand3, ToldApart};
 
 mod answers;
 
@@ -15,7 +16,8 @@ pub extern "C" fn ct_fresh(tree: &mut [u64]) -> u64
 // Inserts a clause under a number. Returns 0 or a code; tells the position for 4 and 5, the number for 8.
 #[no_mangle]
 pub extern "C" fn ct_insert(tree: &mut [u64], clause: &[u16], number: u32, told: &mut [u64]) -> u64
-    ensures { λ r. ⌜ record { number = r; words = now (tree .exit); told = now (told .exit) } ≡ ctInsert (now (tree .entry)) (now (clause .entry)) number (now (told .entry)) ⌝ }
+    ensures { λ r. ⌜ record { number = r; words = now (tree .exit); told = now (told .exit) }
+        ≡ ctInsert (now (tree .entry)) (now (clause .entry)) number (now (told .entry)) ⌝ }
 {
     answers::hand_call(insertion::insert(tree, clause, number), told)
 }
@@ -30,6 +32,7 @@ pub extern "C" fn ct_remove(tree: &mut [u64], number: u32) -> u64
 
 // Asks whether a kept clause covers a clause. Returns 0 or a code; tells 1 or 0 for covered or not, the number, the count;
 // or the position for 4 and 5, the count for 12.
+// The contract carries what is claimed of lists of these calls and of what they tell, so that nothing is proved without it.
 #[no_mangle]
 pub extern "C" fn ct_query(
     tree: &[u64],
@@ -38,9 +41,12 @@ pub extern "C" fn ct_query(
     witness: &mut [u16],
     told: &mut [u64],
 ) -> u64
-    ensures { λ r. ⌜ record { number = r; words = now (witness .exit); told = now (told .exit) } ≡ ctQuery (now (tree .entry)) (now (clause .entry)) budget (now (witness .entry)) (now (told .entry)) ⌝ }
+    ensures hands { λ r. ⌜ record { number = r; words = now (witness .exit); told = now (told .exit) }
+        ≡ ctQuery (now (tree .entry)) (now (clause .entry)) budget (now (witness .entry)) (now (told .entry)) ⌝ }
+    ensures lists { λ _. ⌜ CtReach × CtDemand2 × CtDemand3 ⌝ }
+    ensures apart { λ _. ⌜ ToldApart ⌝ }
 {
-    answers::hand_query(walk::query(tree, clause, budget, witness), told)
+    answers::hand_query(query::query(tree, clause, budget, witness), told)
 }
 
 // The ceiling of a query's count. Returns 0 or 13; tells the ceiling.
@@ -48,5 +54,5 @@ pub extern "C" fn ct_query(
 pub extern "C" fn ct_ceiling(kept: u64, q: u64, m: u64, told: &mut [u64]) -> u64
     ensures { λ r. ⌜ record { number = r; told = now (told .exit) } ≡ ctCeiling kept q m (now (told .entry)) ⌝ }
 {
-    answers::hand_ceiling(walk::ceiling(kept, q, m), told)
+    answers::hand_ceiling(ceiling::ceiling(kept, q, m), told)
 }

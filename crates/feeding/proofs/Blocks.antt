@@ -9,7 +9,8 @@ use borrow.Author.Tests.{lt-ltb, le-ltb, eq-eqb, ne-eqb}
 use Rattle.record.specs.Text.{Written, written}
 use Rattle.record.specs.Line.{longestLine, lineOf}
 use Rattle.record.specs.Output.{counted}
-use Rattle.feeding.specs.Feed.{Store, storeOf, Fed, Placed, placedAt, finishing, finished, advanced, stored, proceeding, takeField, takeAs, takeByte, andThen, feed, Steady, Answers, Took, Stepped, recordsIn}
+use Rattle.feeding.specs.Feed.{Store, storeOf, Fed, finishing, finished, advanced, stored, proceeding, takeField, takeAs, takeByte, andThen, feed}
+use Rattle.feeding.specs.inner.Steady.{Placed, placedAt, Steady, Answers, Took, Stepped, recordsIn}
 use Rattle.lines.proofs.Writing.{written-append, text-there}
 use Rattle.record.specs.declared.Outcome.{Outcome}
 use Rattle.record.specs.declared.Outcome.the-variants.{Kept, Struck, Refused}

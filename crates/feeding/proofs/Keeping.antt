@@ -14,11 +14,11 @@ use Rattle.clause.proofs.Literals.{accepted}
 use Rattle.machine.specs.Compile.{keys}
 use Rattle.machine.proofs.Codes.{sequence-plain}
 use Rattle.tree.specs.Laid.{sized, region}
-use Rattle.tree.specs.Cut.{locate}
+use Rattle.tree.specs.inner.Cut.{locate}
 use Rattle.tree.specs.Refusal.{codeOf}
 use Rattle.tree.specs.Calls.{Called, insertion}
-use Rattle.tree.specs.ByWords.{insertByWords}
-use Rattle.insertion.specs.Inserting.{Ready}
+use Rattle.tree.specs.inner.ByWords.{insertByWords}
+use Rattle.insertion.specs.inner.Inserting.{Ready}
 use Rattle.tree.specs.declared.Refusal.{Refusal}
 use Rattle.tree.specs.declared.Refusal.the-variants.{BadSlice}
 use Rattle.tree.specs.declared.CallAnswer.{CallAnswer}
@@ -31,7 +31,8 @@ use Rattle.walk.specs.Query.{witnessWords, Asked, unanswered, queryAs, query}
 use Rattle.walk.specs.declared.QueryAnswer.{QueryAnswer}
 use Rattle.walk.specs.declared.QueryAnswer.the-variants.{Unanswered, Covered, NotCovered}
 use Rattle.record.specs.Answer.{budget, inserted, answered}
-use Rattle.feeding.specs.Feed.{numberCount, Steady, Answers}
+use Rattle.feeding.specs.Feed.{numberCount}
+use Rattle.feeding.specs.inner.Steady.{Steady, Answers}
 use Rattle.record.specs.declared.Outcome.{Outcome}
 use Rattle.record.specs.declared.Outcome.the-variants.{Kept, Struck, Refused}
 use Rattle.feeding.proofs.Steady.{View, refused-left, kept-steady, steady-sized, number-taken, viewed}

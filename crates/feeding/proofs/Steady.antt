@@ -34,7 +34,8 @@ use Rattle.tree.proofs.InsertWords.{ins-leaves}
 use Rattle.tree.proofs.Laws.{tree-laws}
 use Rattle.book.proofs.Holds.{fresh-layout}
 use Rattle.record.specs.Answer.{treeWords}
-use Rattle.feeding.specs.Feed.{numberCount, Steady}
+use Rattle.feeding.specs.Feed.{numberCount}
+use Rattle.feeding.specs.inner.Steady.{Steady}
 
 -- an insertion is refused and leaves the slice, or it is kept and the new slice and marks hold together
 pub data View (S K : List ℕ) (n : ℕ) : Called → Type 0 where

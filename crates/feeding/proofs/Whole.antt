@@ -10,7 +10,8 @@ use lib.Dec.{ltb, eqb}
 use lib.ListN.{length, take, drop, getD, set, drop-of-length-le}
 use lib.Seq.{sets, take-all, take-take, drop-cons, length-take-le}
 use Rattle.record.specs.Output.{fields}
-use Rattle.feeding.specs.Feed.{Store, Fed, storeOf, finished, proceeding, takeField, andThen, feed, WholeRecord, Stepped}
+use Rattle.feeding.specs.Feed.{Store, Fed, storeOf, finished, proceeding, takeField, andThen, feed}
+use Rattle.feeding.specs.inner.Steady.{WholeRecord, Stepped}
 use Rattle.feeding.proofs.Blocks.{storing, at-count, at-empty, at-word, at-last}
 use Rattle.record.specs.declared.Totals.{Totals}
 use Rattle.feeding.specs.declared.Half.{Half}

@@ -2,18 +2,18 @@
 use insertion::insert_new;
 use machine::Sequence;
 use machine::compile;
+use query::query;
 use record::Outcome;
 use tree::CallAnswer;
 use walk::QueryAnswer;
 use walk::Witness;
-use walk::query;
 ghost use Prim.Native.Nat.{_≤_};
 ghost use lib.ListN.{length};
 ghost use Rattle.clause.specs.Clause.{Accepted};
 ghost use Rattle.machine.specs.Compiled.{maxKeys};
 ghost use Rattle.tree.specs.Calls.{insertion};
 ghost use Rattle.record.specs.Answer.{inserted, answered};
-ghost use Rattle.feeding.specs.Feed.{Steady, Answers};
+ghost use Rattle.feeding.specs.inner.Steady.{Steady, Answers};
 
 // Inserts a record that is not covered. The caller holds the slice well laid, with the marks of its numbers, and the clause is accepted.
 fn keep(tree: &mut [u64], marks: &mut [u8], keys: &mut [u64], words: &[u16], number: u16) -> Outcome

@@ -17,7 +17,8 @@ ghost use Prim.Native.Nat.{_+_, _^_, _<_};
 ghost use lib.ListN.{length};
 ghost use Rattle.clause.specs.Clause.{maxWords};
 ghost use Rattle.record.specs.Output.{counted};
-ghost use Rattle.feeding.specs.Feed.{storeOf, finishing, finished, proceeding, Steady, Answers, recordsIn, Ready, Took, opening, WholeInput};
+ghost use Rattle.feeding.specs.Feed.{storeOf, finishing, finished, proceeding, opening, WholeInput};
+ghost use Rattle.feeding.specs.inner.Steady.{Steady, Answers, recordsIn, Ready, Took};
 ghost use Rattle.feeding.specs.Feed.{feed as Feed·feed};
 
 // The session before the first byte.

@@ -13,7 +13,8 @@ ghost use lib.ListN.{length, take, getD};
 ghost use lib.Seq.{sets};
 ghost use Rattle.clause.specs.Clause.{maxWords};
 ghost use Rattle.record.specs.Output.{fields};
-ghost use Rattle.feeding.specs.Feed.{storeOf, advanced, stored, proceeding, takeByte, WholeRecord, Stepped};
+ghost use Rattle.feeding.specs.Feed.{storeOf, advanced, stored, proceeding, takeByte};
+ghost use Rattle.feeding.specs.inner.Steady.{WholeRecord, Stepped};
 
 // What one more field leads to.
 fn advance(stage: Stage, field: u16) -> Next

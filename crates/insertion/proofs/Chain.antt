@@ -8,8 +8,8 @@ use lib.ListN.{length, getD, take, drop, set, length-drop, drop-of-length-le}
 use lib.Seq.{take-suc, drop-cons, set-at, append-snoc, length-take-le, take-all}
 use Rattle.machine.specs.Compiled.{maxKeys}
 use Rattle.tree.specs.Forest.{size, encode, chain, Body}
-use Rattle.tree.specs.Merge.{newWords}
-use Rattle.insertion.specs.Inserting.{Writable}
+use Rattle.tree.specs.inner.Merge.{newWords}
+use Rattle.insertion.specs.inner.Inserting.{Writable}
 use Rattle.tree.proofs.Keys.{lawful-small}
 use Rattle.tree.proofs.Words.{length-encode}
 use Rattle.tree.proofs.InsertWords.{chain-size}

@@ -11,11 +11,11 @@ use borrow.Author.Tests.{lt-ltb, le-ltb, le-leb, lt-leb}
 use borrow.Rule.Slice.PartMut.{putMid}
 use Rattle.tree.specs.Laid.{maxKept, usedOf, keptOf, region}
 use Rattle.tree.specs.Entries.{Entry}
-use Rattle.tree.specs.Merge.{Spot, seek, lift, hold, newWords}
-use Rattle.tree.specs.Cut.{Span, locate}
+use Rattle.tree.specs.inner.Merge.{Spot, seek, lift, hold, newWords}
+use Rattle.tree.specs.inner.Cut.{Span, locate}
 use Rattle.tree.specs.Calls.{Called, refused}
-use Rattle.tree.specs.ByWords.{insertAt, insertUnless, insertByWords}
-use Rattle.insertion.specs.Inserting.{isSome, Ready, Placed, InsertHere}
+use Rattle.tree.specs.inner.ByWords.{insertAt, insertUnless, insertByWords}
+use Rattle.insertion.specs.inner.Inserting.{isSome, Ready, Placed, InsertHere}
 use Rattle.insertion.specs.declared.Place.{Place}
 use Rattle.tree.specs.declared.Refusal.the-variants.{NumberTaken, Held, ListFull, NoRoom}
 use Rattle.tree.specs.declared.CallAnswer.the-variants.{Kept}

@@ -7,8 +7,8 @@ use mathlib.Core.List.{List, []}
 use Prim.Native.Nat.{ℕ, _+_, _≤_, _<_}
 use native.Mathlib.Numerals.{add-one}
 use lib.ListN.{length, drop, getD, drop-of-length-le}
-use Rattle.tree.specs.Cut.{begin, locate}
-use Rattle.insertion.specs.Inserting.{isSome}
+use Rattle.tree.specs.inner.Cut.{begin, locate}
+use Rattle.insertion.specs.inner.Inserting.{isSome}
 use Rattle.tree.proofs.Hops.{keyAt, extentAt, locate-stop, locate-step}
 
 -- the words before p do not have the number n

@@ -13,8 +13,8 @@ use borrow.Author.Tests.{lt-ltb, le-ltb}
 use Rattle.tree.specs.Keys.{inner, nextKey}
 use Rattle.tree.specs.Forest.{success}
 use Rattle.tree.specs.Laid.{row, rows}
-use Rattle.tree.specs.Merge.{Spot, seek, hold}
-use Rattle.insertion.specs.Inserting.{Rows, Placed, holderOf}
+use Rattle.tree.specs.inner.Merge.{Spot, seek, hold}
+use Rattle.insertion.specs.inner.Inserting.{Rows, Placed, holderOf}
 use Rattle.insertion.specs.declared.Holder.{Holder}
 use Rattle.insertion.specs.declared.Holder.the-variants.{Nobody}
 use Rattle.tree.proofs.Keys.{Tri, less, same, more, tri}

@@ -13,9 +13,9 @@ use Rattle.tree.specs.Keys.{inner}
 use Rattle.tree.specs.Forest.{Forest, empty, node, size, word, encode, layout, find}
 use Rattle.tree.specs.Laid.{sized, usedOf, wellLaid, region, row, rows, decode}
 use Rattle.tree.specs.Laws.{Stands}
-use Rattle.tree.specs.Merge.{seek, hold, lift}
-use Rattle.tree.specs.Cut.{locate}
-use Rattle.insertion.specs.Inserting.{Rows}
+use Rattle.tree.specs.inner.Merge.{seek, hold, lift}
+use Rattle.tree.specs.inner.Cut.{locate}
+use Rattle.insertion.specs.inner.Inserting.{Rows}
 use Rattle.tree.proofs.Keys.{Tri, less, same, more, tri}
 use Rattle.tree.proofs.Words.{first-key, first-below, first-right, length-encode, header-layout, region-layout, row-whole, rows-whole}
 use Rattle.tree.proofs.Grow.{laid-decode}

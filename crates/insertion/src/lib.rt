@@ -17,12 +17,12 @@ ghost use mathlib.Core.Option.{none};
 ghost use Prim.Native.Nat.{_+_, _-_, _<_, _≤_};
 ghost use lib.ListN.{length, take, drop, getD};
 ghost use Rattle.tree.specs.Laid.{sized, wellLaid, region};
-ghost use Rattle.tree.specs.Merge.{hold, lift, newWords};
-ghost use Rattle.tree.specs.Cut.{locate};
+ghost use Rattle.tree.specs.inner.Merge.{hold, lift, newWords};
+ghost use Rattle.tree.specs.inner.Cut.{locate};
 ghost use Rattle.clause.specs.Clause.{Accepted};
 ghost use Rattle.tree.specs.Calls.{insertion};
-ghost use Rattle.tree.specs.ByWords.{insertAt, insertByWords};
-ghost use Rattle.insertion.specs.Inserting.{holderOf, Rows, Placed, Ready, Writable, InsertHere, isSome};
+ghost use Rattle.tree.specs.inner.ByWords.{insertAt, insertByWords};
+ghost use Rattle.insertion.specs.inner.Inserting.{holderOf, Rows, Placed, Ready, Writable, InsertHere, isSome};
 
 mod moves;
 
@@ -198,7 +198,7 @@ fn has_number(words: &[u64], number: u32) -> bool
 }
 
 // Whether a number is taken: a Success among the used words has it. The caller holds the slice well laid.
-pub fn taken(tree: &[u64], number: u32) -> bool
+fn taken(tree: &[u64], number: u32) -> bool
     requires { ⌜ (sized (now tree) ≡ true) × (wellLaid (now tree) ≡ true) ⌝ }
     ensures { λ r. ⌜ r ≡ isSome (locate (region (now (tree .entry))) number 0 0 0) ⌝ }
 {
@@ -207,7 +207,7 @@ pub fn taken(tree: &[u64], number: u32) -> bool
 }
 
 // Inserts a sequence under any number. The caller holds the slice well laid.
-pub fn insert_laid(tree: &mut [u64], keys: &[u64], number: u32) -> CallAnswer
+fn insert_laid(tree: &mut [u64], keys: &[u64], number: u32) -> CallAnswer
     requires { ⌜ Ready (now tree) (now keys) ⌝ }
     ensures { λ r. ⌜ record { answer = r; slice = now (tree .exit) } ≡ insertByWords (now (tree .entry)) (record { number = number; keys = now (keys .entry) }) ⌝ }
 {
@@ -218,7 +218,7 @@ pub fn insert_laid(tree: &mut [u64], keys: &[u64], number: u32) -> CallAnswer
 }
 
 // Inserts an accepted clause under a number: the caller has read it, and holds the slice well laid.
-pub fn insert_read(tree: &mut [u64], words: &[u16], number: u32) -> CallAnswer
+fn insert_read(tree: &mut [u64], words: &[u16], number: u32) -> CallAnswer
     requires { ⌜ (sized (now tree) ≡ true) × (wellLaid (now tree) ≡ true) × Accepted (now words) ⌝ }
     ensures { λ r. ⌜ record { answer = r; slice = now (tree .exit) } ≡ insertion (now (tree .entry)) (now (words .entry)) number ⌝ }
 {

@@ -12,7 +12,7 @@ use borrow.Author.Tests.{eq-eqb, ne-eqb}
 use Rattle.clause.specs.Word.{kind, arity, sortBy, sort, variable, ifVariable}
 use Rattle.machine.specs.Instr.{key}
 use Rattle.machine.specs.Compile.{first, act, putsAfter}
-use Rattle.machine.specs.Compiling.{firstsOf, Acted}
+use Rattle.machine.specs.inner.Compiling.{firstsOf, Acted}
 use Rattle.machine.proofs.Compares.{first-le}
 use Rattle.machine.proofs.Agree.{first-append}
 

@@ -11,6 +11,7 @@ use lib.Seq.{getD-set-same, getD-set-other, set-out}
 use Rattle.clause.specs.Clause.{literals, startOf}
 use Rattle.machine.specs.Instr.{Step, Down, Right, Put, Push, Pop, Check, Compare}
 use Rattle.machine.specs.Machine.{onto, down, right, State, initial, headed, pushing, given, Outcome, next, fails, stuck, require, compareTerms, stepAt, stepFrom, step, starting}
+use Rattle.machine.specs.inner.Safe.{Safe}
 use Rattle.clause.proofs.Literals.{Clause}
 use Rattle.clause.proofs.Siblings.{enough-start, down-inside, right-inside}
 use Rattle.machine.proofs.Outcomes.{fails≢next, stuck≢next}
@@ -34,12 +35,6 @@ module _ (d : List ℕ) (D : Clause d) (p q : ℕ) (h : p < length d) where
 
 pub start-in : (d : List ℕ) → Clause d → (j : ℕ) → j < length (literals d) → startOf d j < length d
 start-in d D j h = enough-here d 0 (startOf d j) (enough-start d D j h)
-
--- every position that a state holds lies in the query
-pub record Safe (d : List ℕ) (s : State) : Type 0 where
-  pub head : (p : ℕ) → s .head ≡ some p → p < length d
-  pub puts : (k p : ℕ) → getD (s .puts) k none ≡ some p → p < length d
-  pub pushes : (n p : ℕ) → getD (s .pushes) n none ≡ some p → p < length d
 
 -- what holds of all entries of a table holds after one more
 set-entry : {A : Type 0} (P : A → Type 0) (l : List (Option A)) (n : ℕ) (x : A) → P x → ((k : ℕ) (a : A) → getD l k none ≡ some a → P a)

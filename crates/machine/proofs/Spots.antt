@@ -10,7 +10,7 @@ use lib.ListN.{length, getD, set}
 use lib.Seq.{getD-set-same, getD-set-other}
 use Rattle.machine.specs.Instr.{Down, Right, Push, Pop, key}
 use Rattle.machine.specs.Compile.{Saved, ended, inside, Way, way}
-use Rattle.machine.specs.Compiling.{Stored, openingKeys, atHead, opened, savedIn, stepKeys, Went}
+use Rattle.machine.specs.inner.Compiling.{Stored, openingKeys, atHead, opened, savedIn, stepKeys, Went}
 use Rattle.machine.specs.declared.Spot.{Spot}
 use Rattle.machine.proofs.Stores.{stored-none}
 

@@ -13,7 +13,7 @@ use Rattle.clause.specs.Word.{arity}
 use Rattle.machine.specs.Instr.{Do, key}
 use Rattle.machine.specs.Compile.{Place, ended, inside, Way, way, wayFrom, opening, begun, closing, act, putsAfter, sequenceFrom, sequence, keys}
 use Rattle.machine.specs.Compiled.{maxKeys, Compiled}
-use Rattle.machine.specs.Compiling.{firstsOf, compareKeys, savedIn, placeOf, openingKeys, opened, stepKeys, toCome, Stored, Acted, Went, Ready, Advanced}
+use Rattle.machine.specs.inner.Compiling.{firstsOf, compareKeys, savedIn, placeOf, openingKeys, opened, stepKeys, toCome, Stored, Acted, Went, Ready, Advanced}
 use Rattle.machine.specs.declared.Spot.{Spot}
 use Rattle.machine.proofs.Stores.{stored-none, stored-append, stored-length}
 use Rattle.machine.proofs.Rows.{compare-keys}

@@ -8,7 +8,7 @@ ghost use lib.ListN.{length, take};
 ghost use Rattle.clause.specs.Clause.{maxWords};
 ghost use Rattle.machine.specs.Compile.{first, way};
 ghost use Rattle.machine.specs.Compiled.{maxKeys, Compiled};
-ghost use Rattle.machine.specs.Compiling.{Stored, firstsOf, rowKeys, compareKeys, savedIn, openingKeys, opened, Acted, stepKeys, Went, Ready, Advanced};
+ghost use Rattle.machine.specs.inner.Compiling.{Stored, firstsOf, rowKeys, compareKeys, savedIn, openingKeys, opened, Acted, stepKeys, Went, Ready, Advanced};
 
 // The number of the first put of variable v.
 fn first_put(variables: &[u16], v: u16) -> usize

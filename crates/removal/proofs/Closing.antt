@@ -8,7 +8,7 @@ use native.Mathlib.Nat.{add-comm}
 use lib.ListN.{length, getD, take, drop, set, length-append, length-drop, replicate}
 use lib.Seq.{take-suc, drop-cons, set-at, append-snoc, length-take-le, getD-append-add, getD-drop, take-at, drop-at, drop-drop}
 use borrow.Rule.Slice.PartMut.{putMid}
-use Rattle.removal.specs.Close.{closeUp}
+use Rattle.removal.specs.inner.Close.{closeUp}
 
 -- s after i words were moved k to the left
 abbrev pub left : List ℕ → ℕ → ℕ → List ℕ

@@ -12,7 +12,7 @@ use borrow.Author.Tests.{eq-eqb, ne-eqb, eqb-true, eqb-false}
 use Rattle.tree.specs.Keys.{inner}
 use Rattle.tree.specs.Forest.{leaf?}
 use Rattle.tree.specs.Laid.{keyOf, extentOf, successes}
-use Rattle.tree.specs.Cut.{Span, begin, locate}
+use Rattle.tree.specs.inner.Cut.{Span, begin, locate}
 use Rattle.tree.proofs.InsertWords.{leaf-number}
 use Rattle.tree.proofs.RemoveWords.{locate-hit, locate-miss}
 use Rattle.tree.proofs.Hops.{keyAt, extentAt, locate-stop, locate-step}

@@ -9,7 +9,7 @@ use lib.Dec.{ltb}
 use lib.ListN.{length, drop, getD, set, length-set}
 use lib.Seq.{set-getD, drop-set-lt, getD-drop, drop-drop}
 use borrow.Author.Tests.{lt-ltb, le-ltb}
-use Rattle.tree.specs.Cut.{lower}
+use Rattle.tree.specs.inner.Cut.{lower}
 use Rattle.tree.proofs.Hops.{extentAt, lowered, lowered-end, lowered-step}
 
 -- of the words W those before p are lowered by r, and U are all of them now

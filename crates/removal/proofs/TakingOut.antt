@@ -14,10 +14,10 @@ use borrow.Author.Tests.{leb-true, ltb-false, ne-eqb}
 use borrow.Rule.Slice.PartMut.{putMid}
 use Rattle.tree.specs.Keys.{inner}
 use Rattle.tree.specs.Laid.{extentOf, usedOf, keptOf, rows, sized, wellLaid}
-use Rattle.tree.specs.Cut.{Span, locate, lower, cut}
-use Rattle.removal.specs.Close.{Lowerable, Removable, closeUp, takenOut}
+use Rattle.tree.specs.inner.Cut.{Span, locate, lower, cut}
+use Rattle.removal.specs.inner.Close.{Lowerable, Removable, closeUp, takenOut}
 use Rattle.tree.specs.Calls.{Called, refused}
-use Rattle.tree.specs.ByWords.{removeByWords}
+use Rattle.tree.specs.inner.ByWords.{removeByWords}
 use Rattle.tree.specs.declared.CallAnswer.the-variants.{Removed}
 use Rattle.tree.specs.declared.Refusal.the-variants.{NoSuchNumber}
 use Rattle.tree.proofs.Grow.{rows-under, Tests, tests, zeros-replicated}

@@ -3,7 +3,7 @@ use laid::clear;
 ghost use mathlib.Core.Path.{_≡_};
 ghost use Prim.Native.Nat.{_≤_};
 ghost use lib.ListN.{length};
-ghost use Rattle.removal.specs.Close.{closeUp};
+ghost use Rattle.removal.specs.inner.Close.{closeUp};
 
 // Of the first `used` words the first `gone` go: the others move to the left, and zeros take the last places.
 // The caller's words are at least so many.

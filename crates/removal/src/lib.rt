@@ -10,10 +10,10 @@ ghost use mathlib.Core.Path.{_≡_};
 ghost use mathlib.Core.Bool.{true};
 ghost use lib.ListN.{length};
 ghost use Rattle.tree.specs.Laid.{sized, wellLaid};
-ghost use Rattle.tree.specs.Cut.{locate, lower};
-ghost use Rattle.removal.specs.Close.{spanOf, Lowerable, Removable, takenOut};
+ghost use Rattle.tree.specs.inner.Cut.{locate, lower};
+ghost use Rattle.removal.specs.inner.Close.{spanOf, Lowerable, Removable, takenOut};
 ghost use Rattle.tree.specs.Calls.{removal};
-ghost use Rattle.tree.specs.ByWords.{removeByWords};
+ghost use Rattle.tree.specs.inner.ByWords.{removeByWords};
 
 mod close;
 

@@ -8,7 +8,8 @@ use Rattle.clause.specs.Clause.{maxWords}
 use Rattle.record.specs.Text.{Written, written}
 use Rattle.record.specs.Line.{longestLine, longestLast, totalsLine}
 use Rattle.lines.proofs.Writing.{text-there}
-use Rattle.feeding.specs.Feed.{Store, Fed, feed, opening, opened, Steady, recordsIn, Ready}
+use Rattle.feeding.specs.Feed.{Store, Fed, feed, opening, opened}
+use Rattle.feeding.specs.inner.Steady.{Steady, recordsIn, Ready}
 use Rattle.feeding.specs.declared.Session.{Session}
 use Rattle.feeding.proofs.Blocks.{feed-append, feed-records}
 use Rattle.feeding.proofs.Steady.{steady-fresh}

@@ -12,7 +12,8 @@ use lines::put_totals;
 ghost use mathlib.Core.Path.{_≡_};
 ghost use Prim.Native.Nat.{_≤_, _<_};
 ghost use lib.ListN.{length, take};
-ghost use Rattle.feeding.specs.Feed.{storeOf, Steady, Ready, opened};
+ghost use Rattle.feeding.specs.Feed.{storeOf, opened};
+ghost use Rattle.feeding.specs.inner.Steady.{Steady, Ready};
 ghost use Rattle.feeding.specs.Feed.{feed as Feed·feed};
 ghost use Rattle.subsume.specs.Run.{Buffers, Stands, LastLine};
 

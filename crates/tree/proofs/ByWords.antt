@@ -13,12 +13,12 @@ use Rattle.tree.specs.Keys.{inner}
 use Rattle.tree.specs.Forest.{Forest, size, leaves, encode, layout, ins, del, find, holder, WellFormed, Body}
 use Rattle.tree.specs.Laid.{maxKept, sized, usedOf, wellLaid, decode}
 use Rattle.tree.specs.Entries.{Entry, Pair, entry}
-use Rattle.tree.specs.Merge.{Spot, seek}
-use Rattle.tree.specs.Cut.{locate}
+use Rattle.tree.specs.inner.Merge.{Spot, seek}
+use Rattle.tree.specs.inner.Cut.{locate}
 use Rattle.tree.specs.Changes.{refuse, change, insertInto, removeFrom}
 use Rattle.tree.specs.Laws.{Stands}
 use Rattle.tree.specs.Calls.{Called, changed, insertion, removal}
-use Rattle.tree.specs.ByWords.{insertAt, insertUnless, insertByWords, removeAt, removeByWords}
+use Rattle.tree.specs.inner.ByWords.{insertAt, insertUnless, insertByWords, removeAt, removeByWords}
 use Rattle.clause.proofs.Literals.{accepted}
 use Rattle.machine.proofs.Codes.{sequence-plain}
 use Rattle.tree.proofs.Plain.{plain-body}

@@ -2,11 +2,9 @@ pub mod Keys
 pub mod Forest
 pub mod Entries
 pub mod Laid
-pub mod Merge
-pub mod Cut
 pub mod Beginnings
 pub mod Refusal
 pub mod Changes
 pub mod Calls
-pub mod ByWords
 pub mod Laws
+pub mod inner

@@ -264,58 +264,53 @@ fn told(t: usize, call: impl Fn(&mut [u64]) -> u64) -> (u64, Vec<u64>) {
     (call(&mut words), words)
 }
 
+// A code with its values as far as t words reach; the others still hold 9.
+fn so_far(t: usize, code: u64, values: &[u64]) -> (u64, Vec<u64>) {
+    let word = |i| *values.get(i).unwrap_or(&9);
+    (code, (0..t).map(word).collect())
+}
+
 #[test]
-fn told_as_far_as_it_reaches() {
+fn told_by_queries() {
     let pxqx = tree(24, &[PXQX]);
-    let rows: [(&[u16], u64, u64, &[u64]); 6] = [
-        (&[P1, A, P1, B, Q1, B], 100, 0, &[1, 1, 8]),
-        (&[P1, A, Q1, B], 100, 0, &[0, 0, 4]),
-        (&[P1, A, P1, B, Q1, B], 7, 12, &[7]),
-        (&[P2, A], 7, 4, &[2]),
-        (&[0x8001; 9], 7, 5, &[8]),
-        (&[], 7, 3, &[]),
+    let header = vec![9 << 32, 0];
+    let rows: [(&[u64], &[u16], u64, usize, u64, &[u64]); 8] = [
+        (&pxqx, &[P1, A, P1, B, Q1, B], 100, 72, 0, &[1, 1, 8]),
+        (&pxqx, &[P1, A, Q1, B], 100, 72, 0, &[0, 0, 4]),
+        (&pxqx, &[P1, A, P1, B, Q1, B], 7, 72, 12, &[7]),
+        (&pxqx, &[P2, A], 7, 72, 4, &[2]),
+        (&pxqx, &[0x8001; 9], 7, 72, 5, &[8]),
+        (&pxqx, &[], 7, 72, 3, &[]),
+        (&pxqx, PXQX, 9, 71, 6, &[]),
+        (&header, PXQX, 9, 72, 2, &[]),
+    ];
+    for (tree, clause, budget, witness, code, values) in rows {
+        for t in 0..6 {
+            let query =
+                |words: &mut [u64]| raw::query(tree, clause, budget, &mut vec![0; witness], words);
+            assert_eq!(told(t, query), so_far(t, code, values));
+        }
+    }
+}
+
+#[test]
+fn told_by_insertions_and_ceilings() {
+    let pxqx = tree(24, &[PXQX]);
+    let rows: [(&[u16], u32, u64, &[u64]); 5] = [
+        (PXAX, 2, 0, &[]),
+        (PXAX, 1, 7, &[]),
+        (PXQX, 3, 8, &[1]),
+        (&[P2, A], 3, 4, &[2]),
+        (&[0x8001; 9], 3, 5, &[8]),
     ];
     for t in 0..6 {
-        let so_far =
-            |values: &[u64]| -> Vec<u64> { (0..t).map(|i| *values.get(i).unwrap_or(&9)).collect() };
-        for (clause, budget, code, values) in rows {
-            let answer = told(t, |words| {
-                raw::query(&pxqx, clause, budget, &mut [0; 72], words)
-            });
-            assert_eq!(answer, (code, so_far(values)));
+        for (clause, number, code, values) in rows {
+            let insert = |words: &mut [u64]| raw::insert(&mut pxqx.clone(), clause, number, words);
+            assert_eq!(told(t, insert), so_far(t, code, values));
         }
-        assert_eq!(
-            told(t, |words| raw::query(&pxqx, PXQX, 9, &mut [0; 71], words)),
-            (6, so_far(&[]))
-        );
-        assert_eq!(
-            told(t, |words| raw::query(
-                &[9 << 32, 0],
-                PXQX,
-                9,
-                &mut [0; 72],
-                words
-            )),
-            (2, so_far(&[]))
-        );
-        let inserted = |clause: &[u16], number: u32| {
-            told(t, |words| {
-                raw::insert(&mut pxqx.clone(), clause, number, words)
-            })
-        };
-        assert_eq!(inserted(PXAX, 2), (0, so_far(&[])));
-        assert_eq!(inserted(PXAX, 1), (7, so_far(&[])));
-        assert_eq!(inserted(PXQX, 3), (8, so_far(&[1])));
-        assert_eq!(inserted(&[P2, A], 3), (4, so_far(&[2])));
-        assert_eq!(inserted(&[0x8001; 9], 3), (5, so_far(&[8])));
-        assert_eq!(
-            told(t, |words| raw::ceiling(3, 2, 3, words)),
-            (0, so_far(&[42]))
-        );
-        assert_eq!(
-            told(t, |words| raw::ceiling(3, 2, 9, words)),
-            (13, so_far(&[]))
-        );
+        let ceiling = |m: u64| told(t, |words| raw::ceiling(3, 2, m, words));
+        assert_eq!(ceiling(3), so_far(t, 0, &[42]));
+        assert_eq!(ceiling(9), so_far(t, 13, &[]));
     }
 }
 

@@ -4,19 +4,24 @@ use mathlib.Core.List.{[]}
 use Prim.Native.Nat.{_-_, _≤_}
 use native.Mathlib.Omega.{arith}
 use lib.ListN.{length, drop, length-drop}
-use Rattle.book.specs.Book.{after}
+use Rattle.book.specs.Book.{AllFit, after}
+use Rattle.book.specs.Claims.{Run}
 use Rattle.book.specs.Encoding.{callsOf}
-use Rattle.book.proofs.Encoding.{calls-short, ran-after}
+use Rattle.book.proofs.Encoding.{calls-short, ran-after, ran-fit, has-words}
 use Rattle.book.proofs.Believable.{believable}
 use Rattle.book.proofs.Refusals.{demand1}
 use Rattle.book.proofs.Reach.{reach, demand2}
 use Rattle.book.proofs.Agreement.{demand3}
+use Rattle.tree.specs.Calls.{fresh}
+use Rattle.tree.specs.declared.CallAnswer.the-variants.{Ready}
 use borrow.Author.Needs.{needs}
 use Rattle.book.proofs.run.Statement.{statement}
 use Rattle.book.proofs.run.Tie as tie
 
 abbrev Inv-loop : tie.InvT-loop
-Inv-loop tree₀ calls at₀ tree at = (length tree ≡ length tree₀) × (at ≤ length calls) × (after tree₀ (callsOf calls) ≡ after tree (callsOf (drop at calls)))
+Inv-loop tree₀ calls at₀ tree at =
+    (length tree ≡ length tree₀) × (at ≤ length calls) × (AllFit (callsOf (drop at calls)) → AllFit (callsOf calls))
+    × (after tree₀ (callsOf calls) ≡ after tree (callsOf (drop at calls)))
 
 abbrev μ-loop : tie.MeasureT-loop
 μ-loop tree₀ calls at₀ tree at = length calls - at
@@ -25,7 +30,7 @@ fresh-requires : tie.Need-fresh-requires Inv-loop μ-loop
 fresh-requires c κs = search needs
 
 loop-holds : tie.Need-loop-holds Inv-loop μ-loop
-loop-holds c = (refl, omega arith, refl)
+loop-holds c = (refl, omega arith, (λ f. f), refl)
 
 add-loop : tie.Need-add-loop Inv-loop μ-loop
 add-loop c = search needs
@@ -40,7 +45,7 @@ loop-again : tie.Need-loop-again Inv-loop μ-loop
 loop-again c =
     let r = c .before .before .run-one .ensures in
     let i = c .before .before .before .before .before .loop .inv in
-    (search needs, r .inside, i .2 ∙ ran-after r)
+    (search needs, r .inside, (λ f. i .2 (ran-fit r f)), i .3 ∙ ran-after r)
 
 same-length : tie.Need-same-length Inv-loop μ-loop
 same-length c = search needs
@@ -50,9 +55,12 @@ returns c =
     let l = c .before in
     let f = l .before .before .before in
     let s = f .before .before .before .before in
-    let none-left : callsOf (drop (l .loop .at) (s .args .calls .now)) ≡ [] = calls-short _ _ (simp length-drop (omega (arith, c .loop-test .left))) in (
-      sym (ap (λ T. after T (callsOf (s .args .calls .now))) (sym (ap (λ y. y .slice) (f .fresh .ensures))) ∙ l .loop .inv .2 ∙ rw none-left),
-      (believable, (demand1, reach, demand2, demand3)),
+    let a = s .args in
+    let none-left : callsOf (drop (l .loop .at) (a .calls .now)) ≡ [] = calls-short _ _ (simp length-drop (omega (arith, c .loop-test .left))) in
+    let run : fresh (a .tree .now) .answer ≡ Ready → Run (a .tree .now) (callsOf (a .calls .now)) =
+    λ r. record { ready = r; fit = l .loop .inv .2 (rw none-left tt) } in (
+      sym (ap (λ T. after T (callsOf (a .calls .now))) (sym (ap (λ y. y .slice) (f .fresh .ensures))) ∙ l .loop .inv .3 ∙ rw none-left),
+      (λ r. (run r, reach _ _ (run r)), (has-words, (believable, (demand1, reach, demand2, demand3)))),
     )
 
 pub run-spec : {M : Type 1} → statement M

@@ -1,11 +1,11 @@
 -- `run_one` meets its contract: the first call that the words stand for is run, by its kind.
 use mathlib.Core.Path.{_≡_, ap, _∙_}
-use Prim.Native.Nat.{suc, _+_, _-_}
+use Prim.Native.Nat.{ℕ, suc, _+_, _-_, _^_, _<_}
 use native.Mathlib.Nat.{add-assoc}
 use native.Mathlib.Omega.{arith}
 use lib.ListN.{getD, take, drop}
 use Rattle.book.specs.Book.{insert, remove}
-use Rattle.book.proofs.Encoding.{reads-remove, reads-insert, clause-part}
+use Rattle.book.proofs.Encoding.{words-part, reads-remove, reads-insert, clause-part}
 use borrow.Author.Needs.{needs}
 use Rattle.book.proofs.run_one.Statement.{statement}
 use Rattle.book.proofs.run_one.Tie as tie
@@ -38,9 +38,11 @@ returns c =
     let s = n .before .before .before in
     let ws = s .args .calls .now in
     let at = s .args .at in
+    let bound : (i : ℕ) → getD ws i 0 < 2 ^ 16 = λ i. omega (arith, k .before .shared-slice-known2 .given i) in
     record {
       first = remove (n .number-at .result);
       reads = λ f. reads-remove ws at (s .pre) (k .if1 .taken) f ∙ rw (n .number-at .ensures, add-assoc at 1 1);
+      fit = omega (arith, n .number-at .ensures, bound (at + 1), bound (at + 1 + 1));
       slice = ap (λ y. y .slice) (c .before .before .remove .ensures);
       further = omega arith;
       inside = s .pre;
@@ -82,10 +84,12 @@ returns-2 c =
     let ws = s .args .calls .now in
     let at = s .args .at in
     let m = getD ws at 0 - 1 in
+    let bound : (i : ℕ) → getD ws i 0 < 2 ^ 16 = λ i. omega (arith, k .before .shared-slice-known2 .given i) in
     let some : getD ws at 0 ≡ suc m = omega (arith, k .if1 .left) in
     record {
       first = insert (take m (drop (at + 3) ws)) (n .number-at .result);
       reads = λ f. reads-insert ws at (s .pre) m some f ∙ rw (n .number-at .ensures, e .clause-end .ensures, add-assoc at 1 1);
+      fit = (words-part ws bound (at + 3) m, omega (arith, n .number-at .ensures, bound (at + 1), bound (at + 1 + 1)));
       slice = ap (λ y. y .slice) (c .before .before .insert .ensures) ∙ rw (e .clause-end .ensures, clause-part ws at (s .pre) m);
       further = omega (arith, e .clause-end .ensures);
       inside = omega (arith, e .clause-end .ensures);

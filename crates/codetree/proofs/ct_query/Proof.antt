@@ -1,8 +1,10 @@
--- `ct_query` meets its contract: the call is made, and its answer handed over.
+-- `ct_query` meets its contract: the call is made, and its answer handed over; and the claims are proved.
 use mathlib.Core.Path.{ap}
 use Rattle.book.specs.Table.{asked}
 use Rattle.codetree.specs.Calls.{ctQuery}
 use Rattle.codetree.proofs.Telling.{hands}
+use Rattle.codetree.proofs.Apart.{told-apart}
+use Rattle.codetree.proofs.Lists.{ct-reach, ct-demand2, ct-demand3}
 use borrow.Author.Needs.{needs}
 use Rattle.codetree.proofs.ct_query.Statement.{statement}
 use Rattle.codetree.proofs.ct_query.Tie as tie
@@ -23,8 +25,10 @@ returns : tie.Need-returns
 unfolding ctQuery
 returns c =
     let h = c .before .before in
-    let i = h .before .before .before .before in
-    hands (i .before .before .before .before .before .before .args .told .now) (ap asked (i .query .ensures)) (h .hand-query .ensures)
+    let i = h .before .before .before .before in (
+      hands (i .before .before .before .before .before .before .args .told .now) (ap asked (i .query .ensures)) (h .hand-query .ensures),
+      ((ct-reach, ct-demand2, ct-demand3), told-apart),
+    )
 
 pub ct-query-spec : {M : Type 1} → statement M
 ct-query-spec =

@@ -1,7 +1,7 @@
 -- `insertion::insert_new` meets its contract.
 use mathlib.Core.Path.{ap, _∙_}
 use native.Mathlib.Omega.{arith}
-use Rattle.insertion.specs.Inserting.{holderOf}
+use Rattle.insertion.specs.inner.Inserting.{holderOf}
 use Rattle.insertion.proofs.InsertCases.{ready-parts, in-region, insert-held, insert-full, insert-there}
 use borrow.Author.Needs.{needs}
 use Rattle.insertion.proofs.insert_new.Statement.{statement}

@@ -3,8 +3,8 @@ use mathlib.Core.Path.{ap, _∙_}
 use mathlib.Core.List.{List}
 use Prim.Native.Nat.{ℕ}
 use native.Mathlib.Omega.{arith}
-use Rattle.tree.specs.Cut.{locate}
-use Rattle.insertion.specs.Inserting.{isSome}
+use Rattle.tree.specs.inner.Cut.{locate}
+use Rattle.insertion.specs.inner.Inserting.{isSome}
 use Rattle.insertion.proofs.UsedWords.{parts}
 use borrow.Author.Needs.{needs}
 use Rattle.insertion.proofs.taken.Statement.{statement}

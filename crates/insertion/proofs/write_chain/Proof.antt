@@ -5,7 +5,7 @@ use Prim.Native.Nat.{ℕ, _-_, _≤_}
 use native.Mathlib.Omega.{arith}
 use lib.ListN.{length, set, length-set}
 use borrow.Author.Needs.{needs}
-use Rattle.tree.specs.Merge.{newWords}
+use Rattle.tree.specs.inner.Merge.{newWords}
 use Rattle.insertion.proofs.Chain.{over, over-set, new-length, new-key, written, body-small}
 use Rattle.insertion.proofs.write_chain.Statement.{statement}
 use Rattle.insertion.proofs.write_chain.Tie as tie

@@ -5,7 +5,7 @@ use Prim.Native.Nat.{_-_, _≤_}
 use native.Mathlib.Omega.{arith}
 use lib.ListN.{length, drop, getD}
 use borrow.Author.Needs.{needs}
-use Rattle.tree.specs.Cut.{begin, locate}
+use Rattle.tree.specs.inner.Cut.{begin, locate}
 use Rattle.removal.proofs.Locating.{begin-on, begin-new, scan-stop, scan-on, scan-end}
 use Rattle.removal.proofs.locate.Statement.{statement}
 use Rattle.removal.proofs.locate.Tie as tie

@@ -3,7 +3,7 @@ use mathlib.Core.Path.{_≡_, sym, ap, _∙_}
 use mathlib.Core.Option.{some}
 use Prim.Native.Nat.{_-_}
 use native.Mathlib.Omega.{arith}
-use Rattle.removal.specs.Close.{spanOf}
+use Rattle.removal.specs.inner.Close.{spanOf}
 use Rattle.removal.proofs.TakingOut.{sized-low, sized-high, laid-room, scan, hit-order, removable, removed, missed}
 use borrow.Author.Needs.{needs}
 use Rattle.removal.proofs.remove_laid.Statement.{statement}

@@ -4,7 +4,7 @@ use Prim.Native.Nat.{suc, _-_, _≤_}
 use native.Mathlib.Omega.{arith}
 use lib.ListN.{length}
 use borrow.Author.Needs.{needs}
-use Rattle.clause.specs.Tables.{tablesFrom}
+use Rattle.clause.specs.inner.Tables.{tablesFrom}
 use Rattle.clause.proofs.Marking.{marked-none}
 use Rattle.clause.proofs.tables.note_terms.Statement.{statement}
 use Rattle.clause.proofs.tables.note_terms.Tie as tie

@@ -4,7 +4,7 @@ use Prim.Native.Nat.{_≤_, _-_}
 use native.Mathlib.Omega.{arith}
 use borrow.Author.Needs.{needs}
 use lib.ListN.{length}
-use Rattle.machine.specs.Compiling.{Stored}
+use Rattle.machine.specs.inner.Compiling.{Stored}
 use Rattle.machine.proofs.Stores.{stored-none, stored-length}
 use Rattle.machine.proofs.Rows.{rows, rows-none, rows-room, rows-stored, rows-whole}
 use Rattle.machine.proofs.compiling.compare_all.Statement.{statement}

@@ -5,7 +5,7 @@ use Prim.Native.Nat.{_≤_, _<_, _+_, _-_}
 use native.Mathlib.Omega.{arith}
 use borrow.Author.Needs.{needs}
 use lib.ListN.{length, length-set}
-use Rattle.machine.specs.Compiling.{Stored}
+use Rattle.machine.specs.inner.Compiling.{Stored}
 use Rattle.machine.proofs.Rows.{row, row-from, row-above, row-room, row-start, row-stored, row-passed, row-whole}
 use Rattle.machine.proofs.compiling.compare_row.Statement.{statement}
 use Rattle.machine.proofs.compiling.compare_row.Tie as tie

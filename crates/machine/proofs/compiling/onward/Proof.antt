@@ -2,7 +2,7 @@
 use Prim.Native.Nat.{_+_, _-_, _≤_}
 use native.Mathlib.Omega.{arith}
 use lib.ListN.{length, length-set}
-use Rattle.machine.specs.Compiling.{savedIn}
+use Rattle.machine.specs.inner.Compiling.{savedIn}
 use Rattle.machine.proofs.Spots.{push-two, down-one, right-one, pop-one, went-push, went-down, went-right, went-pop, went-out}
 use borrow.Author.Needs.{needs}
 use Rattle.machine.proofs.compiling.onward.Statement.{statement}

@@ -2,7 +2,7 @@
 use native.Mathlib.Omega.{arith}
 use mathlib.Core.Path.{ap}
 use lib.ListN.{length}
-use Rattle.machine.specs.Compiling.{openingKeys}
+use Rattle.machine.specs.inner.Compiling.{openingKeys}
 use Rattle.machine.proofs.Spots.{open-on, open-new}
 use borrow.Author.Needs.{needs}
 use Rattle.machine.proofs.compiling.open.Statement.{statement}

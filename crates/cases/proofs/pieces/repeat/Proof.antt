@@ -1,0 +1,63 @@
+-- `repeat` stays within the clause.
+use mathlib.Core.Path.{_≡_}
+use borrow.Author.Needs.{needs}
+use lib.ListN.{length}
+use Rattle.cases.proofs.pieces.repeat.Statement.{statement}
+use Rattle.cases.proofs.pieces.repeat.Tie as tie
+
+abbrev Inv-loop : tie.InvT-loop
+Inv-loop word count from clause₀ at₀ left₀ clause at left = length clause ≡ length clause₀
+
+abbrev μ-loop : tie.MeasureT-loop
+μ-loop word count from clause₀ at₀ left₀ clause at left = left
+
+loop-holds : tie.Need-loop-holds Inv-loop μ-loop
+loop-holds c = search needs
+
+same-length : tie.Need-same-length Inv-loop μ-loop
+same-length c = search needs
+
+returns : tie.Need-returns Inv-loop μ-loop
+returns c = search needs
+
+mul-clause : tie.Need-mul-clause Inv-loop μ-loop
+mul-clause c = search needs
+
+slice-write-clause : tie.Need-slice-write-clause Inv-loop μ-loop
+slice-write-clause c = search needs
+
+add-at : tie.Need-add-at Inv-loop μ-loop
+add-at c = search needs
+
+sub-left : tie.Need-sub-left Inv-loop μ-loop
+sub-left c = search needs
+
+loop-less : tie.Need-loop-less Inv-loop μ-loop
+loop-less c = search needs
+
+loop-again : tie.Need-loop-again Inv-loop μ-loop
+loop-again c = search needs
+
+same-length-2 : tie.Need-same-length-2 Inv-loop μ-loop
+same-length-2 c = search needs
+
+returns-2 : tie.Need-returns-2 Inv-loop μ-loop
+returns-2 c = search needs
+
+pub repeat-spec : {M : Type 1} → statement M
+repeat-spec =
+    tie.close
+    (tie.spec
+    Inv-loop
+    μ-loop
+    loop-holds
+    same-length
+    returns
+    mul-clause
+    slice-write-clause
+    add-at
+    sub-left
+    loop-less
+    loop-again
+    same-length-2
+    returns-2)

@@ -1,0 +1,5 @@
+pub mod Region
+pub mod Rows
+pub mod Unlike
+pub mod Places
+pub mod Visits

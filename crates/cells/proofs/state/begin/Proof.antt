@@ -1,0 +1,54 @@
+-- `begin` meets its contract.
+use mathlib.Core.Path.{_∙_}
+use native.Mathlib.Omega.{arith}
+use Rattle.clause.proofs.Literals.{accepted}
+use Rattle.cells.specs.inner.Cells.{candidate, headAt}
+use borrow.Author.Needs.{needs}
+use Rattle.cells.proofs.state.begin.Statement.{statement}
+use Rattle.cells.proofs.state.begin.Tie as tie
+use Rattle.cells.proofs.state.begin.Reads as reads
+use Rattle.cells.proofs.state.begin.Lts as lts
+use Rattle.cells.proofs.state.wide.Reads as wide-reads
+
+element-copy-out-slot : tie.Need-element-copy-out-slot
+element-copy-out-slot c = search needs
+
+cast-slot : tie.Need-cast-slot
+cast-slot c = omega (arith, c .before .before .before .pre .3 (c .before .if1 .taken))
+
+sub-slot : tie.Need-sub-slot
+sub-slot c = omega (arith, c .before .before .before .pre .3 (c .before .if1 .taken))
+
+cast-cells : tie.Need-cast-cells
+cast-cells c = omega (arith, c .before .before .before .pre .3 (c .before .if1 .taken), accepted _ (c .before .before .before .pre .0) .few)
+
+element-write-cells : tie.Need-element-write-cells
+element-write-cells c = omega (arith, c .before .before .before .pre .3 (c .before .if1 .taken))
+
+element-copy-out-wide : tie.Need-element-copy-out-wide
+element-copy-out-wide c = omega (arith, c .before .before .before .pre .3 (c .before .if1 .taken), accepted _ (c .before .before .before .pre .0) .few)
+
+wide-requires : tie.Need-wide-requires
+wide-requires c κs = search needs
+
+returns : tie.Need-returns
+unfolding candidate headAt
+returns c = (rw (c .before .before .before .if1 .taken) (c .wide .ensures .0 ∙ c .before .before .before .before .before .pre .1 .starts _ (c .before .before .before .before .before .pre .3 (c .before .before .before .if1 .taken) .2)), rw (c .before .before .before .if1 .taken))
+
+returns-2 : tie.Need-returns-2
+unfolding candidate headAt
+returns-2 c = (rw (c .if1 .left), rw (c .if1 .left))
+
+pub begin-spec : {M : Type 1} → statement M
+begin-spec =
+    tie.close
+    (tie.spec
+    element-copy-out-slot
+    cast-slot
+    sub-slot
+    cast-cells
+    element-write-cells
+    element-copy-out-wide
+    wide-requires
+    returns
+    returns-2)

@@ -1,0 +1,25 @@
+-- `restore` meets its contract.
+use borrow.Author.Tests.{eq-eqb, ne-eqb}
+use Rattle.cells.specs.inner.Cells.{restored}
+use borrow.Author.Needs.{needs}
+use Rattle.cells.proofs.state.restore.Statement.{statement}
+use Rattle.cells.proofs.state.restore.Tie as tie
+use Rattle.cells.proofs.state.restore.Reads as reads
+use Rattle.cells.proofs.state.restore.Lts as lts
+
+returns : tie.Need-returns
+unfolding restored
+returns c = rw (eq-eqb _ 0 (c .if1 .taken))
+
+cast-cells : tie.Need-cast-cells
+cast-cells c = search needs
+
+element-write-cells : tie.Need-element-write-cells
+element-write-cells c = search needs
+
+returns-2 : tie.Need-returns-2
+unfolding restored
+returns-2 c = rw (ne-eqb _ 0 (c .if1 .left))
+
+pub restore-spec : {M : Type 1} → statement M
+restore-spec = tie.close (tie.spec returns cast-cells element-write-cells returns-2)

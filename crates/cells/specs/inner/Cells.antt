@@ -1,0 +1,166 @@
+-- The walk's state in lent cells, and what the functions on them do.
+use mathlib.Core.Path.{_≡_}
+use mathlib.Core.Bool.{Bool, true, false, cond}
+use mathlib.Core.Option.{Option, none, some}
+use mathlib.Core.List.{List, map}
+use Prim.Native.Nat.{ℕ, _+_, _-_, _*_, _/_, _%_, _^_, _≤_, _<_}
+use lib.Dec.{ltb, eqb}
+use lib.ListN.{length, getD, take, drop, set}
+use Rattle.clause.specs.Clause.{Accepted, literals, startOf, maxLiterals}
+use Rattle.clause.specs.Positions.{jump, rights}
+use Rattle.machine.specs.Instr.{Instr, First, Do, Success, instrOf}
+use Rattle.machine.specs.Machine.{slots, State, Outcome, next, fails, stuck, step, finish, starting}
+use Rattle.machine.specs.inner.Safe.{Safe}
+use Rattle.tree.specs.Laid.{keyOf}
+use Rattle.walk.specs.Walk.{Part, tries, upTo}
+use Rattle.walk.specs.Words.{extends, walkWords}
+use Rattle.walk.specs.Query.{machine}
+use Rattle.cells.specs.declared.Go.{Go}
+use Rattle.cells.specs.declared.Go.the-variants.{Fails, Stuck, Hit, Tries, Below, Stored}
+use Rattle.cells.specs.declared.Visit.{Visit}
+
+-- the position that a cell holds; 255 stands for none
+unfoldable pub placeOf : ℕ → Option ℕ
+placeOf x = cond (eqb x 255) none (some x)
+
+-- the positions in the 64 cells from one on
+unfoldable pub placed : ℕ → List ℕ → List (Option ℕ)
+placed a l = map placeOf (take slots (drop a l))
+
+-- the state in a head and 256 cells: 8 candidates, 64 positions put, 64 positions pushed, how many candidates there are, and cells that no state uses
+abbrev pub stateOf : (head : ℕ) (cells : List ℕ) → State
+stateOf h l = record { chosen = take (getD l 136 0) l; head = placeOf h; puts = placed 8 l; pushes = placed 72 l }
+
+-- the tables of a query: where its literals begin, where the terms at its positions end, their right siblings, how many literals it has
+pub record Tables (d l : List ℕ) : Type 0 where
+  pub starts : (j : ℕ) → j < length (literals d) → getD l j 0 ≡ startOf d j
+  pub ends : (p : ℕ) → p < length d → getD l (8 + p) 0 ≡ jump d 1 p
+  pub rights : (p : ℕ) → p < length d → getD l (72 + p) 0 ≡ rights d p
+  pub count : getD l 136 0 ≡ length (literals d)
+
+-- an accepted query with its tables, and a state whose positions lie in it
+pub record Ready (d t : List ℕ) (head : ℕ) (cells : List ℕ) : Type 0 where
+  pub whole : Accepted d
+  pub tables : Tables d t
+  pub safe : Safe d (stateOf head cells)
+  pub size : length cells ≡ 256
+  pub few : getD cells 136 0 ≤ maxLiterals
+
+-- what a word comes to: past it, broken, the end, the candidates of a First, or the words below it
+pub data Met : Type 0 where
+  past bad : Met
+  hit firsts below : State → Met
+
+-- what a step comes to
+unfoldable pub stepped : Outcome State → Met
+stepped (next s) = below s
+stepped fails = past
+stepped stuck = bad
+
+-- what a Success comes to
+unfoldable pub reached : Outcome State → Met
+reached (next s) = hit s
+reached fails = past
+reached stuck = bad
+
+-- what an instruction comes to
+unfoldable pub metAs : List ℕ → Option Instr → State → Met
+metAs d none s = bad
+metAs d (some (Success n)) s = reached (finish s)
+metAs d (some First) s = cond (ltb (length (s .chosen)) maxLiterals) (firsts s) bad
+metAs d (some (Do x)) s = stepped (step d x s)
+
+-- what a word comes to, with so many words in its row from it on
+unfoldable pub meeting : List ℕ → (w room : ℕ) → State → Met
+meeting d w room s = cond (extends w (room - 1)) (metAs d (instrOf (keyOf w)) s) bad
+
+-- the same, as a visit tells it
+unfoldable pub metOf : Go → State → Met
+metOf Fails s = past
+metOf Stuck s = bad
+metOf Hit s = hit s
+metOf Tries s = firsts s
+metOf Below s = below s
+metOf Stored s = below s
+
+-- an operation with so many words: a Success has one
+unfoldable pub sized : (op words : ℕ) → Met → Met
+sized op n m = cond (eqb op 0) (cond (eqb n 1) m bad) m
+
+-- the cells with one of them stored back: its index and what it held, in the lowest 16 bits of a number; 0 stands for none
+unfoldable pub restored : ℕ → List ℕ → List ℕ
+restored m l = cond (eqb m 0) l (set l (m / 256 % 256) (m % 256))
+
+-- whether a visit stores a position
+abbrev pub stores : Go → Bool
+stores Fails = false
+stores Stuck = false
+stores Hit = false
+stores Tries = false
+stores Below = false
+stores Stored = true
+
+-- what a visit does to the cells: one position is stored, and a number brings back what stood there, or they stay as they are
+pub data Marked (l : List ℕ) : Go → ℕ → List ℕ → Type 0 where
+  plain : (g : Go) → stores g ≡ false → Marked l g 0 l
+  store : (i x : ℕ) → 8 ≤ i → i < 136 → getD l i 0 < 256 → Marked l Stored (i * 256 + getD l i 0) (set l i x)
+
+-- a visit: what the word comes to, and what was stored
+pub record Visited (m : Met) (before after : List ℕ) (r : Visit) : Type 0 where
+  pub comes : metOf (r .go) (stateOf (r .head) after) ≡ m
+  pub marked : Marked before (r .go) (r .mark) after
+
+-- the cells with up to four of them stored back, the latest, in the lowest 16 bits, first
+unfoldable pub unwound : ℕ → List ℕ → List ℕ
+unwound t l = restored (t / 2 ^ 48) (restored (t / 2 ^ 32) (restored (t / 2 ^ 16) (restored t l)))
+
+-- the key of the Check that fits at a head
+unfoldable pub wantedAt : List ℕ → ℕ → ℕ
+wantedAt d h = 7 * 2 ^ 32 + getD d h 0
+
+-- only Checks that fail there stand between two places of a row
+pub record Passed (words : List ℕ) (at wanted : ℕ) (r : ℕ) : Type 0 where
+  pub inside : r ≤ length words
+  pub further : at ≤ r
+  pub same : (d : List ℕ) (allow : ℕ → Bool) (s : State) (p c : ℕ) → s .head ≡ some p → wanted ≡ 7 * 2 ^ 32 + getD d p 0
+      → walkWords (machine d) allow (drop at words) s c ≡ walkWords (machine d) allow (drop r words) s c
+
+-- the cells with one candidate more, whatever it is
+unfoldable pub reserved : Bool → List ℕ → List ℕ
+reserved true l = set l 136 (getD l 136 0 + 1)
+reserved false l = l
+
+-- the cells with literal j as the latest candidate
+unfoldable pub candidate : Bool → ℕ → List ℕ → List ℕ
+candidate true j l = set l (getD l 136 0 - 1) j
+candidate false j l = l
+
+-- the cells without the latest candidate, where `kept` stood before
+unfoldable pub released : Bool → ℕ → List ℕ → List ℕ
+released true kept l = set (set l (getD l 136 0 - 1) kept) 136 (getD l 136 0 - 1)
+released false kept l = l
+
+-- what stands where the next candidate of a First is to be stored
+unfoldable pub keptIn : Bool → List ℕ → ℕ
+keptIn true l = getD l (getD l 136 0) 0
+keptIn false l = 0
+
+-- the head at the beginning of a pass
+unfoldable pub headAt : List ℕ → Bool → (head j : ℕ) → ℕ
+headAt d true h j = startOf d j
+headAt d false h j = h
+
+-- the state with literal j as the next candidate
+unfoldable pub startAt : List ℕ → Bool → ℕ → State → State
+startAt d true j s = starting d s j
+startAt d false j s = s
+
+-- how many passes a node takes: one for each literal of the query, or one
+unfoldable pub passesOf : Bool → ℕ → ℕ
+passesOf true n = n
+passesOf false n = 1
+
+-- the walk below a node: from each candidate, or from the state itself
+unfoldable pub entered : List ℕ → (budget : ℕ) → Bool → (State → Part State) → State → Part State
+entered d b true k s c = tries (machine d) (upTo b) k s (length (literals d)) 0 c
+entered d b false k s c = k s c

@@ -1,0 +1,403 @@
+// One word of a row on the lent cells.
+use crate::Go;
+use crate::Path;
+use crate::Visit;
+use crate::row;
+use crate::state::wide;
+use clause::Clause;
+ghost use mathlib.Core.Path.{_≡_};
+ghost use mathlib.Core.List.{List};
+ghost use mathlib.Core.Option.{none};
+ghost use mathlib.Core.Logic.{_⊎_};
+ghost use mathlib.Core.Bool.{cond};
+ghost use Prim.Native.Nat.{ℕ, _+_, _*_, _≤_, _<_, _/_, _%_, _^_};
+ghost use lib.Dec.{eqb, ltb};
+ghost use lib.ListN.{length, getD, set};
+ghost use Rattle.machine.specs.Instr.{Compare, instruction};
+ghost use Rattle.machine.specs.Machine.{fails, next, given, headed, putting, pushing, require, within, sameTerms, stepAt};
+ghost use Rattle.machine.specs.Machine as m;
+ghost use Rattle.cells.specs.declared.Go.the-variants.{Stuck, Tries, Stored};
+ghost use Rattle.cells.specs.inner.Cells.{placeOf, stateOf, hit, firsts, bad, stepped, sized, metAs, meeting, Tables, Ready, Visited};
+
+// To the first argument, if there is one.
+fn down(query: &[u16], head: usize) -> Visit
+    requires { ⌜ (head < length (now query)) × (length (now query) ≤ 64) ⌝ }
+    ensures { λ r. ⌜ ((l : List ℕ) → Visited (stepped (given (m.down (now (query .entry)) head) (headed (stateOf head l)))) l l r) ⌝ }
+{
+    if query[head] / 2048 % 8 == 0 {
+        Visit {
+            go: Go::Stuck,
+            head: head,
+            mark: 0,
+        }
+    } else {
+        let to = head + 1;
+        Visit {
+            go: Go::Below,
+            head: to,
+            mark: 0,
+        }
+    }
+}
+
+// The right sibling: 255 where there is none.
+fn right(
+    query: &[u16],
+    tables: &[u8; Clause::TABLES],
+    cells: &[u8; Path::CELLS],
+    head: usize,
+) -> usize
+    requires { ⌜ Ready (now query) (now tables) head (now cells) × (head < length (now query)) ⌝ }
+    ensures { λ r. ⌜ (placeOf r ≡ m.right (now (query .entry)) head) × (r < 256) ⌝ }
+{
+    let siblings = Clause::SIBLINGS + head;
+    let end = Clause::ENDS + head;
+    if tables[siblings] == 0 {
+        Path::NONE
+    } else {
+        wide(tables[end])
+    }
+}
+
+// To the right sibling, if there is one.
+fn sibling(
+    query: &[u16],
+    tables: &[u8; Clause::TABLES],
+    cells: &[u8; Path::CELLS],
+    head: usize,
+) -> Visit
+    requires { ⌜ Ready (now query) (now tables) head (now cells) × (head < length (now query)) ⌝ }
+    ensures { λ r. ⌜ Visited (stepped (given (m.right (now (query .entry)) head) (headed (stateOf head (now (cells .entry)))))) (now (cells .entry)) (now (cells .entry)) r ⌝ }
+{
+    let siblings = Clause::SIBLINGS + head;
+    let end = Clause::ENDS + head;
+    if tables[siblings] == 0 {
+        Visit {
+            go: Go::Stuck,
+            head: head,
+            mark: 0,
+        }
+    } else {
+        Visit {
+            go: Go::Below,
+            head: wide(tables[end]),
+            mark: 0,
+        }
+    }
+}
+
+// Goes on with another head, if there is one.
+fn moved(head: usize, to: usize) -> Visit
+    ensures { λ r. ⌜ ((l : List ℕ) → Visited (stepped (given (placeOf to) (headed (stateOf head l)))) l l r) ⌝ }
+{
+    if to == Path::NONE {
+        Visit {
+            go: Go::Stuck,
+            head: head,
+            mark: 0,
+        }
+    } else {
+        Visit {
+            go: Go::Below,
+            head: to,
+            mark: 0,
+        }
+    }
+}
+
+// Stores a position in a cell.
+fn store(cells: &mut [u8; Path::CELLS], head: usize, slot: usize, position: usize) -> Visit
+    requires { ⌜ (slot < 136) × (position < 256) ⌝ }
+    ensures { λ r. ⌜ (r ≡ record { go = Stored; head = head; mark = slot * 256 + getD (now (cells .entry)) slot 0 })
+        × (now (cells .exit) ≡ set (now (cells .entry)) slot position) × (getD (now (cells .entry)) slot 0 < 256) ⌝ }
+{
+    let old = wide(cells[slot]);
+    cells[slot] = position as u8;
+    Visit {
+        go: Go::Stored,
+        head: head,
+        mark: (slot * 256 + old) as u64,
+    }
+}
+
+// Put k stores the head.
+fn put(cells: &mut [u8; Path::CELLS], head: usize, k: u32) -> Visit
+    requires { ⌜ (getD (now cells) 136 0 ≤ 8) × (head < 64) ⌝ }
+    ensures { λ r. ⌜ Visited (stepped (within k (next (putting (stateOf head (now (cells .entry))) k head)))) (now (cells .entry)) (now (cells .exit)) r ⌝ }
+{
+    if k >= 64 {
+        return Visit {
+            go: Go::Stuck,
+            head: head,
+            mark: 0,
+        };
+    }
+    let slot = Path::PUTS + k as usize;
+    store(cells, head, slot, head)
+}
+
+// Push n stores the position to the right.
+fn push(cells: &mut [u8; Path::CELLS], head: usize, n: u32, to: usize) -> Visit
+    requires { ⌜ (getD (now cells) 136 0 ≤ 8) × (to < 256) ⌝ }
+    ensures { λ r. ⌜ Visited (stepped (within n (given (placeOf to) (pushing (stateOf head (now (cells .entry))) n)))) (now (cells .entry)) (now (cells .exit)) r ⌝ }
+{
+    if n >= 64 {
+        return Visit {
+            go: Go::Stuck,
+            head: head,
+            mark: 0,
+        };
+    }
+    if to == Path::NONE {
+        return Visit {
+            go: Go::Stuck,
+            head: head,
+            mark: 0,
+        };
+    }
+    let slot = Path::PUSHES + n as usize;
+    store(cells, head, slot, to)
+}
+
+// Pop n puts the head at the position pushed under n.
+fn pop(cells: &[u8; Path::CELLS], head: usize, n: u32) -> Visit
+    requires { ⌜ length (now cells) ≡ 256 ⌝ }
+    ensures { λ r. ⌜ Visited (stepped (within n (given (getD (stateOf head (now (cells .entry)) .pushes) n none) (headed (stateOf head (now (cells .entry))))))) (now (cells .entry)) (now (cells .entry)) r ⌝ }
+{
+    if n >= 64 {
+        return Visit {
+            go: Go::Stuck,
+            head: head,
+            mark: 0,
+        };
+    }
+    let slot = Path::PUSHES + n as usize;
+    moved(head, wide(cells[slot]))
+}
+
+// A clause word as an operand.
+fn word(w: u16) -> u32
+    ensures { λ r. ⌜ r ≡ w ⌝ }
+{
+    w as u32
+}
+
+// Check fails on another word.
+fn check(query: &[u16], head: usize, x: u32) -> Visit
+    requires { ⌜ head < length (now query) ⌝ }
+    ensures { λ r. ⌜ ((l : List ℕ) → Visited (stepped (require fails (eqb (getD (now (query .entry)) head 0) x) (next (stateOf head l)))) l l r) ⌝ }
+{
+    if word(query[head]) == x {
+        Visit {
+            go: Go::Below,
+            head: head,
+            mark: 0,
+        }
+    } else {
+        Visit {
+            go: Go::Fails,
+            head: head,
+            mark: 0,
+        }
+    }
+}
+
+// Whether the whole terms at two positions are equal, each handed on as a part of the query.
+fn same_terms(query: &[u16], tables: &[u8; Clause::TABLES], p: usize, q: usize) -> bool
+    requires { ⌜ (length (now query) ≤ 64) × Tables (now query) (now tables) × (p < length (now query)) × (q < length (now query)) ⌝ }
+    ensures { λ r. ⌜ r ≡ sameTerms (now (query .entry)) p q ⌝ }
+{
+    let p_cell = Clause::ENDS + p;
+    let q_cell = Clause::ENDS + q;
+    let p_end = wide(tables[p_cell]);
+    let q_end = wide(tables[q_cell]);
+    clause::same(&query[p..p_end], &query[q..q_end])
+}
+
+// A Success ends the walk; it has one word.
+fn success(words: usize, head: usize) -> Visit
+    ensures { λ r. ⌜ ((l : List ℕ) → Visited (sized 0 words (hit (stateOf head l))) l l r) ⌝ }
+{
+    if words == 1 {
+        Visit {
+            go: Go::Hit,
+            head: head,
+            mark: 0,
+        }
+    } else {
+        Visit {
+            go: Go::Stuck,
+            head: head,
+            mark: 0,
+        }
+    }
+}
+
+// A First tries the literals of the query, at most as its eighth.
+fn tries(cells: &[u8; Path::CELLS], head: usize) -> Visit
+    requires { ⌜ length (now cells) ≡ 256 ⌝ }
+    ensures { λ r. ⌜ Visited (cond (ltb (getD (now (cells .entry)) 136 0) 8) (firsts (stateOf head (now (cells .entry)))) bad) (now (cells .entry)) (now (cells .entry)) r
+        × ((r .go ≡ Tries) ⊎ (r .go ≡ Stuck)) ⌝ }
+{
+    if cells[Path::CHOSEN] < 8 {
+        Visit {
+            go: Go::Tries,
+            head: head,
+            mark: 0,
+        }
+    } else {
+        Visit {
+            go: Go::Stuck,
+            head: head,
+            mark: 0,
+        }
+    }
+}
+
+// Compare fails unless the terms at two positions put are equal.
+fn compare(
+    query: &[u16],
+    tables: &[u8; Clause::TABLES],
+    cells: &[u8; Path::CELLS],
+    head: usize,
+    x: u32,
+) -> Visit
+    requires { ⌜ Ready (now query) (now tables) head (now cells) ⌝ }
+    ensures { λ r. ⌜ Visited (stepped (stepAt (now (query .entry)) (Compare (x / 2 ^ 16) (x % 2 ^ 16)) (stateOf head (now (cells .entry))) head)) (now (cells .entry)) (now (cells .entry)) r ⌝ }
+{
+    let m = (x / 65536) as usize;
+    let k = (x % 65536) as usize;
+    let stuck = Visit {
+        go: Go::Stuck,
+        head: head,
+        mark: 0,
+    };
+    if m >= 64 {
+        return stuck;
+    }
+    if k >= 64 {
+        return stuck;
+    }
+    let m_cell = Path::PUTS + m;
+    let k_cell = Path::PUTS + k;
+    let p = wide(cells[m_cell]);
+    let q = wide(cells[k_cell]);
+    if p == Path::NONE {
+        return stuck;
+    }
+    if q == Path::NONE {
+        return stuck;
+    }
+    if same_terms(query, tables, p, q) {
+        Visit {
+            go: Go::Below,
+            head: head,
+            mark: 0,
+        }
+    } else {
+        Visit {
+            go: Go::Fails,
+            head: head,
+            mark: 0,
+        }
+    }
+}
+
+// Any instruction, of a node with so many words, at a head.
+fn act(
+    op: u64,
+    x: u32,
+    words: usize,
+    query: &[u16],
+    tables: &[u8; Clause::TABLES],
+    cells: &mut [u8; Path::CELLS],
+    head: usize,
+) -> Visit
+    requires { ⌜ Ready (now query) (now tables) head (now cells) × (head < length (now query)) ⌝ }
+    ensures { λ r. ⌜ Visited (sized op words (metAs (now (query .entry)) (instruction op x) (stateOf head (now (cells .entry))))) (now (cells .entry)) (now (cells .exit)) r ⌝ }
+{
+    match op {
+        0 => success(words, head),
+        1 => tries(cells, head),
+        2 => down(query, head),
+        3 => sibling(query, tables, cells, head),
+        4 => put(cells, head, x),
+        5 => {
+            let to = right(query, tables, cells, head);
+            push(cells, head, x, to)
+        }
+        6 => pop(cells, head, x),
+        7 => check(query, head, x),
+        8 => compare(query, tables, cells, head, x),
+        _ => Visit {
+            go: Go::Stuck,
+            head: head,
+            mark: 0,
+        },
+    }
+}
+
+// What a word of a row comes to at a head, with so many words of the row from it on.
+pub fn meet(
+    w: u64,
+    room: usize,
+    query: &[u16],
+    tables: &[u8; Clause::TABLES],
+    cells: &mut [u8; Path::CELLS],
+    head: usize,
+) -> Visit
+    requires { ⌜ Ready (now query) (now tables) head (now cells) × (1 ≤ room) × (head < length (now query)) ⌝ }
+    ensures { λ r. ⌜ Visited (meeting (now (query .entry)) w room (stateOf head (now (cells .entry)))) (now (cells .entry)) (now (cells .exit)) r ⌝ }
+{
+    let stuck = Visit {
+        go: Go::Stuck,
+        head: head,
+        mark: 0,
+    };
+    let words = row::extent(w);
+    if words == 0 {
+        return stuck;
+    }
+    if words > room {
+        return stuck;
+    }
+    act(
+        row::operation(w),
+        row::operand(w),
+        words,
+        query,
+        tables,
+        cells,
+        head,
+    )
+}
+
+// What a word of the topmost row comes to, before the first candidate: only a First is sound there.
+pub fn meet_top(
+    w: u64,
+    room: usize,
+    query: &[u16],
+    tables: &[u8; Clause::TABLES],
+    cells: &[u8; Path::CELLS],
+) -> Visit
+    requires { ⌜ Ready (now query) (now tables) 255 (now cells) × (1 ≤ room) ⌝ }
+    ensures { λ r. ⌜ Visited (meeting (now (query .entry)) w room (stateOf 255 (now (cells .entry)))) (now (cells .entry)) (now (cells .entry)) r
+        × ((r .go ≡ Tries) ⊎ (r .go ≡ Stuck)) ⌝ }
+{
+    let stuck = Visit {
+        go: Go::Stuck,
+        head: Path::NONE,
+        mark: 0,
+    };
+    let words = row::extent(w);
+    if words == 0 {
+        return stuck;
+    }
+    if words > room {
+        return stuck;
+    }
+    if row::operation(w) != 1 {
+        return stuck;
+    }
+    tries(cells, Path::NONE)
+}

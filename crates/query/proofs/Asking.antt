@@ -1,0 +1,80 @@
+-- The query by the tests of the code, and its walk from the state before the first candidate.
+use Prim.Native.Nat.{ℕ, _+_, _-_, _≤_, _<_}
+use mathlib.Core.Path.{_≡_, refl, sym, _∙_}
+use mathlib.Core.List.{List, [], _∷_}
+use native.Mathlib.Omega.{arith}
+use lib.ListN.{length, getD, take, drop, set, replicate}
+use borrow.Author.Tests.{le-leb, lt-leb, lt-ltb, le-ltb}
+use Rattle.clause.specs.Clause.{Accepted, shape}
+use Rattle.clause.specs.declared.Fault.{Fault}
+use Rattle.clause.specs.declared.Shape.{Shape}
+use Rattle.clause.specs.declared.Shape.the-variants.{Faulty, Whole}
+use Rattle.machine.specs.Machine.{State, initial, unfilled}
+use Rattle.machine.proofs.Safe.{initial-safe}
+use Rattle.tree.specs.declared.Refusal.{Refusal}
+use Rattle.tree.specs.declared.Refusal.the-variants.{BadSlice, Broken, ShortWitness}
+use Rattle.tree.specs.Laid.{usedOf, region}
+use Rattle.walk.specs.Walk.{Answer, covered, notCovered, spent, broken, upTo}
+use Rattle.walk.specs.Words.{walkWords}
+use Rattle.walk.specs.Query.{machine, unanswered, told, walkSlice, queryAs, query}
+use Rattle.cells.specs.inner.Cells.{placeOf, placed, stateOf, Tables, Ready}
+use Rattle.query.specs.inner.Findings.{seen, toldOut, refusalOf}
+
+-- the cells before the first candidate
+abbrev pub fresh : List ℕ
+fresh = set (replicate 256 255) 136 0
+
+fresh-state : stateOf 255 fresh ≡ initial
+unfolding placeOf placed unfilled
+fresh-state = refl
+
+pub fresh-ready : {d t : List ℕ} → Accepted d → Tables d t → Ready d t 255 fresh
+fresh-ready {d} A T = record { whole = A; tables = T; safe = rw fresh-state (initial-safe d); size = refl; few = omega arith }
+
+-- what is told of an answer is told of what is seen of it
+told-seen : (b : ℕ) (W : List ℕ) (a : Answer State) → toldOut b W (seen a) ≡ told b W a
+unfolding toldOut seen
+told-seen b W (covered n s c) = refl
+told-seen b W (notCovered c) = refl
+told-seen b W spent = refl
+told-seen b W broken = refl
+
+used-part : (T : List ℕ) → 1 ≤ length T → {e : ℕ} → e ≡ usedOf (getD T 0 0) + 1 → take (e - 1) (drop 1 T) ≡ region T
+unfolding region
+used-part [] h e = absurd (omega arith)
+used-part (w ∷ ws) h {e} f = let n : e - 1 ≡ usedOf w = omega arith in rw n
+
+pub searched : (T d : List ℕ) (b : ℕ) (W : List ℕ) → 1 ≤ length T → {e : ℕ} → e ≡ usedOf (getD T 0 0) + 1
+    → toldOut b W (seen (walkWords (machine d) (upTo b) (take (e - 1) (drop 1 T)) (stateOf 255 fresh) 0)) ≡ told b W (walkSlice T d b)
+searched T d b W h f = rw (used-part T h f, fresh-state) (told-seen b W (walkSlice T d b))
+
+-- the tests one after another
+module _ (T d : List ℕ) (b : ℕ) (W : List ℕ) where
+  pub query-short : length T < 2 → unanswered BadSlice W ≡ query T d b W
+  unfolding query
+  query-short h = rw (lt-leb 2 (length T) h)
+
+  module _ (low : 2 ≤ length T) where
+    pub query-long : 65536 < length T → unanswered BadSlice W ≡ query T d b W
+    unfolding query
+    query-long h = rw (le-leb 2 (length T) low, lt-leb (length T) 65536 h)
+
+    module _ (high : length T ≤ 65536) where
+      query-sized : query T d b W ≡ queryAs (shape d) T d b W
+      unfolding query
+      query-sized = rw (le-leb 2 (length T) low, le-leb (length T) 65536 high)
+
+      pub query-fault : {s : Shape} {f : Fault} {r : Refusal} → s ≡ Faulty f → s ≡ shape d → r ≡ refusalOf s → unanswered r W ≡ query T d b W
+      unfolding refusalOf
+      query-fault g h e = rw (query-sized, e, sym h ∙ g, g)
+
+      module _ {n : ℕ} (whole : shape d ≡ Whole n) where
+        pub query-witness : length W < 72 → unanswered ShortWitness W ≡ query T d b W
+        query-witness h = rw (query-sized, whole, lt-ltb (length W) 72 h)
+
+        module _ (room : 72 ≤ length W) where
+          pub query-header : length T - 1 < usedOf (getD T 0 0) → unanswered Broken W ≡ query T d b W
+          query-header h = rw (query-sized, whole, le-ltb (length W) 72 room, lt-ltb (length T - 1) (usedOf (getD T 0 0)) h)
+
+          pub query-walk : usedOf (getD T 0 0) ≤ length T - 1 → told b W (walkSlice T d b) ≡ query T d b W
+          query-walk h = rw (query-sized, whole, le-ltb (length W) 72 room, le-ltb (length T - 1) (usedOf (getD T 0 0)) h)

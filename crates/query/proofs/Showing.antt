@@ -1,0 +1,84 @@
+-- Writing a witness word by word, and laying tables.
+use Prim.Native.Nat.{ℕ, zero, suc, _+_, _-_, _≤_, _<_}
+use mathlib.Core.Path.{_≡_, refl, sym, ap, _∙_}
+use mathlib.Core.Bool.{Bool, true, false, not, cond}
+use mathlib.Core.Option.{Option, none, some, Option·some-injective, Option·none-ne-some}
+use mathlib.Core.List.{List, [], _∷_}
+use native.Mathlib.Omega.{arith}
+use native.Mathlib.Numerals.{add-one}
+use native.Mathlib.Decide.{decLt}
+use lib.Dec.{ltb, eqb}
+use borrow.Author.Tests.{lt-ltb, le-ltb}
+use lib.ListN.{length, getD, take, set, length-take, length-append, length-map}
+use lib.Seq.{getD-take, take-all}
+use Rattle.walk.specs.Query.{shown, written}
+use Rattle.cells.specs.inner.Cells.{placeOf, placed, stateOf}
+use Rattle.walk.proofs.Witnessed.{shown-front, shown-none, shown-position}
+use Rattle.cells.proofs.Places.{placed-get}
+
+-- one more word, where there is nothing to write, and where there is
+pub written-past : (os : List (Option ℕ)) (ws : List ℕ) (i : ℕ) → getD os i none ≡ none → written (take (suc i) os) ws ≡ written (take i os) ws
+written-past [] ws zero e = refl
+written-past [] ws (suc i) e = refl
+written-past (none ∷ os) [] zero e = refl
+written-past (none ∷ os) (w ∷ ws) zero e = refl
+written-past (some x ∷ os) ws zero e = absurd (Option·none-ne-some x (sym e))
+written-past (o ∷ os) [] (suc i) e = refl
+written-past (none ∷ os) (w ∷ ws) (suc i) e = ap (λ (l : List ℕ). w ∷ l) (written-past os ws i e)
+written-past (some x ∷ os) (w ∷ ws) (suc i) e = ap (λ (l : List ℕ). x ∷ l) (written-past os ws i e)
+
+pub written-on : (os : List (Option ℕ)) (ws : List ℕ) (i x : ℕ) → getD os i none ≡ some x → written (take (suc i) os) ws ≡ set (written (take i os) ws) i x
+written-on [] ws i x e = absurd (Option·none-ne-some x e)
+written-on (none ∷ os) ws zero x e = absurd (Option·none-ne-some x e)
+written-on (some y ∷ os) [] zero x e = refl
+written-on (some y ∷ os) (w ∷ ws) zero x e = ap (λ (z : ℕ). z ∷ ws) (Option·some-injective y x e)
+written-on (o ∷ os) [] (suc i) x e = refl
+written-on (none ∷ os) (w ∷ ws) (suc i) x e = ap (λ (l : List ℕ). w ∷ l) (written-on os ws i x e)
+written-on (some y ∷ os) (w ∷ ws) (suc i) x e = ap (λ (l : List ℕ). y ∷ l) (written-on os ws i x e)
+
+-- what the cells show
+module _ (l : List ℕ) (size : length l ≡ 256) (i : ℕ) where
+  chosen-there : i < 8 → i < getD l 136 0 → i < length (take (getD l 136 0) l)
+  chosen-there h g = simp length-take (omega arith)
+
+  pub shows-literal : i < 8 → i < getD l 136 0 → getD (shown (stateOf 255 l)) i none ≡ some (getD l i 0)
+  shows-literal h g = shown-front (stateOf 255 l) i h (chosen-there h g) ∙ ap (λ (x : ℕ). some x) (getD-take (getD l 136 0) l i 0 g)
+
+  pub shows-no-literal : i < 8 → getD l 136 0 ≤ i → getD (shown (stateOf 255 l)) i none ≡ none
+  shows-no-literal h g = shown-none (stateOf 255 l) i (simp length-take (omega arith)) h
+
+  pub shows-position : 8 ≤ i → i < 72 → getD (shown (stateOf 255 l)) i none ≡ placeOf (getD l i 0)
+  shows-position h g =
+      let e : 8 + (i - 8) ≡ i = omega arith in
+      ap (λ (k : ℕ). getD (shown (stateOf 255 l)) k none) (sym e) ∙ shown-position (stateOf 255 l) (i - 8) ∙ placed-get 8 l (i - 8) (omega arith) (omega arith) ∙ rw e
+
+-- the same, by the tests of the code
+module _ (l : List ℕ) (size : length l ≡ 256) (i : ℕ) where
+  pub shows-front : i < 8 → {n : ℕ} → n ≡ getD l 136 0 → getD (shown (stateOf 255 l)) i none ≡ cond (ltb i n) (some (getD l i 0)) none
+  shows-front h {n} e = go (decLt i n)
+    where
+      go : Dec (i < n) → getD (shown (stateOf 255 l)) i none ≡ cond (ltb i n) (some (getD l i 0)) none
+      go (yes g) = shows-literal l size i h (omega arith) ∙ rw (lt-ltb i n g)
+      go (no g) = shows-no-literal l size i h (omega arith) ∙ rw (le-ltb i n (omega arith))
+
+  pub shows-back : 8 ≤ i → i < 72 → getD (shown (stateOf 255 l)) i none ≡ cond (not (eqb (getD l i 0) 255)) (some (getD l i 0)) none
+  unfolding placeOf
+  shows-back h g = shows-position l size i h g ∙ go (eqb (getD l i 0) 255)
+    where
+      go : (b : Bool) → cond b none (some (getD l i 0)) ≡ cond (not b) (some (getD l i 0)) none
+      go true = refl
+      go false = refl
+
+-- all words to show
+pub shown-all : (l : List ℕ) (i : ℕ) → 72 ≤ i → take i (shown (stateOf 255 l)) ≡ shown (stateOf 255 l)
+unfolding shown placed
+shown-all l i h = take-all i (shown (stateOf 255 l)) (simp (length-append, length-take, length-map) (omega arith))
+
+-- one turn of the writing
+pub show-one : (os : List (Option ℕ)) (ws : List ℕ) (i x : ℕ) {b : Bool} → getD os i none ≡ cond b (some x) none → b ≡ true
+    → {w v : List ℕ} {y : ℕ} → w ≡ written (take i os) ws → y ≡ x → v ≡ set w i y → v ≡ written (take (i + 1) os) ws
+show-one os ws i x e f g h k = rw (add-one i, k, g, h) (sym (written-on os ws i x (rw f at e)))
+
+pub show-none : (os : List (Option ℕ)) (ws : List ℕ) (i x : ℕ) {b : Bool} → getD os i none ≡ cond b (some x) none → b ≡ false
+    → {w v : List ℕ} → w ≡ written (take i os) ws → v ≡ w → v ≡ written (take (i + 1) os) ws
+show-none os ws i x e f g k = rw (add-one i, k, g) (sym (written-past os ws i (rw f at e)))

@@ -1,0 +1,56 @@
+-- What the walk's code finds, and what is told of it.
+use mathlib.Core.Path.{_≡_}
+use mathlib.Core.Option.{Option}
+use mathlib.Core.List.{List}
+use Prim.Native.Nat.{ℕ}
+use lib.ListN.{length}
+use Rattle.machine.specs.Machine.{State}
+use Rattle.walk.specs.Walk.{Answer, covered, notCovered, spent, broken}
+use Rattle.walk.specs.Query.{shown, Asked, unanswered, written}
+use Rattle.cells.specs.inner.Cells.{stateOf}
+use Rattle.clause.specs.declared.Shape.{Shape}
+use Rattle.clause.specs.declared.Shape.the-variants.{Faulty, Whole}
+use Rattle.tree.specs.declared.Refusal.{Refusal}
+use Rattle.tree.specs.declared.Refusal.the-variants.{BadClause, Broken as Refused, Spent as SpentAll}
+use Rattle.walk.specs.declared.QueryAnswer.the-variants.{Covered, NotCovered}
+use Rattle.query.specs.declared.End.{End}
+use Rattle.query.specs.declared.End.the-variants.{Missed, Found, Broken, Spent}
+use Rattle.query.specs.declared.Finding.{Finding}
+
+-- a walk's answer, with the witness words in place of the state
+pub data Out : Type 0 where
+  missed : ℕ → Out
+  found : ℕ → List (Option ℕ) → ℕ → Out
+  exhausted damaged : Out
+
+-- what is seen of an answer
+unfoldable pub seen : Answer State → Out
+seen (covered n s c) = found n (shown s) c
+seen (notCovered c) = missed c
+seen spent = exhausted
+seen broken = damaged
+
+-- the same, as a finding and the cells tell it
+unfoldable pub outBy : End → ℕ → List ℕ → Out
+outBy Missed c l = missed c
+outBy (Found n) c l = found n (shown (stateOf 255 l)) c
+outBy Broken c l = damaged
+outBy Spent c l = exhausted
+
+-- a walk ended: what is seen of it, and after a miss the cells are as before
+pub record Walked (a : Answer State) (before after : List ℕ) (r : Finding) : Type 0 where
+  pub comes : outBy (r .end) (r .count) after ≡ seen a
+  pub back : r .end ≡ Missed → after ≡ before
+  pub size : length after ≡ length before
+
+-- what a shape is refused with; a whole clause is not
+unfoldable pub refusalOf : Shape → Refusal
+refusalOf (Faulty f) = BadClause f
+refusalOf (Whole n) = Refused
+
+-- what is asked is told by what is seen of the walk
+unfoldable pub toldOut : (budget : ℕ) (witness : List ℕ) → Out → Asked
+toldOut b W (missed c) = record { answer = NotCovered c; witness = W }
+toldOut b W (found n os c) = record { answer = Covered n c; witness = written os W }
+toldOut b W exhausted = unanswered (SpentAll b) W
+toldOut b W damaged = unanswered Refused W

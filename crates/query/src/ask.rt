@@ -1,0 +1,129 @@
+// The query: what is asked of a tree.
+use crate::End;
+use crate::Finding;
+use crate::below::walk_top;
+use cells::Path;
+use cells::wide;
+use clause::Clause;
+use clause::Shape;
+use tree::Refusal;
+use tree::Tree;
+use walk::QueryAnswer;
+use walk::Witness;
+ghost use mathlib.Core.Path.{_≡_};
+ghost use mathlib.Core.Bool.{cond};
+ghost use mathlib.Core.Option.{none, some};
+ghost use Prim.Native.Nat.{_+_, _-_, _≤_, _<_};
+ghost use lib.ListN.{length, getD};
+ghost use Rattle.clause.specs.Clause.{Accepted};
+ghost use Rattle.tree.specs.Laid.{usedOf};
+ghost use Rattle.cells.specs.inner.Cells.{stateOf};
+ghost use Rattle.query.specs.inner.Findings.{outBy, refusalOf, toldOut};
+ghost use Rattle.walk.specs.Query as q;
+
+// A cell as a witness word.
+fn word(x: u8) -> u16
+    ensures { λ r. ⌜ r ≡ x ⌝ }
+{
+    x as u16
+}
+
+// Whether the cells have a witness word to show at a place.
+fn shows(cells: &[u8; Path::CELLS], i: usize) -> bool
+    requires { ⌜ (length (now cells) ≡ 256) × (i < 72) ⌝ }
+    ensures { λ r. ⌜ getD (q.shown (stateOf 255 (now (cells .entry)))) i none ≡ cond r (some (getD (now (cells .entry)) i 0)) none ⌝ }
+{
+    if i < Clause::LITERALS {
+        i < wide(cells[Path::CHOSEN])
+    } else {
+        cells[i] != 255
+    }
+}
+
+// Writes the candidates and the positions put into the witness, its other words untouched.
+fn show(cells: &[u8; Path::CELLS], witness: &mut [u16])
+    requires { ⌜ (length (now cells) ≡ 256) × (72 ≤ length (now witness)) ⌝ }
+    ensures { λ _. ⌜ now (witness .exit) ≡ q.written (q.shown (stateOf 255 (now (cells .entry)))) (now (witness .entry)) ⌝ }
+{
+    let mut i: usize = 0;
+    while i < Witness::WORDS {
+        if shows(cells, i) {
+            witness[i] = word(cells[i]);
+        }
+        i += 1;
+    }
+}
+
+// What a reading that finds no whole clause is refused with.
+fn refusal(shape: Shape) -> Refusal
+    ensures { λ r. ⌜ r ≡ refusalOf shape ⌝ }
+{
+    match shape {
+        Shape::Faulty(fault) => Refusal::BadClause(fault),
+        Shape::Whole(_) => Refusal::Broken,
+    }
+}
+
+// The answer that a finding comes to; the witness is written where the tree covers the query.
+fn answer(
+    finding: Finding,
+    budget: u64,
+    cells: &[u8; Path::CELLS],
+    witness: &mut [u16],
+) -> QueryAnswer
+    requires { ⌜ (length (now cells) ≡ 256) × (72 ≤ length (now witness)) ⌝ }
+    ensures { λ r. ⌜ record { answer = r; witness = now (witness .exit) }
+        ≡ toldOut budget (now (witness .entry)) (outBy (finding .end) (finding .count) (now (cells .entry))) ⌝ }
+{
+    let end = finding.end;
+    let count = finding.count;
+    match end {
+        End::Missed => QueryAnswer::NotCovered(count),
+        End::Found(number) => {
+            show(cells, witness);
+            QueryAnswer::Covered(number, count)
+        }
+        End::Broken => QueryAnswer::Unanswered(Refusal::Broken),
+        End::Spent => QueryAnswer::Unanswered(Refusal::Spent(budget)),
+    }
+}
+
+// Walks the used words of a slice from the state before the first candidate, and answers.
+fn search(tree: &[u64], words: &[u16], budget: u64, witness: &mut [u16]) -> QueryAnswer
+    requires { ⌜ Accepted (now words) × (1 ≤ length (now tree)) × (usedOf (getD (now tree) 0 0) ≤ length (now tree) - 1) × (72 ≤ length (now witness)) ⌝ }
+    ensures { λ r. ⌜ record { answer = r; witness = now (witness .exit) }
+        ≡ q.told budget (now (witness .entry)) (q.walkSlice (now (tree .entry)) (now (words .entry)) budget) ⌝ }
+{
+    let clause = Clause::of(words);
+    let tables = clause.tables;
+    let mut cells = [255u8; Path::CELLS];
+    cells[Path::CHOSEN] = 0;
+    let used = (tree[0] / 4294967296) as usize;
+    let end = used + 1;
+    let finding = walk_top(&tree[1..end], words, &tables, &mut cells, budget);
+    answer(finding, budget, &cells, witness)
+}
+
+// Whether a kept clause covers the words: the clause's number and the count, with the witness, or the count, or a refusal.
+pub fn query(tree: &[u64], words: &[u16], budget: u64, witness: &mut [u16]) -> QueryAnswer
+    ensures { λ r. ⌜ record { answer = r; witness = now (witness .exit) }
+        ≡ q.query (now (tree .entry)) (now (words .entry)) budget (now (witness .entry)) ⌝ }
+{
+    if tree.len() < Tree::LEAST {
+        return QueryAnswer::Unanswered(Refusal::BadSlice);
+    }
+    if tree.len() > Tree::WORDS {
+        return QueryAnswer::Unanswered(Refusal::BadSlice);
+    }
+    let shape = clause::read(words);
+    let Shape::Whole(_) = shape else {
+        return QueryAnswer::Unanswered(refusal(shape));
+    };
+    if witness.len() < Witness::WORDS {
+        return QueryAnswer::Unanswered(Refusal::ShortWitness);
+    }
+    if (tree[0] / 4294967296) as usize > tree.len() - 1 {
+        return QueryAnswer::Unanswered(Refusal::Broken);
+    }
+    search(tree, words, budget, witness)
+}

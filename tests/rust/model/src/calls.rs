@@ -1,0 +1,93 @@
+//! The five calls on lent words, with their refusals in document 01's order.
+use crate::compiler::sequence;
+use crate::instruction::used;
+use crate::laid::well_laid;
+use crate::limits::{KEPT, LITERALS, TREE_LEAST, TREE_MOST, WITNESS_WORDS};
+use crate::reader::read;
+use crate::refusal::Refusal;
+use crate::tree::Tree;
+use crate::walk::walk;
+
+/// The answer to an accepted query.
+#[derive(Clone, Copy, Debug, PartialEq, Eq)]
+pub enum Cover {
+    Covered { number: u32, count: u64 },
+    NotCovered { count: u64 },
+}
+
+impl Cover {
+    pub fn count(self) -> u64 {
+        match self {
+            Cover::Covered { count, .. } | Cover::NotCovered { count } => count,
+        }
+    }
+}
+
+fn refuse_if(refused: bool, refusal: Refusal) -> Result<(), Refusal> {
+    match refused {
+        true => Err(refusal),
+        false => Ok(()),
+    }
+}
+
+fn length(tree: &[u64]) -> Result<(), Refusal> {
+    let lengths = TREE_LEAST..=TREE_MOST;
+    refuse_if(!lengths.contains(&tree.len()), Refusal::BadSlice)
+}
+
+/// Writes all zeros.
+pub fn fresh(tree: &mut [u64]) -> Result<(), Refusal> {
+    length(tree)?;
+    tree.fill(0);
+    Ok(())
+}
+
+/// Keeps a clause under a number.
+pub fn insert(tree: &mut [u64], clause: &[u16], number: u32) -> Result<(), Refusal> {
+    length(tree)?;
+    let literals = read(clause)?;
+    refuse_if(!well_laid(tree), Refusal::Broken)?;
+    let mut kept = Tree::of(tree);
+    kept.insert(&sequence(&literals), number)?;
+    tree.copy_from_slice(&kept.words());
+    Ok(())
+}
+
+/// Takes out the clause with a number.
+pub fn remove(tree: &mut [u64], number: u32) -> Result<(), Refusal> {
+    length(tree)?;
+    refuse_if(!well_laid(tree), Refusal::Broken)?;
+    let mut kept = Tree::of(tree);
+    kept.remove(number)?;
+    tree.copy_from_slice(&kept.words());
+    Ok(())
+}
+
+/// Asks whether a kept clause subsumes a clause.
+pub fn query(
+    tree: &[u64],
+    clause: &[u16],
+    budget: u64,
+    witness: &mut [u16],
+) -> Result<Cover, Refusal> {
+    length(tree)?;
+    let literals = read(clause)?;
+    refuse_if(witness.len() < WITNESS_WORDS, Refusal::ShortWitness)?;
+    refuse_if(used(tree[0]) > tree.len() - 1, Refusal::Broken)?;
+    let found = walk(tree, clause, &literals, budget)?;
+    let count = found.count;
+    let Some(covering) = found.covering else {
+        return Ok(Cover::NotCovered { count });
+    };
+    covering.state.write(witness);
+    let number = covering.number;
+    Ok(Cover::Covered { number, count })
+}
+
+/// The most candidates of a walk: kept × (q + q² + .. + q^m).
+pub fn ceiling(kept: u64, q: u64, m: u64) -> Result<u64, Refusal> {
+    let literals = 1..=LITERALS as u64;
+    let sizes = kept <= KEPT as u64 && literals.contains(&q) && literals.contains(&m);
+    refuse_if(!sizes, Refusal::BadSize)?;
+    Ok((1..=m as u32).map(|i| kept * q.pow(i)).sum())
+}

@@ -1,0 +1,19 @@
+//! Document 01 in plain Rust, written from its words and with nothing of the proved code.
+//! The tests hold the proved calls and the program against it, and it makes the expected lines of tests/pages and crates/cases.
+//! A change of document 01 is made here first.
+
+pub mod book;
+pub mod calls;
+pub mod cases;
+pub mod compiler;
+pub mod instruction;
+pub mod laid;
+pub mod limits;
+pub mod matcher;
+pub mod pages;
+pub mod program;
+pub mod reader;
+pub mod refusal;
+pub mod tree;
+pub mod walk;
+pub mod words;

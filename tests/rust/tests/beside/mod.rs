@@ -1,0 +1,112 @@
+//! Each call is put to the library and to the model; answer, told words and every lent word have to be the same.
+#![allow(dead_code)]
+use code_tree::raw;
+use model::calls::{self, Cover};
+use model::refusal::Refusal;
+
+const UNTOLD: u64 = 0xDEAD;
+
+/// What a witness word holds before a query.
+pub const UNWRITTEN: u16 = 0xBEEF;
+
+// The number returned and the told words of an answer with its values.
+fn told(answer: Result<Vec<u64>, Refusal>) -> (u64, [u64; 4]) {
+    let (code, values) = match answer {
+        Ok(values) => (0, values),
+        Err(refusal) => (refusal.code(), refusal.values()),
+    };
+    let mut told = [UNTOLD; 4];
+    told[..values.len()].copy_from_slice(&values);
+    (code, told)
+}
+
+/// Makes a tree empty.
+pub fn fresh(tree: &mut [u64]) -> Result<(), Refusal> {
+    let mut after = tree.to_vec();
+    let answer = calls::fresh(&mut after);
+    let code = raw::fresh(tree);
+    assert_eq!(code, told(answer.map(|()| vec![])).0);
+    assert!(tree == after, "fresh of {} words", tree.len());
+    answer
+}
+
+/// Inserts, where the answer and the words afterwards have to be these.
+pub fn expect_insert(
+    tree: &mut [u64],
+    clause: &[u16],
+    number: u32,
+    answer: Result<(), Refusal>,
+    after: &[u64],
+) {
+    let mut words = [UNTOLD; 4];
+    let code = raw::insert(tree, clause, number, &mut words);
+    let expected = told(answer.map(|()| vec![]));
+    assert_eq!((code, words), expected, "insert {clause:04x?} as {number}");
+    assert!(tree == after, "words after insert {clause:04x?}");
+}
+
+/// Inserts.
+pub fn insert(tree: &mut [u64], clause: &[u16], number: u32) -> Result<(), Refusal> {
+    let mut after = tree.to_vec();
+    let answer = calls::insert(&mut after, clause, number);
+    expect_insert(tree, clause, number, answer, &after);
+    answer
+}
+
+/// Removes, where the answer and the words afterwards have to be these.
+pub fn expect_remove(tree: &mut [u64], number: u32, answer: Result<(), Refusal>, after: &[u64]) {
+    let code = raw::remove(tree, number);
+    assert_eq!(code, told(answer.map(|()| vec![])).0, "remove {number}");
+    assert!(tree == after, "words after remove {number}");
+}
+
+/// Removes.
+pub fn remove(tree: &mut [u64], number: u32) -> Result<(), Refusal> {
+    let mut after = tree.to_vec();
+    let answer = calls::remove(&mut after, number);
+    expect_remove(tree, number, answer, &after);
+    answer
+}
+
+/// A query's answer and the witness afterwards.
+#[derive(Debug, PartialEq)]
+pub struct Asked {
+    pub answer: Result<Cover, Refusal>,
+    pub witness: Vec<u16>,
+}
+
+impl Asked {
+    /// Whether the witness is as before the query.
+    pub fn unwritten(&self) -> bool {
+        self.witness.iter().all(|&word| word == UNWRITTEN)
+    }
+}
+
+/// Asks with a witness of so many words.
+pub fn query(tree: &[u64], clause: &[u16], budget: u64, witness_words: usize) -> Asked {
+    let mut witness = vec![UNWRITTEN; witness_words];
+    let answer = calls::query(tree, clause, budget, &mut witness);
+    let mut written = vec![UNWRITTEN; witness_words];
+    let mut words = [UNTOLD; 4];
+    let code = raw::query(tree, clause, budget, &mut written, &mut words);
+    let expected = told(answer.map(values));
+    assert_eq!((code, words), expected, "query {clause:04x?} for {budget}");
+    assert_eq!(written, witness, "witness of {clause:04x?} for {budget}");
+    Asked { answer, witness }
+}
+
+fn values(cover: Cover) -> Vec<u64> {
+    match cover {
+        Cover::Covered { number, count } => vec![1, number as u64, count],
+        Cover::NotCovered { count } => vec![0, 0, count],
+    }
+}
+
+/// The ceiling.
+pub fn ceiling(kept: u64, q: u64, m: u64) -> Result<u64, Refusal> {
+    let answer = calls::ceiling(kept, q, m);
+    let mut words = [UNTOLD; 4];
+    let code = raw::ceiling(kept, q, m, &mut words);
+    assert_eq!((code, words), told(answer.map(|ceiling| vec![ceiling])));
+    answer
+}

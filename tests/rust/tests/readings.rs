@@ -1,0 +1,314 @@
+//! The points that are easy to read otherwise (docs/DECISIONS.md), each on a small input: library and model have to answer as decided.
+mod beside;
+
+use beside::Asked;
+use model::calls::Cover;
+use model::instruction::{header, Instruction, Operation};
+use model::limits::WITNESS_WORDS;
+use model::refusal::Refusal;
+
+// The words of a clause in the notation P2 f x y.
+fn clause(text: &str) -> Vec<u16> {
+    text.split_whitespace().map(symbol).collect()
+}
+
+fn symbol(name: &str) -> u16 {
+    match name {
+        "P0" => 0x8001,
+        "P1" => 0x8801,
+        "P2" => 0x9001,
+        "P4" => 0xA001,
+        "Q0" => 0x8002,
+        "Q1" => 0x8802,
+        "a" => 0x0001,
+        "b" => 0x0002,
+        "f" => 0x0803,
+        "x" => 0x4000,
+        "y" => 0x4001,
+        hexadecimal => u16::from_str_radix(hexadecimal, 16).expect("a word"),
+    }
+}
+
+const NAMES: [(&str, Operation); 9] = [
+    ("Success", Operation::Success),
+    ("First", Operation::First),
+    ("Down", Operation::Down),
+    ("Right", Operation::Right),
+    ("Put", Operation::Put),
+    ("Push", Operation::Push),
+    ("Pop", Operation::Pop),
+    ("Check", Operation::Check),
+    ("Compare", Operation::Compare),
+];
+
+// A tree word in the notation `Check P0/2`; Compare's operand is m.k.
+fn tree_word(text: &str) -> u64 {
+    let (name, rest) = text.trim().split_once(' ').expect("an operation");
+    let (operand, extent) = rest.split_once('/').expect("an extent");
+    let operation = NAMES
+        .iter()
+        .find(|known| known.0 == name)
+        .expect("a name")
+        .1;
+    let operand = match (operation, operand.split_once('.')) {
+        (_, Some((m, k))) => m.parse::<u32>().unwrap() << 16 | k.parse::<u32>().unwrap(),
+        (Operation::Check, None) if operand == "18001" => 0x18001,
+        (Operation::Check, None) => symbol(operand) as u32,
+        _ => operand.parse().unwrap(),
+    };
+    Instruction::new(operation, operand).pack(extent.parse().unwrap())
+}
+
+// A tree with a true header.
+fn tree(text: &str) -> Vec<u64> {
+    let mut words = vec![0];
+    words.extend(text.split(',').map(tree_word));
+    let kept = words[1..].iter().filter(|word| **word >> 60 == 0).count();
+    words[0] = header(words.len() - 1, kept);
+    words
+}
+
+fn said_refusal(refusal: Refusal) -> String {
+    let values = refusal
+        .values()
+        .into_iter()
+        .map(|value| format!(" {value}"));
+    format!("refused {}{}", refusal.code(), values.collect::<String>())
+}
+
+fn said(asked: &Asked) -> String {
+    match asked.answer {
+        Ok(Cover::Covered { number, count }) => format!("covered {number} {count}"),
+        Ok(Cover::NotCovered { count }) => format!("not covered {count}"),
+        Err(refusal) => said_refusal(refusal),
+    }
+}
+
+fn ask(tree: &[u64], query: &str, budget: u64) -> String {
+    said(&beside::query(tree, &clause(query), budget, WITNESS_WORDS))
+}
+
+fn inserted(tree: &mut [u64], text: &str, number: u32) -> String {
+    let answer = beside::insert(tree, &clause(text), number);
+    answer.map_or_else(said_refusal, |()| "kept".to_string())
+}
+
+#[test]
+fn reading() {
+    let eight = "P0 P0 P0 P0 P0 P0 P0 P0";
+    let rows = [
+        ("P1", "refused 4 1"),
+        ("P1 f", "refused 4 2"),
+        ("P1 P1 a", "refused 4 1"),
+        ("P1 4800", "refused 4 1"),
+        (&format!("{eight} P1"), "refused 5 8"),
+        (&format!("{eight} P0 x"), "refused 5 8"),
+        ("P0 P0 P0 P0 P0 P0 P0 P1 P0", "refused 4 8"),
+        (&format!("{eight} a"), "refused 4 8"),
+        (&"x ".repeat(65), "refused 3"),
+        ("", "refused 3"),
+        (&"P0 ".repeat(64), "refused 5 8"),
+    ];
+    for (text, answer) in rows {
+        assert_eq!(inserted(&mut [0; 90], text, 1), answer, "{text}");
+        assert_eq!(ask(&[0; 90], text, 9), answer, "{text}");
+    }
+}
+
+// The instructions of the tree of one clause.
+fn compiled(text: &str) -> String {
+    let mut words = [0; 40];
+    assert_eq!(inserted(&mut words, text, 7), "kept");
+    let used = (words[0] >> 32) as usize;
+    let names = words[1..=used].iter().map(|&word| {
+        let (instruction, _) = Instruction::unpack(word).expect("an instruction");
+        let name = NAMES[instruction.operation as usize].0;
+        let operand = instruction.operand;
+        match instruction.operation {
+            Operation::First | Operation::Down | Operation::Right => name.to_string(),
+            Operation::Check => format!("{name} {operand:04X}"),
+            Operation::Compare => format!("{name} {}.{}", operand >> 16, operand & 0xFFFF),
+            _ => format!("{name} {operand}"),
+        }
+    });
+    names.collect::<Vec<_>>().join(", ")
+}
+
+#[test]
+fn compiling() {
+    let nested = "First, Check 9001, Down, Check 0803, Push 0, Down, Put 0, Pop 0, Put 1";
+    assert_eq!(compiled("P2 f x y"), format!("{nested}, Success 7"));
+    let again = nested.replace("Push 0", "Push 1").replace("Pop 0", "Pop 1");
+    let again = again.replace("Put 1", "Put 3").replace("Put 0", "Put 2");
+    let compares = "Compare 0.2, Compare 1.3";
+    assert_eq!(
+        compiled("P2 f x y P2 f x y"),
+        format!("{nested}, {again}, {compares}, Success 7")
+    );
+    assert_eq!(
+        compiled("P1 x P2 x x"),
+        "First, Check 8801, Down, Put 0, First, Check 9001, Down, Put 1, Right, Put 2, Compare 0.1, Compare 0.2, Success 7"
+    );
+    assert_eq!(
+        compiled("P4 x y y x"),
+        "First, Check A001, Down, Put 0, Right, Put 1, Right, Put 2, Right, Put 3, Compare 0.3, Compare 1.2, Success 7"
+    );
+}
+
+#[test]
+fn well_laid() {
+    // T-1, T-2, T-3
+    let mut two = tree("First 0/3, Success 1/1, Success 2/1");
+    assert_eq!(beside::remove(&mut two, 1), Err(Refusal::Broken));
+    let mut bare = tree("Success 5/1");
+    bare.resize(5, 0);
+    assert_eq!(ask(&bare, "P0", 9), "refused 2");
+    assert_eq!(inserted(&mut bare, "P0", 1), "kept");
+    assert_eq!(
+        bare,
+        tree("Success 5/1, First 0/3, Check P0/2, Success 1/1")
+    );
+    assert_eq!(ask(&bare, "P0", 9), "refused 2");
+    let mut leaf = tree("First 0/1");
+    assert_eq!(inserted(&mut leaf, "P0", 1), "refused 2");
+    assert_eq!(ask(&leaf, "P0", 9), "not covered 1");
+    assert_eq!(ask(&leaf, "P0", 0), "refused 12 0");
+    // T-4, T-5, T-6
+    let mut operand = tree("First 7/2, Success 1/1");
+    assert_eq!(ask(&operand, "P0", 9), "covered 1 1");
+    assert_eq!(inserted(&mut operand, "P0", 2), "refused 2");
+    let mut nine = tree("First 0/2, Success 1/1");
+    nine[0] = header(2, 9);
+    assert_eq!(ask(&nine, "P0", 9), "covered 1 1");
+    assert_eq!(inserted(&mut nine, "P0", 2), "refused 2");
+    let mut trailing = [0, 0, 1];
+    assert_eq!(ask(&trailing, "P0", 9), "not covered 0");
+    assert_eq!(inserted(&mut trailing, "P0", 2), "refused 2");
+    assert_eq!(inserted(&mut trailing, "x", 2), "refused 4 0");
+    // where a number stands twice, the first is meant
+    let mut twice = tree("First 0/5, Check P0/2, Success 1/1, Check Q0/2, Success 1/1");
+    assert_eq!(beside::remove(&mut twice, 1), Ok(()));
+    assert_eq!(twice[..4], tree("First 0/3, Check Q0/2, Success 1/1"));
+}
+
+// Nine Firsts, one below the other.
+const NINTH: &str = "First 0/10, First 0/9, First 0/8, First 0/7, First 0/6, First 0/5, First 0/4, First 0/3, First 0/2, Success 1/1";
+
+// A tree, a query, a budget and the answer.
+type Row = (&'static str, &'static str, u64, &'static str);
+
+const WALKS: [Row; 19] = [
+    (NINTH, "P0", 8, "refused 2"),
+    (NINTH, "P0", 7, "refused 12 7"),
+    (
+        "First 0/4, Check Q0/1, Check P0/3, Success 1/1",
+        "P0",
+        9,
+        "refused 2",
+    ),
+    ("First 0/2, Check Q0/9", "P0", 9, "refused 2"),
+    ("First 0/3, Success 1/1, Check P0/0", "P0", 9, "covered 1 1"),
+    ("First 0/3, Check Q0/2, Put 99/1", "P0", 9, "not covered 1"),
+    ("First 0/3, Right 0/2, Success 1/1", "P0 P0", 9, "refused 2"),
+    (
+        "First 0/5, Check P1/4, Down 0/3, Push 0/2, Success 1/1",
+        "P1 a",
+        9,
+        "refused 2",
+    ),
+    (
+        "First 0/8, Check P2/7, Down 0/6, Push 0/5, Pop 0/4, Check b/3, Pop 0/2, Success 1/1",
+        "P2 a b",
+        9,
+        "covered 1 1",
+    ),
+    (
+        "First 0/6, Put 0/2, Check b/1, Put 1/3, Compare 0.1/2, Success 1/1",
+        "P0",
+        9,
+        "refused 2",
+    ),
+    (
+        "First 0/5, Check P1/4, Down 0/3, Check x/2, Success 1/1",
+        "P1 x",
+        9,
+        "covered 1 1",
+    ),
+    (
+        "First 0/3, Check 18001/2, Success 1/1",
+        "P0",
+        9,
+        "not covered 1",
+    ),
+    (
+        "First 0/4, Put 0/3, Compare 0.0/2, Success 1/1",
+        "P0",
+        9,
+        "covered 1 1",
+    ),
+    (
+        "First 0/6, Put 0/5, First 0/4, Put 1/3, Compare 0.1/2, Success 1/1",
+        "P0 Q0",
+        9,
+        "covered 1 2",
+    ),
+    ("First 0/3, First 0/2, Success 1/1", "P0", 9, "covered 1 2"),
+    ("Put 0/2, Success 1/1", "P0", 9, "refused 2"),
+    ("First 0/3, Put 64/2, Success 1/1", "P0", 9, "refused 2"),
+    ("First 0/3, Down 0/2, Success 1/1", "P0", 9, "refused 2"),
+    ("First 0/2, Success 1/2", "P0", 9, "refused 2"),
+];
+
+#[test]
+fn walking() {
+    for (text, query, budget, answer) in WALKS {
+        assert_eq!(ask(&tree(text), query, budget), answer, "{text}");
+    }
+}
+
+#[test]
+fn witnesses() {
+    // W-10: the later of two Puts of one number counts
+    let twice = tree("First 0/6, Put 0/5, Check P1/4, Down 0/3, Put 0/2, Success 1/1");
+    let asked = beside::query(&twice, &clause("P1 a"), 9, WITNESS_WORDS);
+    assert_eq!((asked.witness[0], asked.witness[8]), (0, 1));
+    // K-6, K-7
+    let asked = beside::query(&twice, &clause("P1 a"), 9, 80);
+    assert_eq!(said(&asked), "covered 1 1");
+    assert_eq!(
+        said(&beside::query(&[9 << 32, 0], &clause("P0"), 9, 0)),
+        "refused 6"
+    );
+    assert_eq!(
+        said(&beside::query(&[9 << 32, 0], &clause("P0"), 9, 72)),
+        "refused 2"
+    );
+}
+
+#[test]
+fn order_of_refusals() {
+    let mut words = [0; 12];
+    assert_eq!(inserted(&mut words, "P0", 1), "kept");
+    assert_eq!(inserted(&mut words, "P0", 1), "refused 7");
+    assert_eq!(inserted(&mut words, "P0", 2), "refused 8 1");
+    assert_eq!(beside::ceiling(0, 1, 1), Ok(0));
+    // a slice of two words has room for none
+    assert_eq!(inserted(&mut [0; 2], "P1 x", 1), "refused 11");
+}
+
+// A chain of a First and Puts down to a last word: the deepest tree of all.
+#[test]
+fn deepest_tree() {
+    let calls = || {
+        let levels = 65_535;
+        let mut words = vec![header(levels, 1)];
+        words.push(Instruction::new(Operation::First, 0).pack(levels));
+        let put = |extent| Instruction::new(Operation::Put, extent as u32 % 64).pack(extent);
+        words.extend((2..levels).rev().map(put));
+        words.push(Instruction::new(Operation::Success, 5).pack(1));
+        assert_eq!(ask(&words, "P1 a", 1), "covered 5 1");
+        assert_eq!(ask(&words, "P1 a", 0), "refused 12 0");
+    };
+    let thread = std::thread::Builder::new().stack_size(512 << 20);
+    thread.spawn(calls).unwrap().join().unwrap();
+}
