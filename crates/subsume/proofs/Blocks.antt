@@ -63,8 +63,8 @@ running-more {s} {s′} {m} {m′} block r h l e d w =
     }
 
 -- the last line
-pub last-line : {s : Session} {m : Store} (o : List ℕ) {r : ℕ} {p : List ℕ} → Stands s m → r ≤ longestLast → longestLast ≤ length o
-    → _≡_ {A = Written} (record { next = r; output = p }) (written (totalsLine (s .totals)) o 0) → LastLine m p r
-last-line {s} o h l k e =
+pub last-line : {s : Session} {m : Store} (o : List ℕ) {r : ℕ} {p : List ℕ} → Stands s m
+    → _≡_ {A = Written} (record { next = r; output = p }) (written (totalsLine (s .totals)) o 0) → r ≤ longestLast → longestLast ≤ length o → LastLine m p r
+last-line {s} o h e l k =
     let n : length (totalsLine (s .totals)) ≤ length o = omega (arith, ap (λ (w : Written). w .next) e) in
     record { bytes = h .bytes; lent = h .lent; line = text-there (totalsLine (s .totals)) o n e ∙ ap (λ (x : Session). totalsLine (x .totals)) (h .read) }

@@ -40,7 +40,7 @@ same-length-5 c = search needs
 returns : tie.Need-returns
 returns c =
     let p = c .before .before .before .before .put-totals .ensures in
-    last-line _ (c .before .before .before .before .before .before .before .before .before .before .before .before .before .before .before .before .before .before .feed-all .ensures) (p .1) (omega (arith, c .before .before .before .before .before .before .before .before .before .output .given, c .before .before .before .before .before .before .before .before .before .before .before .before .before .before .before .before .before .before .before .before .before .before .before .before .before .before .before .before .before .pre .0 .room)) (p .0)
+    last-line _ (c .before .before .before .before .before .before .before .before .before .before .before .before .before .before .before .before .before .before .feed-all .ensures) (p .0) (p .1) (omega (arith, c .before .before .before .before .before .before .before .before .before .output .given, c .before .before .before .before .before .before .before .before .before .before .before .before .before .before .before .before .before .before .before .before .before .before .before .before .before .before .before .before .before .pre .0 .room))
 
 pub run-spec : {M : Type 1} → statement M
 run-spec =
