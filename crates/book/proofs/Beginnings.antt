@@ -12,7 +12,7 @@ use Rattle.machine.specs.Instr.{Instr, Success, key, instrOf}
 use Rattle.machine.specs.Compile.{sequence, compile}
 use Rattle.tree.specs.Entries.{Pair, Sound, entry}
 use Rattle.tree.specs.Beginnings.{begins, beginnings, among, different}
-use Rattle.book.specs.Laws.{Begins, AllBeginnings}
+use Rattle.book.specs.Laws.{IsBeginning, AllBeginnings}
 use Rattle.clause.proofs.Tests.{or-cases, T-true}
 use Rattle.clause.proofs.Lists.{alike-refl, alike-same, all-append, all-first, all-mem}
 use Rattle.clause.proofs.Literals.{accepted}
@@ -59,7 +59,7 @@ map-mem : (i : Instr) (ls : List (List Instr)) {b : List Instr} → List·Memᴰ
 map-mem i (l ∷ ls) (List·Memᴰ·head e) = (l, List·Memᴰ·head refl, e)
 map-mem i (l ∷ ls) (List·Memᴰ·tail m) = let (c, n, e) = map-mem i ls m in (c, List·Memᴰ·tail n, e)
 
-starts-begins : (is : List Instr) {b : List Instr} → List·Memᴰ b (starts is) → Begins b is
+starts-begins : (is : List Instr) {b : List Instr} → List·Memᴰ b (starts is) → IsBeginning b is
 unfolding starts
 starts-begins (i ∷ is) (List·Memᴰ·head e) = ((λ f. cons≢nil (sym e ∙ f)), is, ap (_++ is) e)
 starts-begins (i ∷ is) (List·Memᴰ·tail m) =
@@ -67,7 +67,7 @@ starts-begins (i ∷ is) (List·Memᴰ·tail m) =
     let (h, r, f) = starts-begins is n in
     ((λ g. cons≢nil (sym e ∙ g)), r, ap (_++ r) e ∙ ap (i ∷_) f)
 
-begins-starts : (is b : List Instr) → Begins b is → List·Memᴰ b (starts is)
+begins-starts : (is b : List Instr) → IsBeginning b is → List·Memᴰ b (starts is)
 unfolding starts
 begins-starts is [] B = absurd (B .0 refl)
 begins-starts [] (j ∷ b) B = absurd (cons≢nil (B .2))
@@ -77,17 +77,17 @@ begins-starts (i ∷ is) (j ∷ k ∷ b) B =
     rw e (List·Memᴰ·tail (mem-map (begins-starts is (k ∷ b) (cons≢nil, B .1, tail-eq-of-cons-eq (B .2)))))
 
 -- those of a whole book
-all-begins : (K : List Pair) (b : List Instr) → List·Memᴰ b (allStarts K) → (p : Pair) × List·Memᴰ p K × Begins b (compile (p .clause) (p .number))
+all-begins : (K : List Pair) (b : List Instr) → List·Memᴰ b (allStarts K) → (p : Pair) × List·Memᴰ p K × IsBeginning b (compile (p .clause) (p .number))
 unfolding allStarts
 all-begins (p ∷ K) b m = go (List·Memᴰ·append-cases (starts (compile (p .clause) (p .number))) m) (all-begins K b)
   where
     go : List·Memᴰ b (starts (compile (p .clause) (p .number))) ⊎ List·Memᴰ b (allStarts K)
-        → (List·Memᴰ b (allStarts K) → (q : Pair) × List·Memᴰ q K × Begins b (compile (q .clause) (q .number)))
-        → (q : Pair) × List·Memᴰ q (p ∷ K) × Begins b (compile (q .clause) (q .number))
+        → (List·Memᴰ b (allStarts K) → (q : Pair) × List·Memᴰ q K × IsBeginning b (compile (q .clause) (q .number)))
+        → (q : Pair) × List·Memᴰ q (p ∷ K) × IsBeginning b (compile (q .clause) (q .number))
     go (inl n) ih = (p, List·Memᴰ·head refl, starts-begins (compile (p .clause) (p .number)) n)
     go (inr n) ih = let (q, k, B) = ih n in (q, List·Memᴰ·tail k, B)
 
-begins-all : {K : List Pair} {p : Pair} {b : List Instr} → List·Memᴰ p K → Begins b (compile (p .clause) (p .number)) → List·Memᴰ b (allStarts K)
+begins-all : {K : List Pair} {p : Pair} {b : List Instr} → List·Memᴰ p K → IsBeginning b (compile (p .clause) (p .number)) → List·Memᴰ b (allStarts K)
 unfolding allStarts
 begins-all {p = p} {b = b} (List·Memᴰ·head {x = q} e) B =
     let m : List·Memᴰ b (starts (compile (q .clause) (q .number))) = rw (← e) (begins-starts (compile (p .clause) (p .number)) b B) in

@@ -19,13 +19,13 @@ use Rattle.walk.specs.declared.QueryAnswer.{QueryAnswer}
 use Rattle.tree.specs.declared.CallAnswer.{CallAnswer}
 
 -- a beginning of a sequence, of one instruction or more
-abbrev pub Begins : (beginning sequence : List Instr) → Type 0
-Begins b is = (b ≢ []) × (rest : List Instr) × (b ++ rest ≡ is)
+abbrev pub IsBeginning : (beginning sequence : List Instr) → Type 0
+IsBeginning b is = (b ≢ []) × (rest : List Instr) × (b ++ rest ≡ is)
 
 -- the different beginnings that the sequences of a book's clauses have, each Success with its clause's number
 pub record AllBeginnings (K : List Pair) (bs : List (List Instr)) : Type 0 where
   pub differ : Each (λ a b. a ≢ b) bs
-  pub exactly : (b : List Instr) → List·Memᴰ b bs ↔ ((p : Pair) × List·Memᴰ p K × Begins b (compile (p .clause) (p .number)))
+  pub exactly : (b : List Instr) → List·Memᴰ b bs ↔ ((p : Pair) × List·Memᴰ p K × IsBeginning b (compile (p .clause) (p .number)))
 
 -- the claim
 pub record BookLaws : Type 0 where

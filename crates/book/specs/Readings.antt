@@ -39,8 +39,8 @@ abbrev pub at : (op operand extent : ℕ) → ℕ
 at op operand extent = word (instr op operand) extent
 
 -- the answer to a query with a witness of 72 words
-abbrev pub answered : (words clause : List ℕ) (budget : ℕ) → QueryAnswer
-answered ws d budget = query (sliceWith 1 ws) d budget (replicate 72 9) .answer
+abbrev pub answerOn : (words clause : List ℕ) (budget : ℕ) → QueryAnswer
+answerOn ws d budget = query (sliceWith 1 ws) d budget (replicate 72 9) .answer
 
 -- a fresh slice
 abbrev pub blank : ℕ → List ℕ
@@ -71,28 +71,28 @@ compiling =
 abbrev pub walking : List (Type 0)
 walking =
     -- a ninth First with the budget used up; an extent past its parent's, on a word that fails too; faults that are not met
-    (answered (at 1 0 10 ∷ at 1 0 9 ∷ at 1 0 8 ∷ at 1 0 7 ∷ at 1 0 6 ∷ at 1 0 5 ∷ at 1 0 4 ∷ at 1 0 3 ∷ at 1 0 2 ∷ at 0 1 1 ∷ []) (P₀ ∷ []) 8 ≡ Unanswered Broken)
-    ∷ (answered (at 1 0 4 ∷ at 7 Q₀ 1 ∷ at 7 P₀ 3 ∷ at 0 1 1 ∷ []) (P₀ ∷ []) 9 ≡ Unanswered Broken)
-    ∷ (answered (at 1 0 2 ∷ at 7 Q₀ 9 ∷ []) (P₀ ∷ []) 9 ≡ Unanswered Broken)
-    ∷ (answered (at 1 0 3 ∷ at 0 1 1 ∷ at 7 P₀ 0 ∷ []) (P₀ ∷ []) 9 ≡ Covered 1 1)
-    ∷ (answered (at 1 0 3 ∷ at 7 Q₀ 2 ∷ at 4 99 1 ∷ []) (P₀ ∷ []) 9 ≡ NotCovered 1)
+    (answerOn (at 1 0 10 ∷ at 1 0 9 ∷ at 1 0 8 ∷ at 1 0 7 ∷ at 1 0 6 ∷ at 1 0 5 ∷ at 1 0 4 ∷ at 1 0 3 ∷ at 1 0 2 ∷ at 0 1 1 ∷ []) (P₀ ∷ []) 8 ≡ Unanswered Broken)
+    ∷ (answerOn (at 1 0 4 ∷ at 7 Q₀ 1 ∷ at 7 P₀ 3 ∷ at 0 1 1 ∷ []) (P₀ ∷ []) 9 ≡ Unanswered Broken)
+    ∷ (answerOn (at 1 0 2 ∷ at 7 Q₀ 9 ∷ []) (P₀ ∷ []) 9 ≡ Unanswered Broken)
+    ∷ (answerOn (at 1 0 3 ∷ at 0 1 1 ∷ at 7 P₀ 0 ∷ []) (P₀ ∷ []) 9 ≡ Covered 1 1)
+    ∷ (answerOn (at 1 0 3 ∷ at 7 Q₀ 2 ∷ at 4 99 1 ∷ []) (P₀ ∷ []) 9 ≡ NotCovered 1)
     -- First with nothing below it; an operand of First; an operation over 8; a Success at the top
-    ∷ (answered (at 1 0 1 ∷ []) (P₀ ∷ []) 9 ≡ NotCovered 1) ∷ (answered (at 1 0 1 ∷ []) (P₀ ∷ []) 0 ≡ Unanswered (Spent 0))
-    ∷ (answered (at 1 7 2 ∷ at 0 1 1 ∷ []) (P₀ ∷ []) 9 ≡ Covered 1 1) ∷ (answered (at 1 0 2 ∷ at 9 0 1 ∷ []) (P₀ ∷ []) 9 ≡ Unanswered Broken)
-    ∷ (answered (at 0 5 1 ∷ []) (P₀ ∷ []) 9 ≡ Unanswered Broken)
+    ∷ (answerOn (at 1 0 1 ∷ []) (P₀ ∷ []) 9 ≡ NotCovered 1) ∷ (answerOn (at 1 0 1 ∷ []) (P₀ ∷ []) 0 ≡ Unanswered (Spent 0))
+    ∷ (answerOn (at 1 7 2 ∷ at 0 1 1 ∷ []) (P₀ ∷ []) 9 ≡ Covered 1 1) ∷ (answerOn (at 1 0 2 ∷ at 9 0 1 ∷ []) (P₀ ∷ []) 9 ≡ Unanswered Broken)
+    ∷ (answerOn (at 0 5 1 ∷ []) (P₀ ∷ []) 9 ≡ Unanswered Broken)
     -- Right at a literal's head; Push without a right sibling; a number popped twice; what a sibling stored is gone; stored twice
-    ∷ (answered (at 1 0 3 ∷ at 3 0 2 ∷ at 0 1 1 ∷ []) (P₀ ∷ P₀ ∷ []) 9 ≡ Unanswered Broken)
-    ∷ (answered (at 1 0 5 ∷ at 7 P₁ 4 ∷ at 2 0 3 ∷ at 5 0 2 ∷ at 0 1 1 ∷ []) (P₁ ∷ a ∷ []) 9 ≡ Unanswered Broken)
-    ∷ (answered (at 1 0 8 ∷ at 7 P₂ 7 ∷ at 2 0 6 ∷ at 5 0 5 ∷ at 6 0 4 ∷ at 7 b 3 ∷ at 6 0 2 ∷ at 0 1 1 ∷ []) (P₂ ∷ a ∷ b ∷ []) 9 ≡ Covered 1 1)
-    ∷ (answered (at 1 0 6 ∷ at 4 0 2 ∷ at 7 b 1 ∷ at 4 1 3 ∷ at 8 1 2 ∷ at 0 1 1 ∷ []) (P₀ ∷ []) 9 ≡ Unanswered Broken)
+    ∷ (answerOn (at 1 0 3 ∷ at 3 0 2 ∷ at 0 1 1 ∷ []) (P₀ ∷ P₀ ∷ []) 9 ≡ Unanswered Broken)
+    ∷ (answerOn (at 1 0 5 ∷ at 7 P₁ 4 ∷ at 2 0 3 ∷ at 5 0 2 ∷ at 0 1 1 ∷ []) (P₁ ∷ a ∷ []) 9 ≡ Unanswered Broken)
+    ∷ (answerOn (at 1 0 8 ∷ at 7 P₂ 7 ∷ at 2 0 6 ∷ at 5 0 5 ∷ at 6 0 4 ∷ at 7 b 3 ∷ at 6 0 2 ∷ at 0 1 1 ∷ []) (P₂ ∷ a ∷ b ∷ []) 9 ≡ Covered 1 1)
+    ∷ (answerOn (at 1 0 6 ∷ at 4 0 2 ∷ at 7 b 1 ∷ at 4 1 3 ∷ at 8 1 2 ∷ at 0 1 1 ∷ []) (P₀ ∷ []) 9 ≡ Unanswered Broken)
     ∷ (ask (sliceWith 1 (at 1 0 6 ∷ at 4 0 5 ∷ at 7 P₁ 4 ∷ at 2 0 3 ∷ at 4 0 2 ∷ at 0 1 1 ∷ [])) (P₁ ∷ a ∷ []) 9 1 1
     ≡ record { answer = Covered 1 1; literals = 0 ∷ []; positions = 1 ∷ [] })
     -- a Check of a variable's word; a Check over 16 bits; Compare k k; Put and Compare at a head; First in the middle of a literal
-    ∷ (answered (at 1 0 5 ∷ at 7 P₁ 4 ∷ at 2 0 3 ∷ at 7 x 2 ∷ at 0 1 1 ∷ []) (P₁ ∷ x ∷ []) 9 ≡ Covered 1 1)
-    ∷ (answered (at 1 0 3 ∷ at 7 0x18001 2 ∷ at 0 1 1 ∷ []) (P₀ ∷ []) 9 ≡ NotCovered 1)
-    ∷ (answered (at 1 0 4 ∷ at 4 0 3 ∷ at 8 0 2 ∷ at 0 1 1 ∷ []) (P₀ ∷ []) 9 ≡ Covered 1 1)
-    ∷ (answered (at 1 0 6 ∷ at 4 0 5 ∷ at 1 0 4 ∷ at 4 1 3 ∷ at 8 1 2 ∷ at 0 1 1 ∷ []) (P₀ ∷ Q₀ ∷ []) 9 ≡ Covered 1 2)
-    ∷ (answered (at 1 0 3 ∷ at 1 0 2 ∷ at 0 1 1 ∷ []) (P₀ ∷ []) 9 ≡ Covered 1 2)
+    ∷ (answerOn (at 1 0 5 ∷ at 7 P₁ 4 ∷ at 2 0 3 ∷ at 7 x 2 ∷ at 0 1 1 ∷ []) (P₁ ∷ x ∷ []) 9 ≡ Covered 1 1)
+    ∷ (answerOn (at 1 0 3 ∷ at 7 0x18001 2 ∷ at 0 1 1 ∷ []) (P₀ ∷ []) 9 ≡ NotCovered 1)
+    ∷ (answerOn (at 1 0 4 ∷ at 4 0 3 ∷ at 8 0 2 ∷ at 0 1 1 ∷ []) (P₀ ∷ []) 9 ≡ Covered 1 1)
+    ∷ (answerOn (at 1 0 6 ∷ at 4 0 5 ∷ at 1 0 4 ∷ at 4 1 3 ∷ at 8 1 2 ∷ at 0 1 1 ∷ []) (P₀ ∷ Q₀ ∷ []) 9 ≡ Covered 1 2)
+    ∷ (answerOn (at 1 0 3 ∷ at 1 0 2 ∷ at 0 1 1 ∷ []) (P₀ ∷ []) 9 ≡ Covered 1 2)
     -- a short witness before a broken header
     ∷ (query ((9 * 2 ^ 32) ∷ 0 ∷ []) (P₀ ∷ []) 9 [] .answer ≡ Unanswered ShortWitness)
     ∷ (query ((9 * 2 ^ 32) ∷ 0 ∷ []) (P₀ ∷ []) 9 (replicate 72 9) .answer ≡ Unanswered Broken)

@@ -28,7 +28,7 @@ use Rattle.walk.specs.declared.QueryAnswer.the-variants.{Unanswered, Covered, N
 use Rattle.walk.specs.declared.CeilingAnswer.{CeilingAnswer}
 use Rattle.walk.specs.declared.CeilingAnswer.the-variants.{Ceiling, NoCeiling}
 use Rattle.book.specs.Table.{saidCall, saidQuery, saidCeiling}
-use Rattle.codetree.specs.Told.{numberOf, toldBy, answered}
+use Rattle.codetree.specs.Told.{numberOf, toldBy, replied}
 use Rattle.codetree.specs.Calls.{ctFresh, ctInsert, ctRemove, ctQuery, ctCeiling}
 use Rattle.codetree.specs.Claims.{ToldApart}
 
@@ -129,7 +129,7 @@ remove-back broken = refl
 remove-back no-such = refl
 
 insert-back : {a : CallAnswer} → Inserted a → (ts : List ℕ) → 3 ≤ length ts
-    → answerOf Kept Refused (answered (saidCall a) ts .number) (answered (saidCall a) ts .told) ≡ a
+    → answerOf Kept Refused (replied (saidCall a) ts .number) (replied (saidCall a) ts .told) ≡ a
 unfolding answerOf
 insert-back kept ts h = refl
 insert-back (refusal r) [] h = absurd (omega arith)
@@ -140,7 +140,7 @@ askedOf : (number : ℕ) (told : List ℕ) → QueryAnswer
 askedOf n ts =
     answerOf (cond (eqb (getD ts 0 0) 0) (NotCovered (getD ts 2 0)) (Covered (getD ts 1 0) (getD ts 2 0))) Unanswered n ts
 
-query-back : (a : QueryAnswer) (ts : List ℕ) → 3 ≤ length ts → askedOf (answered (saidQuery a) ts .number) (answered (saidQuery a) ts .told) ≡ a
+query-back : (a : QueryAnswer) (ts : List ℕ) → 3 ≤ length ts → askedOf (replied (saidQuery a) ts .number) (replied (saidQuery a) ts .told) ≡ a
 unfolding askedOf answerOf
 query-back a [] h = absurd (omega arith)
 query-back a (t ∷ []) h = absurd (omega arith)
@@ -152,7 +152,7 @@ query-back (NotCovered c) (t ∷ u ∷ v ∷ ts) h = refl
 boundedOf : (number : ℕ) (told : List ℕ) → CeilingAnswer
 boundedOf n ts = answerOf (Ceiling (getD ts 0 0)) NoCeiling n ts
 
-ceiling-back : (a : CeilingAnswer) (ts : List ℕ) → 3 ≤ length ts → boundedOf (answered (saidCeiling a) ts .number) (answered (saidCeiling a) ts .told) ≡ a
+ceiling-back : (a : CeilingAnswer) (ts : List ℕ) → 3 ≤ length ts → boundedOf (replied (saidCeiling a) ts .number) (replied (saidCeiling a) ts .told) ≡ a
 unfolding boundedOf answerOf
 ceiling-back a [] h = absurd (omega arith)
 ceiling-back (NoCeiling r) (t ∷ ts) h = refusal-back _ NoCeiling r t ts
@@ -162,7 +162,7 @@ ceiling-back (Ceiling n) (t ∷ ts) h = refl
 
 -- two answers to a query that are handed over the same
 pub query-apart : (a b : QueryAnswer) (ts us : List ℕ) → 3 ≤ length ts → 3 ≤ length us
-    → answered (saidQuery a) ts .number ≡ answered (saidQuery b) us .number → answered (saidQuery a) ts .told ≡ answered (saidQuery b) us .told → a ≡ b
+    → replied (saidQuery a) ts .number ≡ replied (saidQuery b) us .number → replied (saidQuery a) ts .told ≡ replied (saidQuery b) us .told → a ≡ b
 query-apart a b ts us h k e f = sym (query-back a ts h) ∙ ap₂ askedOf e f ∙ query-back b us k
 
 pub told-apart : ToldApart

@@ -21,7 +21,7 @@ use Rattle.book.specs.Book.{Call, insert, remove, call, done, after, sliceOf, t
 use Rattle.book.specs.Claims.{Run, Reached, Together, Same}
 use Rattle.book.proofs.Reach.{reach, demand2}
 use Rattle.book.proofs.Agreement.{demand3}
-use Rattle.codetree.specs.Told.{numberOf, shownAs, answered}
+use Rattle.codetree.specs.Told.{numberOf, shownAs, replied}
 use Rattle.codetree.specs.Calls.{ctFresh, ctInsert, ctRemove, ctQuery}
 use Rattle.codetree.specs.Claims.{Made, ctCall, ctAfter, ctTree, callsMade, CtRun, CtReach, Says, SaysCovered, SaysNot, SaysSpent, needed, CtAnswers, CtDemand2, CtSame, CtCovered, CtDemand3}
 use Rattle.codetree.proofs.Apart.{Freshened, ready, bad-slice, Inserted, kept, refusal, Taken, removed, broken, no-such, fresh-answers, insert-answers, remove-answers, code-some, query-apart}
@@ -86,11 +86,11 @@ ct-reach T xs R =
 
 module _ (T d : List ℕ) (b : ℕ) (W ts : List ℕ) (long : 3 ≤ length ts) where
   says : (a : QueryAnswer)
-      → Says (ctQuery T d b W ts) ts (answered (saidQuery a) [] .number) (shownAs (saidQuery a .title) (saidQuery a .values)) ↔ (query T d b W .answer ≡ a)
+      → Says (ctQuery T d b W ts) ts (replied (saidQuery a) [] .number) (shownAs (saidQuery a .title) (saidQuery a .values)) ↔ (query T d b W .answer ≡ a)
   unfolding ctQuery
   says a = (
     λ s. query-apart (query T d b W .answer) a ts ts long long (s .0) (s .1),
-    λ e. (ap (λ y. answered (saidQuery y) ts .number) e, ap (λ y. answered (saidQuery y) ts .told) e),
+    λ e. (ap (λ y. replied (saidQuery y) ts .number) e, ap (λ y. replied (saidQuery y) ts .told) e),
   )
 
 -- one is not another

@@ -5,7 +5,7 @@ use Rattle.tree.specs.Calls.{fresh, insertion, removal}
 use Rattle.walk.specs.Query.{query}
 use Rattle.walk.specs.Ceiling.{ceilingCall}
 use Rattle.book.specs.Table.{Result, saidCeiling, called, asked}
-use Rattle.codetree.specs.Told.{numberOf, Answered, answered}
+use Rattle.codetree.specs.Told.{numberOf, Reply, replied}
 
 -- the number returned, and the words of the tree or the witness afterwards
 pub record Left : Type 0 where
@@ -24,7 +24,7 @@ left r = record { number = numberOf (r .said .title); words = r .words }
 
 -- the same with its values told
 abbrev pub handed : Result → (told : List ℕ) → Handed
-handed r ts = record { number = answered (r .said) ts .number; words = r .words; told = answered (r .said) ts .told }
+handed r ts = record { number = replied (r .said) ts .number; words = r .words; told = replied (r .said) ts .told }
 
 -- fresh
 unfoldable pub ctFresh : (tree : List ℕ) → Left
@@ -43,5 +43,5 @@ unfoldable pub ctQuery : (tree clause : List ℕ) (budget : ℕ) (witness told :
 ctQuery T d b W ts = handed (asked (query T d b W)) ts
 
 -- ceiling
-unfoldable pub ctCeiling : (kept q m : ℕ) (told : List ℕ) → Answered
-ctCeiling kept q m ts = answered (saidCeiling (ceilingCall kept q m)) ts
+unfoldable pub ctCeiling : (kept q m : ℕ) (told : List ℕ) → Reply
+ctCeiling kept q m ts = replied (saidCeiling (ceilingCall kept q m)) ts

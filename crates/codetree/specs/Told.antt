@@ -30,10 +30,10 @@ toldBy (v ∷ vs) [] = []
 toldBy (v ∷ vs) (w ∷ ws) = v ∷ toldBy vs ws
 
 -- the number returned, and the told words afterwards
-pub record Answered : Type 0 where
+pub record Reply : Type 0 where
   pub number : ℕ
   pub told : List ℕ
 
 -- of what an answer says
-abbrev pub answered : Said → (told : List ℕ) → Answered
-answered s ts = record { number = numberOf (s .title); told = toldBy (shownAs (s .title) (s .values)) ts }
+abbrev pub replied : Said → (told : List ℕ) → Reply
+replied s ts = record { number = numberOf (s .title); told = toldBy (shownAs (s .title) (s .values)) ts }

@@ -6,7 +6,7 @@ ghost use Rattle.clause.specs.declared.Fault.{Fault};
 ghost use Rattle.tree.specs.declared.Refusal.the-variants.{BadClause};
 ghost use Rattle.tree.specs.Refusal.{codeOf, valuesOf};
 ghost use Rattle.book.specs.Table.{saidCall, saidQuery, saidCeiling};
-ghost use Rattle.codetree.specs.Told.{numberOf, toldBy, answered};
+ghost use Rattle.codetree.specs.Told.{numberOf, toldBy, replied};
 use clause::Fault;
 use tree::CallAnswer;
 use tree::Refusal;
@@ -74,7 +74,7 @@ pub fn call_number(answer: CallAnswer) -> u64
 
 // Hands an answer of fresh, insertion or removal over.
 pub fn hand_call(answer: CallAnswer, told: &mut [u64]) -> u64
-    ensures { λ r. ⌜ record { number = r; told = now (told .exit) } ≡ answered (saidCall answer) (now (told .entry)) ⌝ }
+    ensures { λ r. ⌜ record { number = r; told = now (told .exit) } ≡ replied (saidCall answer) (now (told .entry)) ⌝ }
 {
     match answer {
         CallAnswer::Refused(refusal) => refuse(refusal, told),
@@ -95,7 +95,7 @@ fn tell_query(told: &mut [u64], covered: u64, number: u64, count: u64)
 
 // Hands a query's answer over.
 pub fn hand_query(answer: QueryAnswer, told: &mut [u64]) -> u64
-    ensures { λ r. ⌜ record { number = r; told = now (told .exit) } ≡ answered (saidQuery answer) (now (told .entry)) ⌝ }
+    ensures { λ r. ⌜ record { number = r; told = now (told .exit) } ≡ replied (saidQuery answer) (now (told .entry)) ⌝ }
 {
     match answer {
         QueryAnswer::Unanswered(refusal) => refuse(refusal, told),
@@ -112,7 +112,7 @@ pub fn hand_query(answer: QueryAnswer, told: &mut [u64]) -> u64
 
 // Hands the ceiling call's answer over.
 pub fn hand_ceiling(answer: CeilingAnswer, told: &mut [u64]) -> u64
-    ensures { λ r. ⌜ record { number = r; told = now (told .exit) } ≡ answered (saidCeiling answer) (now (told .entry)) ⌝ }
+    ensures { λ r. ⌜ record { number = r; told = now (told .exit) } ≡ replied (saidCeiling answer) (now (told .entry)) ⌝ }
 {
     match answer {
         CeilingAnswer::NoCeiling(refusal) => refuse(refusal, told),

@@ -9,8 +9,8 @@ use borrow.Author.Tests.{lt-ltb, le-ltb, eq-eqb, ne-eqb}
 use Rattle.record.specs.Text.{Written, written}
 use Rattle.record.specs.Line.{longestLine, lineOf}
 use Rattle.record.specs.Output.{counted}
-use Rattle.feeding.specs.Feed.{Store, storeOf, Fed, finishing, finished, advanced, stored, proceeding, takeField, takeAs, takeByte, andThen, feed}
-use Rattle.feeding.specs.inner.Steady.{Placed, placedAt, Steady, Answers, Took, Stepped, recordsIn}
+use Rattle.feeding.specs.Feed.{Store, storeOf, Fed, finishing, recordEnded, advanced, stored, proceeding, takeField, takeAs, takeByte, feedThen, feed}
+use Rattle.feeding.specs.inner.Steady.{FedInto, fedInto, Steady, CameOut, Took, Stepped, recordsIn}
 use Rattle.lines.proofs.Writing.{written-append, text-there}
 use Rattle.record.specs.declared.Outcome.{Outcome}
 use Rattle.record.specs.declared.Outcome.the-variants.{Kept, Struck, Refused}
@@ -27,13 +27,13 @@ use Rattle.feeding.specs.declared.Step.{Step}
 
 -- a whole record ended
 pub finishes : (n count : ℕ) (t : Totals) (m : Store) (o : List ℕ) (at : ℕ) {r : Outcome} {T K p : List ℕ} {u : Totals} {next : ℕ}
-    → Answers (finishing n count (m .words) (m .slice)) n (m .marks) r T K
+    → CameOut (finishing n count (m .words) (m .slice)) n (m .marks) r T K
     → u ≡ counted r t
     → _≡_ {A = Written} (record { next = next; output = p }) (written (lineOf n r) o at)
     → next ≤ at + longestLine
-    → Took (finished n count t m) 1 at o (record { half = Even; stage = AtNumber; totals = u }) (record { words = m .words; slice = T; marks = K })
+    → Took (recordEnded n count t m) 1 at o (record { half = Even; stage = AtNumber; totals = u }) (record { words = m .words; slice = T; marks = K })
     (record { next = next; output = p })
-unfolding finished
+unfolding recordEnded
 finishes n count t m o at a e w l = record { placed = rw (← a .answer, a .marking, e, w); steady = a .steady; short = omega arith }
 
 -- what is taken of another input that is fed the same
@@ -48,7 +48,7 @@ goes h g t m o at e d =
     took-as (ap (λ (y : Next). proceeding y t m) e) (record { placed = rw z; steady = d; short = omega arith })
 
 -- a record that is whole
-pub ends : (x : Head) (t : Totals) (m : Store) {y : Next} → y ≡ Ends x → proceeding y t m ≡ finished (x .number) (x .count) t m
+pub ends : (x : Head) (t : Totals) (m : Store) {y : Next} → y ≡ Ends x → proceeding y t m ≡ recordEnded (x .number) (x .count) t m
 ends x t m e = ap (λ (z : Next). proceeding z t m) e
 
 -- ---- one field, by its stage
@@ -70,7 +70,7 @@ module _ (t : Totals) (m : Store) (w : ℕ) where
   unfolding takeField
   at-count n e h = rw (e, ne-eqb w 0 (λ z. omega arith))
 
-  pub at-empty : (n : ℕ) {g : Stage} → g ≡ AtCount n → w ≤ 0 → takeField g t m w ≡ finished n 0 t m
+  pub at-empty : (n : ℕ) {g : Stage} → g ≡ AtCount n → w ≤ 0 → takeField g t m w ≡ recordEnded n 0 t m
   unfolding takeField
   at-empty n e h = rw (e, eq-eqb w 0 (omega arith))
 
@@ -78,7 +78,7 @@ module _ (t : Totals) (m : Store) (w : ℕ) where
   unfolding takeField
   at-word n count i e h = rw (e, lt-ltb (i + 1) count h)
 
-  pub at-last : (n count i : ℕ) {g : Stage} → g ≡ AtWord n count i → count ≤ i + 1 → takeField g t m w ≡ finished n count t (storing m i w)
+  pub at-last : (n count i : ℕ) {g : Stage} → g ≡ AtWord n count i → count ≤ i + 1 → takeField g t m w ≡ recordEnded n count t (storing m i w)
   unfolding takeField
   at-last n count i e h = rw (e, le-ltb (i + 1) count h)
 
@@ -97,7 +97,7 @@ counted-one (Refused code) t = omega arith
 
 -- at most one record is counted at a byte
 few-next : (x : Next) (t : Totals) (m : Store) → recordsIn (proceeding x t m .session .totals) ≤ recordsIn t + 1
-unfolding finished
+unfolding recordEnded
 few-next (Reads h g) t m = omega arith
 few-next (Ends x) t m = omega (arith, counted-one (finishing (x .number) (x .count) (m .words) (m .slice) .outcome) t)
 
@@ -109,7 +109,7 @@ few-records (Odd a) g t m b = few-next (advanced g (a * 256 + b)) t (storeOf (st
 -- ---- one byte after another
 
 -- first some bytes, then others
-pub feed-append : (a b : List ℕ) (s : Session) (m : Store) → feed s m (a ++ b) ≡ andThen (feed s m a) (λ s′ m′. feed s′ m′ b)
+pub feed-append : (a b : List ℕ) (s : Session) (m : Store) → feed s m (a ++ b) ≡ feedThen (feed s m a) (λ s′ m′. feed s′ m′ b)
 unfolding feed
 feed-append [] b s m = refl
 feed-append (x ∷ a) b s m = rw (feed-append a b (takeByte s m x .session) (takeByte s m x .store), append-assoc)
@@ -122,7 +122,7 @@ feed-one (b ∷ input) s m h = rw append-nil
 
 -- some bytes more
 feed-on : (input : List ℕ) (i k : ℕ) (s : Session) (m : Store)
-    → feed s m (take (i + k) input) ≡ andThen (feed s m (take i input)) (λ s′ m′. feed s′ m′ (take k (drop i input)))
+    → feed s m (take (i + k) input) ≡ feedThen (feed s m (take i input)) (λ s′ m′. feed s′ m′ (take k (drop i input)))
 feed-on input i k s m = rw (take-add i k input) (feed-append (take i input) (take k (drop i input)) s m)
 
 -- at most as many records are counted as bytes are fed
@@ -133,10 +133,10 @@ feed-records (b ∷ bs) s m = omega (arith, few-records (s .half) (s .stage) (s 
 
 -- what was fed, and then more, put into the output
 pub placed-then : (f : Fed) (k : Session → Store → Fed) (o : List ℕ) (at : ℕ) {s : Session} {m : Store} {w : Written}
-    → _≡_ {A = Placed} (record { session = s; store = m; written = w }) (placedAt f o at)
-    → placedAt (k s m) (w .output) (w .next) ≡ placedAt (andThen f k) o at
+    → _≡_ {A = FedInto} (record { session = s; store = m; written = w }) (fedInto f o at)
+    → fedInto (k s m) (w .output) (w .next) ≡ fedInto (feedThen f k) o at
 placed-then f k o at e =
-    ap (λ (p : Placed). placedAt (k (p .session) (p .store)) (p .written .output) (p .written .next)) e
+    ap (λ (p : FedInto). fedInto (k (p .session) (p .store)) (p .written .output) (p .written .next)) e
     ∙ rw (written-append (f .text) (k (f .session) (f .store) .text) o at)
 
 -- the text of what was fed stands at the beginning of the output
@@ -144,9 +144,9 @@ pub text-of : {f : Fed} {k : ℕ} {o : List ℕ} {s : Session} {m : Store} {next
     → k * longestLine ≤ length o → record { session = s; store = m; text = take next p } ≡ f
 text-of {f} {o = o} t h =
     let e = t .placed in
-    let l : length (f .text) ≤ length o = omega (arith, t .short, ap (λ (x : Placed). x .written .next) e) in
-    let w = text-there (f .text) o l (ap (λ (x : Placed). x .written) e) in
-    rw (ap (λ (x : Placed). x .session) e, ap (λ (x : Placed). x .store) e, w)
+    let l : length (f .text) ≤ length o = omega (arith, t .short, ap (λ (x : FedInto). x .written .next) e) in
+    let w = text-there (f .text) o l (ap (λ (x : FedInto). x .written) e) in
+    rw (ap (λ (x : FedInto). x .session) e, ap (λ (x : FedInto). x .store) e, w)
 
 -- the first byte of a field, and the second
 pub first-byte : (s : Session) (m : Store) (b : ℕ) {x : Next} → s .half ≡ Even → x ≡ Reads (Odd b) (s .stage) → takeByte s m b ≡ proceeding x (s .totals) m
@@ -194,14 +194,14 @@ module _ (s₀ : Session) (m₀ : Store) (input o₀ : List ℕ) {s : Session} {
       let bs : List ℕ = take k (drop i input) in
       let e : take k (take (length input - i) (drop i input)) ≡ bs = take-take k (length input - i) (drop i input) (omega arith) in
       let q : proceeding (x .next) (s .totals) (storeOf ws (m .slice) (m .marks)) ≡ feed s m bs = sym (r .feeds (m .slice) (m .marks)) ∙ ap (feed s m) e in
-      let u : s′ ≡ feed s m bs .session = ap (λ (p : Placed). p .session) (t .placed) ∙ ap (λ (y : Fed). y .session) q in
+      let u : s′ ≡ feed s m bs .session = ap (λ (p : FedInto). p .session) (t .placed) ∙ ap (λ (y : Fed). y .session) q in
       let l : length bs ≤ k = simp length-take (omega arith) in
       let n : recordsIn (s′ .totals) ≤ recordsIn (s .totals) + length bs = rw u (feed-records bs s m) in
       record {
         took =
             took-as (feed-on input i k s₀ m₀)
             (record {
-              placed = t .placed ∙ ap (λ (y : Fed). placedAt y o at) q ∙ placed-then (feed s₀ m₀ (take i input)) (λ s″ m″. feed s″ m″ bs) o₀ 0 (f .took .placed);
+              placed = t .placed ∙ ap (λ (y : Fed). fedInto y o at) q ∙ placed-then (feed s₀ m₀ (take i input)) (λ s″ m″. feed s″ m″ bs) o₀ 0 (f .took .placed);
               steady = t .steady;
               short = omega (arith, t .short, f .took .short, r .some);
             });
@@ -217,4 +217,4 @@ module _ (s₀ : Session) (m₀ : Store) (input o₀ : List ℕ) {s : Session} {
   pub feeding-done : length input ≤ i → Took (feed s₀ m₀ input) (length input) 0 o₀ s m (record { next = at; output = o })
   feeding-done h =
       let e : take i input ≡ input = take-all i input h in
-      record { placed = f .took .placed ∙ ap (λ (bs : List ℕ). placedAt (feed s₀ m₀ bs) o₀ 0) e; steady = f .took .steady; short = omega (arith, f .took .short, f .inside) }
+      record { placed = f .took .placed ∙ ap (λ (bs : List ℕ). fedInto (feed s₀ m₀ bs) o₀ 0) e; steady = f .took .steady; short = omega (arith, f .took .short, f .inside) }

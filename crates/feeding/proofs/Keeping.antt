@@ -32,7 +32,7 @@ use Rattle.walk.specs.declared.QueryAnswer.{QueryAnswer}
 use Rattle.walk.specs.declared.QueryAnswer.the-variants.{Unanswered, Covered, NotCovered}
 use Rattle.record.specs.Answer.{budget, inserted, answered}
 use Rattle.feeding.specs.Feed.{numberCount}
-use Rattle.feeding.specs.inner.Steady.{Steady, Answers}
+use Rattle.feeding.specs.inner.Steady.{Steady, CameOut}
 use Rattle.record.specs.declared.Outcome.{Outcome}
 use Rattle.record.specs.declared.Outcome.the-variants.{Kept, Struck, Refused}
 use Rattle.feeding.proofs.Steady.{View, refused-left, kept-steady, steady-sized, number-taken, viewed}
@@ -56,17 +56,17 @@ module _ {S K : List ℕ} (h : Steady S K) (c : List ℕ) (a : Accepted c) (u : 
       → _≡_ {A = Called} (record { answer = r; slice = R }) (insertion S c n)
   called e w = w ∙ rw e (sym (insertion-words S (steady-sized h) (h .laid) c n (a .0) (a .1) u (omega arith)))
 
-  pub keep-marked : 0 < getD K n 0 → Answers (inserted (insertion S c n)) n K (Refused 7) S K
+  pub keep-marked : 0 < getD K n 0 → CameOut (inserted (insertion S c n)) n K (Refused 7) S K
   keep-marked m = record { answer = rw (number-taken h c n (a .0) (a .1) u l (λ z. omega arith)); marking = refl; steady = h }
 
   module _ {R : List ℕ} {r : CallAnswer} (m : getD K n 0 ≤ 0) (w : _≡_ {A = Called} (record { answer = r; slice = R }) (insertion S c n)) where
     view : View S K n (record { answer = r; slice = R })
     view = rw w (viewed h c n (a .0) (a .1) u l (omega arith))
 
-    pub keep-refused : {code : ℕ} (f : Refusal) → r ≡ call.Refused f → code ≡ codeOf f → Answers (inserted (insertion S c n)) n K (Refused code) R K
+    pub keep-refused : {code : ℕ} (f : Refusal) → r ≡ call.Refused f → code ≡ codeOf f → CameOut (inserted (insertion S c n)) n K (Refused code) R K
     keep-refused f e p = record { answer = rw (← w, e, p); marking = refl; steady = rw (refused-left view f e) h }
 
-    pub keep-kept : ((f : Refusal) → r ≡ call.Refused f → ⊥) → Answers (inserted (insertion S c n)) n K (Kept (getD R 0 0 / 4_294_967_296)) R (set K n 1)
+    pub keep-kept : ((f : Refusal) → r ≡ call.Refused f → ⊥) → CameOut (inserted (insertion S c n)) n K (Kept (getD R 0 0 / 4_294_967_296)) R (set K n 1)
     keep-kept f = let k = kept-steady view f in record { answer = rw (← w, k .0); marking = refl; steady = k .1 }
 
 -- ---- the query
@@ -86,18 +86,18 @@ module _ (S c : List ℕ) (n : ℕ) {N : List ℕ} {r : QueryAnswer} (w : _≡_ 
   answers = ap (λ (x : Asked). x .answer) w
 
   pub asked-refused : {code : ℕ} {K : List ℕ} (f : Refusal) → r ≡ Unanswered f → code ≡ codeOf f → Steady S K
-      → Answers (answered S (record { number = n; words = c })) n K (Refused code) S K
+      → CameOut (answered S (record { number = n; words = c })) n K (Refused code) S K
   unfolding answered
   asked-refused f e p h = record { answer = rw (← answers, e, p); marking = refl; steady = h }
 
-  pub asked-struck : {K : List ℕ} (m k : ℕ) → r ≡ Covered m k → Steady S K → Answers (answered S (record { number = n; words = c })) n K (Struck m k) S K
+  pub asked-struck : {K : List ℕ} (m k : ℕ) → r ≡ Covered m k → Steady S K → CameOut (answered S (record { number = n; words = c })) n K (Struck m k) S K
   unfolding answered
   asked-struck m k e h = record { answer = rw (← answers, e); marking = refl; steady = h }
 
   pub asked-accepted : (k : ℕ) → r ≡ NotCovered k → Accepted c
   asked-accepted k e = not-covered S c budget (replicate witnessWords 0) k (sym answers ∙ e)
 
-  pub asked-kept : (k : ℕ) {o : Outcome} {K R M : List ℕ} → r ≡ NotCovered k → Answers (inserted (insertion S c n)) n K o R M
-      → Answers (answered S (record { number = n; words = c })) n K o R M
+  pub asked-kept : (k : ℕ) {o : Outcome} {K R M : List ℕ} → r ≡ NotCovered k → CameOut (inserted (insertion S c n)) n K o R M
+      → CameOut (answered S (record { number = n; words = c })) n K o R M
   unfolding answered
   asked-kept k e x = record { answer = rw (← answers, e) (x .answer); marking = x .marking; steady = x .steady }

@@ -28,8 +28,8 @@ use Rattle.walk.specs.Query.{witnessWords, query}
 use Rattle.book.specs.Book.{after}
 use Rattle.record.specs.Line.{lineOf, totalsLine}
 use Rattle.record.specs.Answer.{treeWords, budget, Record, Answered, answeredAs, answered}
-use Rattle.record.specs.Output.{fields, recordsFor, recordsOf, rowOn, rowsFrom, zeros, rowsOf, callsOf, linesOf, counted, totalsWith, none, outputOf}
-use Rattle.feeding.specs.Feed.{Store, Fed, finishing, finished, marked, takeField, andThen, feed, opening, opened, WholeInput}
+use Rattle.record.specs.Output.{fields, recordsFor, recordsOf, rowOn, rowsFrom, freshSlice, rowsOf, rowCalls, linesOf, counted, totalsWith, none, outputOf}
+use Rattle.feeding.specs.Feed.{Store, Fed, finishing, recordEnded, marked, takeField, feedThen, feed, firstSession, firstStore, WholeInput}
 use Rattle.record.proofs.Rows.{slice-more}
 use Rattle.record.proofs.Sheets.{slice-from, sheets, no-strike-is-wrong}
 use Rattle.feeding.proofs.Blocks.{storing, at-count, at-empty, at-word, feed-append}
@@ -137,15 +137,15 @@ answered-length T x = go (query T (x .words) budget (replicate witnessWords 0) .
 
 -- what some records print, asked on a slice
 abbrev told : Totals → (slice : List ℕ) → List Record → Prints
-told t T xs = let rs = rowsFrom T xs in record { text = linesOf rs; totals = totalsWith t rs; slice = after T (callsOf rs) }
+told t T xs = let rs = rowsFrom T xs in record { text = linesOf rs; totals = totalsWith t rs; slice = after T (rowCalls rs) }
 
 -- a whole record, and then the others
 one-record : (n count : ℕ) (ws : List ℕ) (t : Totals) (m : Store) (xs : List Record) (fs : List ℕ)
     → length (m .words) ≡ 64 → length (m .slice) ≡ treeWords → count ≤ length ws → (count ≤ 64 → take count (m .words) ≡ take count ws)
     → ((u : Totals) (m′ : Store) → length (m′ .words) ≡ 64 → length (m′ .slice) ≡ treeWords → shows (feedFields AtNumber u m′ fs) ≡ told u (m′ .slice) xs)
-    → shows (andThen (finished n count t m) (λ s m′. feedFields (s .stage) (s .totals) m′ fs))
+    → shows (feedThen (recordEnded n count t m) (λ s m′. feedFields (s .stage) (s .totals) m′ fs))
     ≡ told t (m .slice) (record { number = n; words = take count ws } ∷ xs)
-unfolding finished rowsFrom rowOn
+unfolding recordEnded rowsFrom rowOn
 one-record n count ws t m xs fs w s h same rest =
     let x : Record = record { number = n; words = take count ws } in
     let a : Answered = answered (m .slice) x in
@@ -153,7 +153,7 @@ one-record n count ws t m xs fs w s h same rest =
     (ap (λ (p : Prints). record { text = lineOf n (a .outcome) ++ p .text; totals = p .totals; slice = p .slice })
     (rest (counted (a .outcome) t) (record { words = m .words; slice = a .slice; marks = marked (a .outcome) n (m .marks) }) w (answered-length (m .slice) x ∙ s))
     ∙ ap (λ (T : List ℕ). record { text = told t (m .slice) (x ∷ xs) .text; totals = told t (m .slice) (x ∷ xs) .totals; slice = T })
-    (sym (slice-more (m .slice) x (callsOf (rowsFrom (a .slice) xs)))))
+    (sym (slice-more (m .slice) x (rowCalls (rowsFrom (a .slice) xs)))))
 
 -- the words that were stored are those of the record
 stored : (count : ℕ) (words ws : List ℕ) → length words ≡ 64 → count ≤ length ws → count ≤ 64 → take count (sets words 0 (take count ws)) ≡ take count ws
@@ -178,21 +178,21 @@ abbrev Rest : (f : ℕ) (fs : List ℕ) → Type 0
 Rest f fs = (u : Totals) (m : Store) → length (m .words) ≡ 64 → length (m .slice) ≡ treeWords → shows (feedFields AtNumber u m fs) ≡ told u (m .slice) (recordsFor f fs)
 
 next-record : (f n count : ℕ) (ws : List ℕ) (t : Totals) (m : Store) → length (m .words) ≡ 64 → length (m .slice) ≡ treeWords → Rest f (drop count ws)
-    → shows (andThen (takeField (AtCount n) t m count) (λ s m′. feedFields (s .stage) (s .totals) m′ ws)) ≡ told t (m .slice) (recordsFrom f n count ws)
+    → shows (feedThen (takeField (AtCount n) t m count) (λ s m′. feedFields (s .stage) (s .totals) m′ ws)) ≡ told t (m .slice) (recordsFrom f n count ws)
 unfolding rowsFrom
 next-record f n zero ws t m w s rest =
-    ap (λ (x : Fed). shows (andThen x (λ s m′. feedFields (s .stage) (s .totals) m′ ws))) (at-empty t m 0 n refl (omega arith))
+    ap (λ (x : Fed). shows (feedThen x (λ s m′. feedFields (s .stage) (s .totals) m′ ws))) (at-empty t m 0 n refl (omega arith))
     ∙ one-record n 0 ws t m (recordsFor f ws) ws w s (omega arith) (λ h. refl) rest
     ∙ ap (λ (xs : List Record). told t (m .slice) xs) (sym (from-there f n 0 ws (omega arith)))
 next-record f n (suc k) ws t m w s rest =
-    ap (λ (x : Fed). shows (andThen x (λ s m′. feedFields (s .stage) (s .totals) m′ ws))) (at-count t m (suc k) n refl (omega arith))
+    ap (λ (x : Fed). shows (feedThen x (λ s m′. feedFields (s .stage) (s .totals) m′ ws))) (at-count t m (suc k) n refl (omega arith))
     ∙ go (decLe (suc k) (length ws))
   where
     go : Dec (suc k ≤ length ws) → shows (feedFields (AtWord n (suc k) 0) t m ws) ≡ told t (m .slice) (recordsFrom f n (suc k) ws)
     go (yes h) =
         let e : suc k - 0 ≡ suc k = omega arith in
         ap shows (collect ws n (suc k) 0 t m (omega arith) (omega arith))
-        ∙ ap (λ (i : ℕ). shows (andThen (finished n (suc k) t (filling m 0 (take i ws))) (λ s′ m′. feedFields (s′ .stage) (s′ .totals) m′ (drop i ws)))) e
+        ∙ ap (λ (i : ℕ). shows (feedThen (recordEnded n (suc k) t (filling m 0 (take i ws))) (λ s′ m′. feedFields (s′ .stage) (s′ .totals) m′ (drop i ws)))) e
         ∙ one-record n (suc k) ws t (filling m 0 (take (suc k) ws)) (recordsFor f (drop (suc k) ws)) (drop (suc k) ws) (length-sets (m .words) 0 (take (suc k) ws) ∙ w) s h (stored (suc k) (m .words) ws w h) rest
         ∙ ap (λ (xs : List Record). told t (m .slice) xs) (sym (from-there f n (suc k) ws h))
     go (no h) =
@@ -211,11 +211,11 @@ by-records (suc f) (n ∷ count ∷ ws) t m h w s =
 -- ---- the whole input
 
 -- what is printed, and the slice, are those of the rows
-whole : (input : List ℕ) → shows (feed opening opened input) ≡ told none zeros (recordsOf input)
-unfolding opened recordsOf
+whole : (input : List ℕ) → shows (feed firstSession firstStore input) ≡ told none freshSlice (recordsOf input)
+unfolding firstStore recordsOf
 whole input =
-    by-fields input AtNumber none opened
-    ∙ by-records (length (fields input)) (fields input) none opened (omega arith) (length-replicate {A = ℕ} 64 0) (length-replicate {A = ℕ} treeWords 0)
+    by-fields input AtNumber none firstStore
+    ∙ by-records (length (fields input)) (fields input) none firstStore (omega arith) (length-replicate {A = ℕ} 64 0) (length-replicate {A = ℕ} treeWords 0)
 
 pub whole-input : WholeInput
 unfolding outputOf rowsOf
@@ -223,7 +223,7 @@ whole-input =
     record {
       blocks = λ s m a b. feed-append a b s m;
       prints = λ input. ap (λ (p : Prints). p .text ++ totalsLine (p .totals)) (whole input);
-      leaves = λ input. ap (λ (p : Prints). p .slice) (whole input) ∙ sym (slice-from (callsOf (rowsOf input)));
+      leaves = λ input. ap (λ (p : Prints). p .slice) (whole input) ∙ sym (slice-from (rowCalls (rowsOf input)));
       sheets = sheets;
       strikes = no-strike-is-wrong;
     }

@@ -10,7 +10,7 @@ use lib.Dec.{ltb, eqb}
 use lib.ListN.{length, take, drop, getD, set, drop-of-length-le}
 use lib.Seq.{sets, take-all, take-take, drop-cons, length-take-le}
 use Rattle.record.specs.Output.{fields}
-use Rattle.feeding.specs.Feed.{Store, Fed, storeOf, finished, proceeding, takeField, andThen, feed}
+use Rattle.feeding.specs.Feed.{Store, Fed, storeOf, recordEnded, proceeding, takeField, feedThen, feed}
 use Rattle.feeding.specs.inner.Steady.{WholeRecord, Stepped}
 use Rattle.feeding.proofs.Blocks.{storing, at-count, at-empty, at-word, at-last}
 use Rattle.record.specs.declared.Totals.{Totals}
@@ -26,12 +26,12 @@ use Rattle.feeding.specs.declared.Next.the-variants.{Reads, Ends}
 -- one field after another
 unfoldable pub feedFields : Stage → Totals → Store → List ℕ → Fed
 feedFields g t m [] = record { session = record { half = Even; stage = g; totals = t }; store = m; text = [] }
-feedFields g t m (w ∷ ws) = andThen (takeField g t m w) (λ s m′. feedFields (s .stage) (s .totals) m′ ws)
+feedFields g t m (w ∷ ws) = feedThen (takeField g t m w) (λ s m′. feedFields (s .stage) (s .totals) m′ ws)
 
 -- after a whole field the next byte is a first one
 pub even-after : (g : Stage) (t : Totals) (m : Store) (w : ℕ)
     → takeField g t m w .session ≡ record { half = Even; stage = takeField g t m w .session .stage; totals = takeField g t m w .session .totals }
-unfolding takeField finished
+unfolding takeField recordEnded
 even-after AtNumber t m w = refl
 even-after (AtCount n) t m w = go (eqb w 0)
   where
@@ -59,16 +59,16 @@ filling m i ws = record { words = sets (m .words) i ws; slice = m .slice; marks 
 -- the words that are still to come are there
 pub collect : (ws : List ℕ) (n count i : ℕ) (t : Totals) (m : Store) → i < count → count ≤ i + length ws
     → feedFields (AtWord n count i) t m ws
-    ≡ andThen (finished n count t (filling m i (take (count - i) ws))) (λ s m′. feedFields (s .stage) (s .totals) m′ (drop (count - i) ws))
+    ≡ feedThen (recordEnded n count t (filling m i (take (count - i) ws))) (λ s m′. feedFields (s .stage) (s .totals) m′ (drop (count - i) ws))
 unfolding feedFields
 collect [] n count i t m h k = absurd (omega arith)
 collect (w ∷ ws) n count i t m h k = go (decLt (i + 1) count) (collect ws n count (i + 1) t (storing m i w))
   where
     go : Dec (i + 1 < count)
         → (i + 1 < count → count ≤ i + 1 + length ws → feedFields (AtWord n count (i + 1)) t (storing m i w) ws
-        ≡ andThen (finished n count t (filling (storing m i w) (i + 1) (take (count - (i + 1)) ws))) (λ s m′. feedFields (s .stage) (s .totals) m′ (drop (count - (i + 1)) ws)))
-        → andThen (takeField (AtWord n count i) t m w) (λ s m′. feedFields (s .stage) (s .totals) m′ ws)
-        ≡ andThen (finished n count t (filling m i (take (count - i) (w ∷ ws)))) (λ s m′. feedFields (s .stage) (s .totals) m′ (drop (count - i) (w ∷ ws)))
+        ≡ feedThen (recordEnded n count t (filling (storing m i w) (i + 1) (take (count - (i + 1)) ws))) (λ s m′. feedFields (s .stage) (s .totals) m′ (drop (count - (i + 1)) ws)))
+        → feedThen (takeField (AtWord n count i) t m w) (λ s m′. feedFields (s .stage) (s .totals) m′ ws)
+        ≡ feedThen (recordEnded n count t (filling m i (take (count - i) (w ∷ ws)))) (λ s m′. feedFields (s .stage) (s .totals) m′ (drop (count - i) (w ∷ ws)))
     go (yes l) ih =
         let e : count - i ≡ suc (count - (i + 1)) = omega arith in
         rw (at-word t m w n count i refl l, e) (ih l (omega arith) ∙ rw add-one)
@@ -95,25 +95,25 @@ length-fields (a ∷ []) k h = absurd (omega arith)
 length-fields (a ∷ b ∷ bs) k h = omega (arith, length-fields bs (k - 1) (omega arith))
 
 -- nothing comes after the record
-ended : (n count : ℕ) (t : Totals) (m : Store) → andThen (finished n count t m) (λ s m′. feedFields (s .stage) (s .totals) m′ []) ≡ finished n count t m
-unfolding finished feedFields
+ended : (n count : ℕ) (t : Totals) (m : Store) → feedThen (recordEnded n count t m) (λ s m′. feedFields (s .stage) (s .totals) m′ []) ≡ recordEnded n count t m
+unfolding recordEnded feedFields
 ended n count t m = rw append-nil
 
 fields-record : (count n : ℕ) (ws : List ℕ) (t : Totals) (m : Store) → length ws ≡ count
-    → feedFields AtNumber t m (n ∷ count ∷ ws) ≡ finished n count t (filling m 0 ws)
+    → feedFields AtNumber t m (n ∷ count ∷ ws) ≡ recordEnded n count t (filling m 0 ws)
 unfolding feedFields takeField
 fields-record zero n [] t m h =
-    ap (λ (f : Fed). andThen f (λ s m′. feedFields (s .stage) (s .totals) m′ [])) (at-empty t m 0 n refl (omega arith)) ∙ ended n 0 t m
+    ap (λ (f : Fed). feedThen f (λ s m′. feedFields (s .stage) (s .totals) m′ [])) (at-empty t m 0 n refl (omega arith)) ∙ ended n 0 t m
 fields-record zero n (w ∷ ws) t m h = absurd (omega arith)
 fields-record (suc k) n ws t m h =
-    ap (λ (f : Fed). andThen f (λ s m′. feedFields (s .stage) (s .totals) m′ ws)) (at-count t m (suc k) n refl (omega arith))
+    ap (λ (f : Fed). feedThen f (λ s m′. feedFields (s .stage) (s .totals) m′ ws)) (at-count t m (suc k) n refl (omega arith))
     ∙ collect ws n (suc k) 0 t m (omega arith) (omega arith)
     ∙ rw (take-all (suc k - 0) ws (omega arith), drop-of-length-le ws {i = suc k - 0} (omega arith)) (ended n (suc k) t (filling m 0 ws))
 
 -- the bytes of a whole record
 pub whole-record : (s : Session) (input : List ℕ) (count : ℕ) (m : Store) → WholeRecord s input count
     → feed s m (take (4 + count * 2) input)
-    ≡ finished (getD input 0 0 * 256 + getD input 1 0) count (s .totals) (filling m 0 (fields (take (count * 2) (drop 4 input))))
+    ≡ recordEnded (getD input 0 0 * 256 + getD input 1 0) count (s .totals) (filling m 0 (fields (take (count * 2) (drop 4 input))))
 whole-record s [] count m w = absurd (omega (arith, w .inside))
 whole-record s (a ∷ []) count m w = absurd (omega (arith, w .inside))
 whole-record s (a ∷ b ∷ []) count m w = absurd (omega (arith, w .inside))

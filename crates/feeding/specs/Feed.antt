@@ -9,7 +9,7 @@ use Rattle.clause.specs.Clause.{maxWords}
 use Rattle.book.specs.Book.{sliceOf}
 use Rattle.record.specs.Line.{lineOf, totalsLine}
 use Rattle.record.specs.Answer.{treeWords, Answered, answered}
-use Rattle.record.specs.Output.{counted, zeros, rowsOf, callsOf, outputOf}
+use Rattle.record.specs.Output.{counted, freshSlice, rowsOf, rowCalls, outputOf}
 use Rattle.record.specs.Output as output
 use Rattle.record.specs.Sheet.{Sheets, NoStrikeIsWrong}
 use Rattle.record.specs.declared.Outcome.{Outcome}
@@ -63,8 +63,8 @@ unfoldable pub finishing : (number count : ℕ) (words slice : List ℕ) → Ans
 finishing n count ws T = cond (ltb maxWords count) (record { outcome = Refused 3; slice = T }) (answered T (record { number = n; words = take count ws }))
 
 -- a whole record ended
-unfoldable pub finished : (number count : ℕ) → Totals → Store → Fed
-finished n count t m = finishedAs (finishing n count (m .words) (m .slice)) n t m
+unfoldable pub recordEnded : (number count : ℕ) → Totals → Store → Fed
+recordEnded n count t m = finishedAs (finishing n count (m .words) (m .slice)) n t m
 
 -- what one more field leads to: the reading goes on, or the record is whole
 abbrev pub advanced : Stage → (field : ℕ) → Next
@@ -81,7 +81,7 @@ stored (AtWord n count at) ws w = set ws at w
 -- the reading goes on, and nothing is printed, or a whole record is ended
 abbrev pub proceeding : Next → Totals → Store → Fed
 proceeding (Reads h g) t m = record { session = record { half = h; stage = g; totals = t }; store = m; text = [] }
-proceeding (Ends x) t m = finished (x .number) (x .count) t m
+proceeding (Ends x) t m = recordEnded (x .number) (x .count) t m
 
 -- one more field
 unfoldable pub takeField : Stage → Totals → Store → (field : ℕ) → Fed
@@ -97,28 +97,28 @@ abbrev pub takeByte : Session → Store → (byte : ℕ) → Fed
 takeByte s m b = takeAs (s .half) (s .stage) (s .totals) m b
 
 -- what is fed after something else
-abbrev pub andThen : Fed → (Session → Store → Fed) → Fed
-andThen f k = let g = k (f .session) (f .store) in record { session = g .session; store = g .store; text = f .text ++ g .text }
+abbrev pub feedThen : Fed → (Session → Store → Fed) → Fed
+feedThen f k = let g = k (f .session) (f .store) in record { session = g .session; store = g .store; text = f .text ++ g .text }
 
 -- one byte after another
 unfoldable pub feed : Session → Store → (bytes : List ℕ) → Fed
 feed s m [] = record { session = s; store = m; text = [] }
-feed s m (b ∷ bs) = andThen (takeByte s m b) (λ s′ m′. feed s′ m′ bs)
+feed s m (b ∷ bs) = feedThen (takeByte s m b) (λ s′ m′. feed s′ m′ bs)
 
 -- before the first byte
-abbrev pub opening : Session
-opening = record { half = Even; stage = AtNumber; totals = output.none }
+abbrev pub firstSession : Session
+firstSession = record { half = Even; stage = AtNumber; totals = output.none }
 
 -- the lent words before the first byte: all zeros
-unfoldable pub opened : Store
-opened = record { words = replicate maxWords 0; slice = replicate treeWords 0; marks = replicate numberCount 0 }
+unfoldable pub firstStore : Store
+firstStore = record { words = replicate maxWords 0; slice = replicate treeWords 0; marks = replicate numberCount 0 }
 
 -- the claims about every input
 pub record WholeInput : Type 0 where
   -- whatever the blocks, the text of all of them and the last line are the output for the whole input, and the slice is that of its calls
-  pub blocks : (s : Session) (m : Store) (a b : List ℕ) → feed s m (a ++ b) ≡ andThen (feed s m a) (λ s′ m′. feed s′ m′ b)
-  pub prints : (input : List ℕ) → feed opening opened input .text ++ totalsLine (feed opening opened input .session .totals) ≡ outputOf input
-  pub leaves : (input : List ℕ) → feed opening opened input .store .slice ≡ sliceOf zeros (callsOf (rowsOf input))
+  pub blocks : (s : Session) (m : Store) (a b : List ℕ) → feed s m (a ++ b) ≡ feedThen (feed s m a) (λ s′ m′. feed s′ m′ b)
+  pub prints : (input : List ℕ) → feed firstSession firstStore input .text ++ totalsLine (feed firstSession firstStore input .session .totals) ≡ outputOf input
+  pub leaves : (input : List ℕ) → feed firstSession firstStore input .store .slice ≡ sliceOf freshSlice (rowCalls (rowsOf input))
   -- what becomes of each record, by the clauses that are kept before it; and in one sentence
   pub sheets : Sheets
   pub strikes : NoStrikeIsWrong

@@ -13,12 +13,12 @@ ghost use Rattle.clause.specs.Clause.{Accepted};
 ghost use Rattle.machine.specs.Compiled.{maxKeys};
 ghost use Rattle.tree.specs.Calls.{insertion};
 ghost use Rattle.record.specs.Answer.{inserted, answered};
-ghost use Rattle.feeding.specs.inner.Steady.{Steady, Answers};
+ghost use Rattle.feeding.specs.inner.Steady.{Steady, CameOut};
 
 // Inserts a record that is not covered. The caller holds the slice well laid, with the marks of its numbers, and the clause is accepted.
 fn keep(tree: &mut [u64], marks: &mut [u8], keys: &mut [u64], words: &[u16], number: u16) -> Outcome
     requires { ⌜ Steady (now tree) (now marks) × Accepted (now words) × (maxKeys ≤ length (now keys)) ⌝ }
-    ensures { λ r. ⌜ Answers (inserted (insertion (now (tree .entry)) (now (words .entry)) number)) number (now (marks .entry)) r
+    ensures { λ r. ⌜ CameOut (inserted (insertion (now (tree .entry)) (now (words .entry)) number)) number (now (marks .entry)) r
         (now (tree .exit)) (now (marks .exit)) ⌝ }
 {
     let mark = number as usize;
@@ -43,7 +43,7 @@ pub(crate) fn answer(
     number: u16,
 ) -> Outcome
     requires { ⌜ Steady (now tree) (now marks) ⌝ }
-    ensures { λ r. ⌜ Answers (answered (now (tree .entry)) (record { number = number; words = now (words .entry) })) number (now (marks .entry)) r
+    ensures { λ r. ⌜ CameOut (answered (now (tree .entry)) (record { number = number; words = now (words .entry) })) number (now (marks .entry)) r
         (now (tree .exit)) (now (marks .exit)) ⌝ }
 {
     let mut witness = [0u16; Witness::WORDS];

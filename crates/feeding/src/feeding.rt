@@ -17,13 +17,13 @@ ghost use Prim.Native.Nat.{_+_, _^_, _<_};
 ghost use lib.ListN.{length};
 ghost use Rattle.clause.specs.Clause.{maxWords};
 ghost use Rattle.record.specs.Output.{counted};
-ghost use Rattle.feeding.specs.Feed.{storeOf, finishing, finished, proceeding, opening, WholeInput};
-ghost use Rattle.feeding.specs.inner.Steady.{Steady, Answers, recordsIn, Ready, Took};
+ghost use Rattle.feeding.specs.Feed.{storeOf, finishing, recordEnded, proceeding, firstSession, WholeInput};
+ghost use Rattle.feeding.specs.inner.Steady.{Steady, CameOut, recordsIn, Ready, Took};
 ghost use Rattle.feeding.specs.Feed.{feed as Feed·feed};
 
 // The session before the first byte.
 pub fn begin() -> Session
-    ensures { λ r. ⌜ r ≡ opening ⌝ }
+    ensures { λ r. ⌜ r ≡ firstSession ⌝ }
 {
     Session {
         half: Half::Even,
@@ -69,7 +69,7 @@ fn outcome_of(
     words: &[u16],
 ) -> Outcome
     requires { ⌜ Steady (now tree) (now marks) × (length (now words) ≡ maxWords) ⌝ }
-    ensures { λ r. ⌜ Answers (finishing (head .number) (head .count) (now (words .entry)) (now (tree .entry))) (head .number) (now (marks .entry)) r
+    ensures { λ r. ⌜ CameOut (finishing (head .number) (head .count) (now (words .entry)) (now (tree .entry))) (head .number) (now (marks .entry)) r
         (now (tree .exit)) (now (marks .exit)) ⌝ }
 {
     let end = head.count as usize;
@@ -91,7 +91,7 @@ fn finish(
 ) -> Turn
     requires { ⌜ Ready (storeOf (now words) (now tree) (now marks)) (turn .session .totals) 1 (turn .next) (now output) ⌝ }
     ensures { λ r. ⌜ Took
-        (finished (head .number) (head .count) (turn .session .totals) (storeOf (now (words .entry)) (now (tree .entry)) (now (marks .entry)))) 1
+        (recordEnded (head .number) (head .count) (turn .session .totals) (storeOf (now (words .entry)) (now (tree .entry)) (now (marks .entry)))) 1
         (turn .next) (now (output .entry)) (r .session) (storeOf (now (words .entry)) (now (tree .exit)) (now (marks .exit)))
         (record { next = r .next; output = now (output .exit) }) ⌝ }
 {

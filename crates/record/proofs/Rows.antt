@@ -11,9 +11,9 @@ use Rattle.tree.specs.Forest.{layout}
 use Rattle.tree.specs.Entries.{Pair}
 use Rattle.book.specs.Book.{Call, AllFit, call, after, bookStep, bookFrom, treeOf}
 use Rattle.record.specs.Answer.{treeWords, Record, answered, callsFor}
-use Rattle.record.specs.Output.{Row, rowOn, rowsFrom, callsOf, counted, totalsWith}
+use Rattle.record.specs.Output.{Row, rowOn, rowsFrom, rowCalls, counted, totalsWith}
 use Rattle.record.specs.Ruled.{pairOf, IsKept}
-use Rattle.record.specs.Sheet.{keptOn, keptOf}
+use Rattle.record.specs.Sheet.{keptOn, keptPairs}
 use Rattle.record.specs.declared.Outcome.{Outcome}
 use Rattle.record.specs.declared.Outcome.the-variants.{Kept, Struck, Refused}
 use Rattle.record.specs.declared.Totals.{Totals}
@@ -75,9 +75,9 @@ pub made-first : (rs rest : List Row) (T : List ℕ) → Made T (rs ++ rest) →
 made-first [] rest T m = made-none
 made-first (r ∷ rs) rest T (made-more e f m) = made-more e f (made-first rs rest (after T (r .calls)) m)
 
-pub made-last : (rs rest : List Row) (T : List ℕ) → Made T (rs ++ rest) → Made (after T (callsOf rs)) rest
+pub made-last : (rs rest : List Row) (T : List ℕ) → Made T (rs ++ rest) → Made (after T (rowCalls rs)) rest
 made-last [] rest T m = m
-made-last (r ∷ rs) rest T (made-more e f m) = rw (after-append T (r .calls) (callsOf rs)) (made-last rs rest (after T (r .calls)) m)
+made-last (r ∷ rs) rest T (made-more e f m) = rw (after-append T (r .calls) (rowCalls rs)) (made-last rs rest (after T (r .calls)) m)
 
 pub made-row : {T : List ℕ} {r : Row} {rs : List Row} → Made T (r ∷ rs) → r ≡ rowOn T (r .of)
 made-row (made-more e f m) = e
@@ -86,9 +86,9 @@ row-fits : (T : List ℕ) (r : Row) → r ≡ rowOn T (r .of) → FitRecord (r .
 unfolding rowOn
 row-fits T r e f = let c : r .calls ≡ callsFor T (r .of) = ap (λ (y : Row). y .calls) e in rw c (calls-fit T (r .of) f)
 
-pub made-fit : {T : List ℕ} {rs : List Row} → Made T rs → AllFit (callsOf rs)
+pub made-fit : {T : List ℕ} {rs : List Row} → Made T rs → AllFit (rowCalls rs)
 made-fit made-none = tt
-made-fit {T} (made-more {r = r} {rs = rs} e f m) = fit-append (r .calls) (callsOf rs) (row-fits T r e f) (made-fit m)
+made-fit {T} (made-more {r = r} {rs = rs} e f m) = fit-append (r .calls) (rowCalls rs) (row-fits T r e f) (made-fit m)
 
 -- ---- what becomes of each row
 
@@ -114,9 +114,9 @@ pub fated-first : (rs rest : List Row) (K : List Pair) → Fated K (rs ++ rest) 
 fated-first [] rest K f = fated-none
 fated-first (r ∷ rs) rest K (fated-more e f) = fated-more e (fated-first rs rest (bookFrom treeWords K (r .calls)) f)
 
-pub fated-last : (rs rest : List Row) (K : List Pair) → Fated K (rs ++ rest) → Fated (bookFrom treeWords K (callsOf rs)) rest
+pub fated-last : (rs rest : List Row) (K : List Pair) → Fated K (rs ++ rest) → Fated (bookFrom treeWords K (rowCalls rs)) rest
 fated-last [] rest K f = f
-fated-last (r ∷ rs) rest K (fated-more e f) = rw (book-append K (r .calls) (callsOf rs)) (fated-last rs rest (bookFrom treeWords K (r .calls)) f)
+fated-last (r ∷ rs) rest K (fated-more e f) = rw (book-append K (r .calls) (rowCalls rs)) (fated-last rs rest (bookFrom treeWords K (r .calls)) f)
 
 pub fated-row : {K : List Pair} {r : Row} {rs : List Row} → Fated K (r ∷ rs) → Fate K (r .of) (r .outcome) (bookFrom treeWords K (r .calls))
 fated-row (fated-more e f) = e
@@ -128,14 +128,14 @@ fate-book (refuses r) = refl
 fate-book (strikes s) = refl
 fate-book (keeps t) = refl
 
-pub kept-book : {K : List Pair} {rs : List Row} → Fated K rs → bookFrom treeWords K (callsOf rs) ≡ keptOf rs ++ K
+pub kept-book : {K : List Pair} {rs : List Row} → Fated K rs → bookFrom treeWords K (rowCalls rs) ≡ keptPairs rs ++ K
 kept-book fated-none = refl
 kept-book {K} (fated-more {r = r} {rs = rs} e f) =
-    book-append K (r .calls) (callsOf rs) ∙ kept-book f ∙ ap (λ (l : List Pair). keptOf rs ++ l) (fate-book e) ∙ sym (append-assoc (keptOf rs) (keptOn (r .outcome) (r .of)) K)
+    book-append K (r .calls) (rowCalls rs) ∙ kept-book f ∙ ap (λ (l : List Pair). keptPairs rs ++ l) (fate-book e) ∙ sym (append-assoc (keptPairs rs) (keptOn (r .outcome) (r .of)) K)
 
 -- what was in the book stays in it
-stays : {K : List Pair} {rs : List Row} {p : Pair} → Fated K rs → List·Memᴰ p K → List·Memᴰ p (bookFrom treeWords K (callsOf rs))
-stays {rs = rs} f m = rw (kept-book f) (Memᴰ·append-right (keptOf rs) m)
+stays : {K : List Pair} {rs : List Row} {p : Pair} → Fated K rs → List·Memᴰ p K → List·Memᴰ p (bookFrom treeWords K (rowCalls rs))
+stays {rs = rs} f m = rw (kept-book f) (Memᴰ·append-right (keptPairs rs) m)
 
 -- as many as are counted
 fate-count : {K L : List Pair} {x : Record} {o : Outcome} (t : Totals) → Fate K x o L → t .kept ≡ length K → counted o t .kept ≡ length L
@@ -143,9 +143,9 @@ fate-count t (refuses r) e = e
 fate-count t (strikes s) e = e
 fate-count t (keeps k) e = omega arith
 
-pub kept-count : {K : List Pair} {rs : List Row} (t : Totals) → Fated K rs → t .kept ≡ length K → totalsWith t rs .kept ≡ length (bookFrom treeWords K (callsOf rs))
+pub kept-count : {K : List Pair} {rs : List Row} (t : Totals) → Fated K rs → t .kept ≡ length K → totalsWith t rs .kept ≡ length (bookFrom treeWords K (rowCalls rs))
 kept-count t fated-none h = h
-kept-count {K} t (fated-more {r = r} {rs = rs} e f) h = rw (book-append K (r .calls) (callsOf rs)) (kept-count (counted (r .outcome) t) f (fate-count t e h))
+kept-count {K} t (fated-more {r = r} {rs = rs} e f) h = rw (book-append K (r .calls) (rowCalls rs)) (kept-count (counted (r .outcome) t) f (fate-count t e h))
 
 -- each row is counted once
 abbrev sum : Totals → ℕ
@@ -164,8 +164,8 @@ rows-counted (r ∷ rs) t = omega (arith, rows-counted rs (counted (r .outcome) 
 kept-one : {o : Outcome} {x : Record} → IsKept o → List·Memᴰ (pairOf x) (keptOn o x)
 kept-one (u, e) = rw e (List·Memᴰ·head refl)
 
-pub kept-mem : (rs : List Row) (r : Row) → List·Memᴰ r rs → IsKept (r .outcome) → List·Memᴰ (pairOf (r .of)) (keptOf rs)
-kept-mem (s ∷ rs) r (List·Memᴰ·head e) k = Memᴰ·append-right (keptOf rs) (subst (λ (y : Row). List·Memᴰ (pairOf (r .of)) (keptOn (y .outcome) (y .of))) e (kept-one k))
+pub kept-mem : (rs : List Row) (r : Row) → List·Memᴰ r rs → IsKept (r .outcome) → List·Memᴰ (pairOf (r .of)) (keptPairs rs)
+kept-mem (s ∷ rs) r (List·Memᴰ·head e) k = Memᴰ·append-right (keptPairs rs) (subst (λ (y : Row). List·Memᴰ (pairOf (r .of)) (keptOn (y .outcome) (y .of))) e (kept-one k))
 kept-mem (s ∷ rs) r (List·Memᴰ·tail m) k = Memᴰ·append-left (keptOn (s .outcome) (s .of)) (kept-mem rs r m k)
 
 -- a row with a `kept` line, and this is its pair
@@ -180,11 +180,11 @@ mem-one (Kept u) x p m = ((u, refl), List·Memᴰ·eq-of-singleton m)
 mem-one (Struck n k) x p m = elim m [ ]
 mem-one (Refused c) x p m = elim m [ ]
 
-pub mem-kept : (rs : List Row) (p : Pair) → List·Memᴰ p (keptOf rs) → KeptRow rs p
+pub mem-kept : (rs : List Row) (p : Pair) → List·Memᴰ p (keptPairs rs) → KeptRow rs p
 mem-kept [] p m = elim m [ ]
-mem-kept (r ∷ rs) p m = go (List·Memᴰ·append-cases (keptOf rs) m) (mem-kept rs p)
+mem-kept (r ∷ rs) p m = go (List·Memᴰ·append-cases (keptPairs rs) m) (mem-kept rs p)
   where
-    go : List·Memᴰ p (keptOf rs) ⊎ List·Memᴰ p (keptOn (r .outcome) (r .of)) → (List·Memᴰ p (keptOf rs) → KeptRow rs p) → KeptRow (r ∷ rs) p
+    go : List·Memᴰ p (keptPairs rs) ⊎ List·Memᴰ p (keptOn (r .outcome) (r .of)) → (List·Memᴰ p (keptPairs rs) → KeptRow rs p) → KeptRow (r ∷ rs) p
     go (inl n) ih = let k = ih n in record { row = k .row; among = List·Memᴰ·tail (k .among); kept = k .kept; pair = k .pair }
     go (inr n) ih = let (k, e) = mem-one (r .outcome) (r .of) p n in record { row = r; among = List·Memᴰ·head refl; kept = k; pair = e }
 
@@ -200,9 +200,9 @@ fate-struck (strikes {n = m} s) n k e = let i : m ≡ n = cc in (s .striking, s 
 fate-struck (keeps t) n k e = let z : _≡_ {A = ℕ} 0 1 = cc in absurd (omega arith)
 
 pub struck-book : {K : List Pair} {rs : List Row} → Fated K rs → (r : Row) → List·Memᴰ r rs → (n k : ℕ) → r .outcome ≡ Struck n k
-    → StruckBy (bookFrom treeWords K (callsOf rs)) (r .of) n
+    → StruckBy (bookFrom treeWords K (rowCalls rs)) (r .of) n
 struck-book fated-none r m n k e = elim m [ ]
 struck-book {K} (fated-more {r = s} {rs = rs} d f) r (List·Memᴰ·head i) n k e =
     let (p, j, u, v) = fate-struck d n k (ap (λ (y : Row). y .outcome) (sym i) ∙ e) in
-    subst (λ (y : Row). StruckBy (bookFrom treeWords K (callsOf (s ∷ rs))) (y .of) n) (sym i) (p, stays {rs = s ∷ rs} (fated-more {r = s} d f) j, u, v)
-struck-book {K} (fated-more {r = s} {rs = rs} d f) r (List·Memᴰ·tail m) n k e = rw (book-append K (s .calls) (callsOf rs)) (struck-book f r m n k e)
+    subst (λ (y : Row). StruckBy (bookFrom treeWords K (rowCalls (s ∷ rs))) (y .of) n) (sym i) (p, stays {rs = s ∷ rs} (fated-more {r = s} d f) j, u, v)
+struck-book {K} (fated-more {r = s} {rs = rs} d f) r (List·Memᴰ·tail m) n k e = rw (book-append K (s .calls) (rowCalls rs)) (struck-book f r m n k e)

@@ -11,9 +11,9 @@ use Rattle.tree.specs.Entries.{Pair}
 use Rattle.tree.specs.Calls.{fresh}
 use Rattle.book.specs.Book.{Call, after, sliceOf, bookFrom, treeOf}
 use Rattle.record.specs.Answer.{treeWords, Record}
-use Rattle.record.specs.Output.{recordsOf, Row, rowOn, zeros, rowsOf, callsOf, none}
+use Rattle.record.specs.Output.{recordsOf, Row, rowOn, freshSlice, rowsOf, rowCalls, none}
 use Rattle.record.specs.Ruled.{pairOf, IsKept}
-use Rattle.record.specs.Sheet.{Bytes, bookAfter, keptOf, Stands, Place, Placed, Covers, Sheets, NoStrikeIsWrong}
+use Rattle.record.specs.Sheet.{Bytes, bookAfter, keptPairs, BookStands, RowAt, RowClaims, Covers, Sheets, NoStrikeIsWrong}
 use Rattle.tree.specs.declared.CallAnswer.the-variants.{Ready}
 use Rattle.clause.proofs.Order.{subsumes-refl}
 use Rattle.book.proofs.Holds.{holds-empty, fresh-layout, holds-numbers, holds-clauses}
@@ -28,21 +28,21 @@ unfolding fresh
 fresh-zeros n l h = rw (length-replicate {A = ℕ} n 0, le-leb 2 n l, le-leb n 65_536 h)
 
 -- fresh leaves it
-pub slice-from : (cs : List Call) → sliceOf zeros cs ≡ after zeros cs
+pub slice-from : (cs : List Call) → sliceOf freshSlice cs ≡ after freshSlice cs
 slice-from cs = ap (λ r. after (r .slice) cs) (fresh-zeros treeWords (omega arith) (omega arith))
 
-standing-none : Standing [] zeros
+standing-none : Standing [] freshSlice
 unfolding treeOf
 standing-none = record { holds = holds-empty treeWords (omega arith); slice = fresh-layout treeWords (omega arith) }
 
 -- ---- some rows
 
-module _ {rs : List Row} (m : Made zeros rs) where
-  standing : Standing (bookAfter rs) (after zeros (callsOf rs))
+module _ {rs : List Row} (m : Made freshSlice rs) where
+  standing : Standing (bookAfter rs) (after freshSlice (rowCalls rs))
   unfolding bookAfter
-  standing = standing-after (callsOf rs) [] zeros standing-none (made-fit m)
+  standing = standing-after (rowCalls rs) [] freshSlice standing-none (made-fit m)
 
-  stands : Stands rs
+  stands : BookStands rs
   stands =
       record {
         calls = record { ready = ap (λ r. r .answer) (fresh-zeros treeWords (omega arith) (omega arith)); fit = made-fit m };
@@ -51,19 +51,19 @@ module _ {rs : List Row} (m : Made zeros rs) where
       }
 
 -- the book after some rows is what the `kept` lines say
-book-kept : {rs : List Row} → Fated [] rs → bookAfter rs ≡ keptOf rs
+book-kept : {rs : List Row} → Fated [] rs → bookAfter rs ≡ keptPairs rs
 unfolding bookAfter
-book-kept {rs} f = kept-book f ∙ append-nil (keptOf rs)
+book-kept {rs} f = kept-book f ∙ append-nil (keptPairs rs)
 
 -- ---- one row
 
-calls-more : (rs : List Row) (r : Row) → callsOf (rs ++ (r ∷ [])) ≡ callsOf rs ++ r .calls
+calls-more : (rs : List Row) (r : Row) → rowCalls (rs ++ (r ∷ [])) ≡ rowCalls rs ++ r .calls
 calls-more [] r = append-nil (r .calls)
-calls-more (s ∷ rs) r = ap (λ (l : List Call). s .calls ++ l) (calls-more rs r) ∙ sym (append-assoc (s .calls) (callsOf rs) (r .calls))
+calls-more (s ∷ rs) r = ap (λ (l : List Call). s .calls ++ l) (calls-more rs r) ∙ sym (append-assoc (s .calls) (rowCalls rs) (r .calls))
 
 book-more : (rs : List Row) (r : Row) → bookAfter (rs ++ (r ∷ [])) ≡ bookFrom treeWords (bookAfter rs) (r .calls)
 unfolding bookAfter
-book-more rs r = ap (bookFrom treeWords []) (calls-more rs r) ∙ book-append [] (callsOf rs) (r .calls)
+book-more rs r = ap (bookFrom treeWords []) (calls-more rs r) ∙ book-append [] (rowCalls rs) (r .calls)
 
 -- a clause of the book has a row with a `kept` line
 earlier-row : (rs : List Row) → Fated [] rs → (x : Record) (n : ℕ) → StruckBy (bookAfter rs) x n
@@ -72,8 +72,8 @@ earlier-row rs f x n (p, m, i, s) =
     let k = mem-kept rs p (rw (book-kept f) at m) in
     (k .row, k .among, k .kept, sym (ap (λ (q : Pair). q .number) (k .pair)) ∙ i, rw (ap (λ (q : Pair). q .clause) (k .pair)) at s)
 
-module _ {rs : List Row} (m : Made zeros rs) (f : Fated [] rs) (a : Place rs) where
-  made-here : Made zeros (a .before ++ (a .this ∷ a .after))
+module _ {rs : List Row} (m : Made freshSlice rs) (f : Fated [] rs) (a : RowAt rs) where
+  made-here : Made freshSlice (a .before ++ (a .this ∷ a .after))
   made-here = rw (a .whole) at m
 
   fated-here : Fated [] (a .before ++ (a .this ∷ a .after))
@@ -83,11 +83,11 @@ module _ {rs : List Row} (m : Made zeros rs) (f : Fated [] rs) (a : Place rs) wh
   unfolding bookAfter
   fate-here = rw (book-more (a .before) (a .this)) (fated-row (fated-last (a .before) (a .this ∷ a .after) [] fated-here))
 
-  placed : Placed a
+  placed : RowClaims a
   placed =
       record {
-        asked = made-row (made-last (a .before) (a .this ∷ a .after) zeros made-here) ∙ ap (λ (T : List ℕ). rowOn T (a .this .of)) (sym (slice-from (callsOf (a .before))));
-        stands = stands (made-first (a .before) (a .this ∷ a .after) zeros made-here);
+        asked = made-row (made-last (a .before) (a .this ∷ a .after) freshSlice made-here) ∙ ap (λ (T : List ℕ). rowOn T (a .this .of)) (sym (slice-from (rowCalls (a .before))));
+        stands = stands (made-first (a .before) (a .this ∷ a .after) freshSlice made-here);
         ruled = ruled fate-here;
         earlier = λ n k e. earlier-row (a .before) (fated-first (a .before) (a .this ∷ a .after) [] fated-here) (a .this .of) n (fate-struck fate-here n k e);
       }
@@ -95,9 +95,9 @@ module _ {rs : List Row} (m : Made zeros rs) (f : Fated [] rs) (a : Place rs) wh
 -- ---- the whole input
 
 -- the rows of the input
-rows-made : (input : List ℕ) → Bytes input → Made zeros (rowsOf input)
+rows-made : (input : List ℕ) → Bytes input → Made freshSlice (rowsOf input)
 unfolding rowsOf
-rows-made input b = made zeros (recordsOf input) (input-fits input b)
+rows-made input b = made freshSlice (recordsOf input) (input-fits input b)
 
 rows-fated : (input : List ℕ) → Bytes input → Fated [] (rowsOf input)
 rows-fated input b = fated [] standing-none (rows-made input b)
@@ -122,8 +122,8 @@ sheets input b =
     let f = rows-fated input b in
     record {
       reads = complete input;
-      rows = rows-records zeros (recordsOf input);
-      counts = omega (arith, rows-counted (rowsOf input) none, length-map (rowsOf input) (λ (r : Row). r .of), ap length (rows-records zeros (recordsOf input)));
+      rows = rows-records freshSlice (recordsOf input);
+      counts = omega (arith, rows-counted (rowsOf input) none, length-map (rowsOf input) (λ (r : Row). r .of), ap length (rows-records freshSlice (recordsOf input)));
       placed = placed m f;
       stands = stands m;
       covers = covers input f;

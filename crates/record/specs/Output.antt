@@ -53,17 +53,17 @@ rowsFrom T [] = []
 rowsFrom T (x ∷ xs) = rowOn T x ∷ rowsFrom (answered T x .slice) xs
 
 -- the slice before the first record: fresh, all zeros
-abbrev pub zeros : List ℕ
-zeros = replicate treeWords 0
+abbrev pub freshSlice : List ℕ
+freshSlice = replicate treeWords 0
 
 -- the rows of an input
 unfoldable pub rowsOf : (input : List ℕ) → List Row
-rowsOf bs = rowsFrom zeros (recordsOf bs)
+rowsOf bs = rowsFrom freshSlice (recordsOf bs)
 
 -- the calls of some rows
-abbrev pub callsOf : List Row → List Call
-callsOf [] = []
-callsOf (r ∷ rs) = r .calls ++ callsOf rs
+abbrev pub rowCalls : List Row → List Call
+rowCalls [] = []
+rowCalls (r ∷ rs) = r .calls ++ rowCalls rs
 
 -- ---- what is printed
 

@@ -12,7 +12,7 @@ use Rattle.walk.specs.Covering.{Subsumed}
 use Rattle.book.specs.Book.{sliceOf, bookOf}
 use Rattle.book.specs.Claims.{Run}
 use Rattle.record.specs.Answer.{treeWords, Record}
-use Rattle.record.specs.Output.{fields, recordsOf, Row, rowOn, zeros, rowsOf, callsOf, totalsWith, none}
+use Rattle.record.specs.Output.{fields, recordsOf, Row, rowOn, freshSlice, rowsOf, rowCalls, totalsWith, none}
 use Rattle.record.specs.Ruled.{pairOf, IsKept, IsStruck, Ruled}
 use Rattle.record.specs.declared.Outcome.{Outcome}
 use Rattle.record.specs.declared.Outcome.the-variants.{Kept, Struck, Refused}
@@ -25,7 +25,7 @@ Bytes = All (λ b. b < 256)
 
 -- the clause book that their calls leave
 unfoldable pub bookAfter : List Row → List Pair
-bookAfter rs = bookOf treeWords (callsOf rs)
+bookAfter rs = bookOf treeWords (rowCalls rs)
 
 -- the pair of a record, if it is kept
 abbrev pub keptOn : Outcome → Record → List Pair
@@ -34,30 +34,30 @@ keptOn (Struck n k) x = []
 keptOn (Refused code) x = []
 
 -- the pairs of those with a `kept` line, the last one first
-abbrev pub keptOf : List Row → List Pair
-keptOf [] = []
-keptOf (r ∷ rs) = keptOf rs ++ keptOn (r .outcome) (r .of)
+abbrev pub keptPairs : List Row → List Pair
+keptPairs [] = []
+keptPairs (r ∷ rs) = keptPairs rs ++ keptOn (r .outcome) (r .of)
 
 -- their calls are a list of which `Reach`, `Demand2` and `Demand3` speak; in the book they leave, numbers differ and no two clauses are variants
-pub record Stands (rs : List Row) : Type 0 where
-  pub calls : Run zeros (callsOf rs)
+pub record BookStands (rs : List Row) : Type 0 where
+  pub calls : Run freshSlice (rowCalls rs)
   pub numbers : Each (λ p q. p .number ≢ q .number) (bookAfter rs)
   pub clauses : Each (λ p q. Variants (p .clause) (q .clause) → ⊥) (bookAfter rs)
 
 -- ---- one row
 
 -- one row of some, with those before it and those after it
-pub record Place (rs : List Row) : Type 0 where
+pub record RowAt (rs : List Row) : Type 0 where
   pub before : List Row
   pub this : Row
   pub after : List Row
   pub whole : rs ≡ before ++ (this ∷ after)
 
 -- what is claimed of it
-pub record Placed {rs : List Row} (a : Place rs) : Type 0 where
+pub record RowClaims {rs : List Row} (a : RowAt rs) : Type 0 where
   -- it is the row of its record, asked on the slice that the calls of the rows before it leave
-  pub asked : a .this ≡ rowOn (sliceOf zeros (callsOf (a .before))) (a .this .of)
-  pub stands : Stands (a .before)
+  pub asked : a .this ≡ rowOn (sliceOf freshSlice (rowCalls (a .before))) (a .this .of)
+  pub stands : BookStands (a .before)
   -- the book before it rules it
   pub ruled : Ruled (bookAfter (a .before)) (a .this .of) (a .this .outcome) (bookAfter (a .before ++ (a .this ∷ [])))
   -- where it is struck, an earlier row says that the number was kept, and the clause of that row subsumes this one's
@@ -90,7 +90,7 @@ pub record Covers (input : List ℕ) : Type 0 where
   pub named : (r : Row) → List·Memᴰ r (rowsOf input) → (n k : ℕ) → r .outcome ≡ Struck n k
       → (p : Pair) × List·Memᴰ p (bookAfter (rowsOf input)) × (p .number ≡ n) × Subsumes (p .clause) (r .of .words)
   -- the pairs of the last book are exactly the records with a `kept` line, as many as the last line says
-  pub pairs : bookAfter (rowsOf input) ≡ keptOf (rowsOf input)
+  pub pairs : bookAfter (rowsOf input) ≡ keptPairs (rowsOf input)
   pub many : totalsWith none (rowsOf input) .kept ≡ length (bookAfter (rowsOf input))
 
 -- what is claimed of an input; `outputOf` is the lines of its rows, and their totals
@@ -100,8 +100,8 @@ pub record Sheet (input : List ℕ) : Type 0 where
   pub rows : map (λ r. r .of) (rowsOf input) ≡ recordsOf input
   pub counts : let t = totalsWith none (rowsOf input) in t .kept + t .struck + t .refused ≡ length (recordsOf input)
   -- each row in its place, and the last book
-  pub placed : (a : Place (rowsOf input)) → Placed a
-  pub stands : Stands (rowsOf input)
+  pub placed : (a : RowAt (rowsOf input)) → RowClaims a
+  pub stands : BookStands (rowsOf input)
   pub covers : Covers input
 
 -- the claim

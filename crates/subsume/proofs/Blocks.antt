@@ -8,16 +8,16 @@ use Rattle.clause.specs.Clause.{maxWords}
 use Rattle.record.specs.Text.{Written, written}
 use Rattle.record.specs.Line.{longestLine, longestLast, totalsLine}
 use Rattle.lines.proofs.Writing.{text-there}
-use Rattle.feeding.specs.Feed.{Store, Fed, feed, opening, opened}
+use Rattle.feeding.specs.Feed.{Store, Fed, feed, firstSession, firstStore}
 use Rattle.feeding.specs.inner.Steady.{Steady, recordsIn, Ready}
 use Rattle.feeding.specs.declared.Session.{Session}
 use Rattle.feeding.proofs.Blocks.{feed-append, feed-records}
 use Rattle.feeding.proofs.Steady.{steady-fresh}
-use Rattle.subsume.specs.Run.{blockBytes, mostBlocks, Stands, LastLine}
+use Rattle.subsume.specs.Run.{blockBytes, mostBlocks, FedSoFar, LastLine}
 
 -- where the run is before a block: what was fed, what holds from record to record, and the blocks that may still come
 pub record Running (session : Session) (store : Store) (blocks : ℕ) : Type 0 where
-  pub stands : Stands session store
+  pub stands : FedSoFar session store
   pub steady : Steady (store .slice) (store .marks)
   pub words : length (store .words) ≡ maxWords
   pub counts : recordsIn (session .totals) + blocks * blockBytes ≤ mostBlocks * blockBytes
@@ -30,8 +30,8 @@ pub enough : blockBytes * longestLine ≤ 737_280
 enough = omega arith
 
 -- before the first block
-pub running-none : {s : Session} {m : Store} → s ≡ opening → m ≡ opened → Running s m mostBlocks
-unfolding feed opened
+pub running-none : {s : Session} {m : Store} → s ≡ firstSession → m ≡ firstStore → Running s m mostBlocks
+unfolding feed firstStore
 running-none e f =
     record { stands = record { bytes = []; read = e; lent = f }; steady = rw f steady-fresh; words = rw f (length-replicate {A = ℕ} maxWords 0); counts = rw e (omega arith) }
 
@@ -46,8 +46,8 @@ pub running-more : {s s′ : Session} {m m′ : Store} {n n′ : ℕ} {t : List 
     → Running s′ m′ n′
 running-more {s} {s′} {m} {m′} block r h l e d w =
     let b : List ℕ = r .stands .bytes in
-    let q : feed s m block ≡ feed (feed opening opened b .session) (feed opening opened b .store) block = ap₂ (λ (x : Session) (y : Store). feed x y block) (r .stands .read) (r .stands .lent) in
-    let a = feed-append b block opening opened in
+    let q : feed s m block ≡ feed (feed firstSession firstStore b .session) (feed firstSession firstStore b .store) block = ap₂ (λ (x : Session) (y : Store). feed x y block) (r .stands .read) (r .stands .lent) in
+    let a = feed-append b block firstSession firstStore in
     let u : s′ ≡ feed s m block .session = ap (λ (f : Fed). f .session) e in
     let n : recordsIn (s′ .totals) ≤ recordsIn (s .totals) + length block = rw u (feed-records block s m) in
     record {
@@ -63,7 +63,7 @@ running-more {s} {s′} {m} {m′} block r h l e d w =
     }
 
 -- the last line
-pub last-line : {s : Session} {m : Store} (o : List ℕ) {r : ℕ} {p : List ℕ} → Stands s m
+pub last-line : {s : Session} {m : Store} (o : List ℕ) {r : ℕ} {p : List ℕ} → FedSoFar s m
     → _≡_ {A = Written} (record { next = r; output = p }) (written (totalsLine (s .totals)) o 0) → r ≤ longestLast → longestLast ≤ length o → LastLine m p r
 last-line {s} o h e l k =
     let n : length (totalsLine (s .totals)) ≤ length o = omega (arith, ap (λ (w : Written). w .next) e) in

@@ -4,7 +4,7 @@ use mathlib.Core.List.{List}
 use Prim.Native.Nat.{ℕ, _*_, _≤_}
 use lib.ListN.{length, take}
 use Rattle.record.specs.Line.{longestLine, totalsLine}
-use Rattle.feeding.specs.Feed.{Store, feed, opening, opened}
+use Rattle.feeding.specs.Feed.{Store, feed, firstSession, firstStore}
 use Rattle.feeding.specs.declared.Session.{Session}
 
 -- the most bytes of a block
@@ -20,14 +20,14 @@ pub record Buffers (input output : List ℕ) : Type 0 where
   pub block : length input ≡ blockBytes
   pub room : blockBytes * longestLine ≤ length output
 
--- some bytes were fed from the opening on, and left the session and the lent words
-pub record Stands (session : Session) (store : Store) : Type 0 where
+-- some bytes were fed from the start on, and left the session and the lent words
+pub record FedSoFar (session : Session) (store : Store) : Type 0 where
   pub bytes : List ℕ
-  pub read : session ≡ feed opening opened bytes .session
-  pub lent : store ≡ feed opening opened bytes .store
+  pub read : session ≡ feed firstSession firstStore bytes .session
+  pub lent : store ≡ feed firstSession firstStore bytes .store
 
 -- the lent words are those that some bytes left, and the output begins with their last line, which ends at a place
 pub record LastLine (store : Store) (output : List ℕ) (end : ℕ) : Type 0 where
   pub bytes : List ℕ
-  pub lent : store ≡ feed opening opened bytes .store
-  pub line : take end output ≡ totalsLine (feed opening opened bytes .session .totals)
+  pub lent : store ≡ feed firstSession firstStore bytes .store
+  pub line : take end output ≡ totalsLine (feed firstSession firstStore bytes .session .totals)

@@ -12,10 +12,10 @@ use lines::put_totals;
 ghost use mathlib.Core.Path.{_≡_};
 ghost use Prim.Native.Nat.{_≤_, _<_};
 ghost use lib.ListN.{length, take};
-ghost use Rattle.feeding.specs.Feed.{storeOf, opened};
+ghost use Rattle.feeding.specs.Feed.{storeOf, firstStore};
 ghost use Rattle.feeding.specs.inner.Steady.{Steady, Ready};
 ghost use Rattle.feeding.specs.Feed.{feed as Feed·feed};
-ghost use Rattle.subsume.specs.Run.{Buffers, Stands, LastLine};
+ghost use Rattle.subsume.specs.Run.{Buffers, FedSoFar, LastLine};
 
 // The limits of a run.
 struct Limit {}
@@ -131,8 +131,8 @@ fn feed_all(
     words: &mut [u16],
     output: &mut [u8],
 ) -> Fed
-    requires { ⌜ Buffers (now input) (now output) × (storeOf (now words) (now tree) (now marks) ≡ opened) ⌝ }
-    ensures { λ r. ⌜ Stands (r .session) (storeOf (now (words .exit)) (now (tree .exit)) (now (marks .exit))) ⌝ }
+    requires { ⌜ Buffers (now input) (now output) × (storeOf (now words) (now tree) (now marks) ≡ firstStore) ⌝ }
+    ensures { λ r. ⌜ FedSoFar (r .session) (storeOf (now (words .exit)) (now (tree .exit)) (now (marks .exit))) ⌝ }
 {
     let mut here = Fed {
         session: begin(),
@@ -159,7 +159,7 @@ fn run(
     words: &mut [u16],
     output: &mut [u8],
 ) -> usize
-    requires { ⌜ Buffers (now input) (now output) × (storeOf (now words) (now tree) (now marks) ≡ opened) ⌝ }
+    requires { ⌜ Buffers (now input) (now output) × (storeOf (now words) (now tree) (now marks) ≡ firstStore) ⌝ }
     ensures { λ r. ⌜ LastLine (storeOf (now (words .exit)) (now (tree .exit)) (now (marks .exit))) (now (output .exit)) r ⌝ }
 {
     let all = feed_all(input, tree, marks, words, output);

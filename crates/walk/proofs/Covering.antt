@@ -14,7 +14,7 @@ use Rattle.tree.specs.Entries.{Mirrors, Pair, Sound, entry}
 use Rattle.walk.specs.Walk.{Answer, covered, notCovered, upTo, always, walk}
 use Rattle.walk.specs.Ceiling.{ceiling}
 use Rattle.walk.specs.Query.{machine, witnessWords, shown, written, unanswered, told, query}
-use Rattle.walk.specs.Covering.{most, Subsumed, Shows, counted, candidates, IsSpent, Answers}
+use Rattle.walk.specs.Covering.{most, Subsumed, Shows, countOf, candidates, IsSpent, Answers}
 use Rattle.clause.proofs.Lists.{mem-index, index-mem}
 use Rattle.tree.proofs.Words.{length-layout, header-layout, region-layout}
 use Rattle.walk.proofs.Paths.{Finds}
@@ -40,7 +40,7 @@ shows-subsumes c d W S =
     record { replace = S .replace; terms = S .terms; covered = λ l m. let (i, h, e) = mem-index [] m in let (j, f) = S .literal i h in rw (e, f) (index-mem (literals d) (getD W i 0) [] j) }
 
 -- the ceiling bounds the count, where there is one
-counted-le : {x : ℕ} {a : Answer State} → Counts (λ c. c ≤ x) a → counted a ≤ x
+counted-le : {x : ℕ} {a : Answer State} → Counts (λ c. c ≤ x) a → countOf a ≤ x
 counted-le (of-covered h) = h
 counted-le (of-notCovered h) = h
 counted-le of-spent = omega arith
@@ -98,7 +98,7 @@ module _ (K : List Pair) (F : Forest) (S : All Sound K) (R : Mirrors F (map entr
     answers-from (covered n t c) a′ e (found g) (as-covered h) u =
         let is : query T d b W .answer ≡ Covered n c = ap (λ x. x .answer) u in
         let words : query T d b W .witness ≡ written (shown t) W = ap (λ x. x .witness) u in
-        let all : candidates F d ≡ c = ap counted e in
+        let all : candidates F d ≡ c = ap countOf e in
         let (p, m, at, S′, spared) = finds-shows K F S R d D n t g W long in
         record {
           kinds = inl (n, c, is);
@@ -113,12 +113,12 @@ module _ (K : List Pair) (F : Forest) (S : All Sound K) (R : Mirrors F (map entr
           bounded = kept-bounded;
         }
     answers-from (covered n t c) a′ e (found g) (over (of-covered h)) u =
-        let all : candidates F d ≡ c = ap counted e in
+        let all : candidates F d ≡ c = ap countOf e in
         over-budget u (omega arith)
     answers-from (notCovered c) a′ e (nothing g) (as-notCovered h) u =
         let is : query T d b W .answer ≡ NotCovered c = ap (λ x. x .answer) u in
         let words : query T d b W .witness ≡ W = ap (λ x. x .witness) u in
-        let all : candidates F d ≡ c = ap counted e in
+        let all : candidates F d ≡ c = ap countOf e in
         let none : Subsumed K d → ⊥ = λ v. let (t, f) = subsumes-finds K F S R d D (v .0) (v .1) (v .2) in g (v .0 .number) t f in
         record {
           kinds = inr (inl (c, is));
@@ -133,7 +133,7 @@ module _ (K : List Pair) (F : Forest) (S : All Sound K) (R : Mirrors F (map entr
           bounded = kept-bounded;
         }
     answers-from (notCovered c) a′ e (nothing g) (over (of-notCovered h)) u =
-        let all : candidates F d ≡ c = ap counted e in
+        let all : candidates F d ≡ c = ap countOf e in
         over-budget u (omega arith)
 
   -- the queries of a tree that keeps some clauses

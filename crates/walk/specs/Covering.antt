@@ -42,15 +42,15 @@ pub record Untouched (c witness witness′ : List ℕ) : Type 0 where
 
 -- the count of an answer. The zeros stand for no count: the walk without a budget is never spent, and where Answers holds it is not broken, since
 -- with enough budget (`bounded`) the query is answered (`kinds`, `spends`) with just this count (`counts`, `counts-not`)
-abbrev pub counted : Answer State → ℕ
-counted (covered n s c) = c
-counted (notCovered c) = c
-counted spent = 0
-counted broken = 0
+abbrev pub countOf : Answer State → ℕ
+countOf (covered n s c) = c
+countOf (notCovered c) = c
+countOf spent = 0
+countOf broken = 0
 
 -- the candidates that the walk takes without a budget
 abbrev pub candidates : Forest → (clause : List ℕ) → ℕ
-candidates F d = counted (walk (machine d) always F initial 0)
+candidates F d = countOf (walk (machine d) always F initial 0)
 
 -- a query is answered covered
 abbrev pub IsCovered : (slice clause : List ℕ) (budget : ℕ) (witness : List ℕ) → Type 0

@@ -1,7 +1,7 @@
 -- `ct_ceiling` meets its contract: the call is made, and its answer handed over.
 use mathlib.Core.Path.{ap, _∙_}
 use Rattle.book.specs.Table.{saidCeiling}
-use Rattle.codetree.specs.Told.{answered}
+use Rattle.codetree.specs.Told.{replied}
 use Rattle.codetree.specs.Calls.{ctCeiling}
 use borrow.Author.Needs.{needs}
 use Rattle.codetree.proofs.ct_ceiling.Statement.{statement}
@@ -18,7 +18,7 @@ same-length c = search needs
 
 returns : tie.Need-returns
 unfolding ctCeiling
-returns c = c .before .before .hand-ceiling .ensures ∙ ap (λ y. answered (saidCeiling y) (c .before .before .before .before .before .before .args .told .now)) (c .before .before .before .before .ceiling .ensures)
+returns c = c .before .before .hand-ceiling .ensures ∙ ap (λ y. replied (saidCeiling y) (c .before .before .before .before .before .before .args .told .now)) (c .before .before .before .before .ceiling .ensures)
 
 pub ct-ceiling-spec : {M : Type 1} → statement M
 ct-ceiling-spec = tie.close (tie.spec ceiling-requires hand-ceiling-requires same-length returns)

@@ -20,14 +20,14 @@ use Rattle.feeding.specs.declared.Step.{Step}
 use Rattle.feeding.specs.Feed.{numberCount, Store, storeOf, Fed, marked, proceeding, feed}
 
 -- what was fed, with its text put into the output from a place on
-pub record Placed : Type 0 where
+pub record FedInto : Type 0 where
   pub session : Session
   pub store : Store
   pub written : Written
 
 -- the text of what was fed put into the output
-abbrev pub placedAt : Fed → (output : List ℕ) (at : ℕ) → Placed
-placedAt f o at = record { session = f .session; store = f .store; written = written (f .text) o at }
+abbrev pub fedInto : Fed → (output : List ℕ) (at : ℕ) → FedInto
+fedInto f o at = record { session = f .session; store = f .store; written = written (f .text) o at }
 
 -- what holds of the slice and the marks from record to record: the slice is well laid, and a number is marked exactly if a Success has it
 pub record Steady (slice marks : List ℕ) : Type 0 where
@@ -38,7 +38,7 @@ pub record Steady (slice marks : List ℕ) : Type 0 where
   pub taken : (n : ℕ) → n < numberCount → find n (decode slice) ≡ none → getD marks n 0 ≡ 0
 
 -- a record came out as it should: the outcome and the slice, the marks, and what holds from record to record
-pub record Answers (expected : Answered) (number : ℕ) (before : List ℕ) (outcome : Outcome) (slice marks : List ℕ) : Type 0 where
+pub record CameOut (expected : Answered) (number : ℕ) (before : List ℕ) (outcome : Outcome) (slice marks : List ℕ) : Type 0 where
   pub answer : record { outcome = outcome; slice = slice } ≡ expected
   pub marking : marks ≡ marked outcome number before
   pub steady : Steady slice marks
@@ -56,7 +56,7 @@ pub record Ready (store : Store) (totals : Totals) (bytes at : ℕ) (output : Li
 
 -- some bytes were fed as they should be: the session, the lent words and the output; what holds from record to record; at most a line a byte
 pub record Took (expected : Fed) (bytes at : ℕ) (output : List ℕ) (session : Session) (store : Store) (written : Written) : Type 0 where
-  pub placed : record { session = session; store = store; written = written } ≡ placedAt expected output at
+  pub placed : record { session = session; store = store; written = written } ≡ fedInto expected output at
   pub steady : Steady (store .slice) (store .marks)
   pub short : written .next ≤ at + bytes * longestLine
 

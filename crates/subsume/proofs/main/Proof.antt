@@ -1,8 +1,8 @@
--- The buffers, all zeros: what is opened.
+-- The buffers, all zeros: what the first store has.
 use mathlib.Core.Path.{refl, sym}
 use Prim.Native.Nat.{ℕ}
 use lib.ListN.{length-replicate}
-use Rattle.feeding.specs.Feed.{opened}
+use Rattle.feeding.specs.Feed.{firstStore}
 use Rattle.subsume.proofs.Blocks.{room-in, enough}
 use borrow.Author.Needs.{needs}
 use Rattle.subsume.proofs.main.Statement.{statement}
@@ -24,7 +24,7 @@ slice-aggregate-run-5 : tie.Need-slice-aggregate-run-5
 slice-aggregate-run-5 c = sym (length-replicate {A = ℕ} 737_280 0)
 
 run-requires : tie.Need-run-requires
-unfolding opened
+unfolding firstStore
 run-requires c κs = (record { block = refl; room = room-in 737_280 enough }, refl)
 
 returns : tie.Need-returns
