@@ -143,7 +143,14 @@ module _ (d rest : List ℕ) (from : ℕ) (js : List ℕ) where
         let m : Moved d s q (way (arity w) l saved n) = move d D s p q n (enough-here d _ p (r .enough)) (arity w) l saved o (omega arith) (r .pushes) (r .stands) in
         agrees-kept (m .keeps) (m .moves _ js)
         (ih _ puts′ _ q (m .state)
-        record { shaped = rw need-way (shaped-tail (r .shaped)); enough = rw need-way e; stands = m .stands; put-room = omega arith; push-room = omega (arith, pushed-way (arity w) l saved n); pushes = m .keeps .pushes ∙ r .pushes })
+        record {
+          shaped = rw need-way (shaped-tail (r .shaped));
+          enough = rw need-way e;
+          stands = m .stands;
+          put-room = omega arith;
+          push-room = omega (arith, pushed-way (arity w) l saved n);
+          pushes = m .keeps .pushes ∙ r .pushes;
+        })
 
     -- a variable takes the whole term at p
     reach-variable : (s : State) → sort w ≡ variable → Ready (w ∷ ws) (inside l saved) puts n p s

@@ -20,10 +20,10 @@ open-on s keys e =
     (sym (ap (λ b. cond b s (atHead s)) e), let h : openingKeys (s .inside) ≡ [] = ap openingKeys e in rw h (stored-none keys (s .written)))
 
 pub open-new : (s : Spot) (keys : List ℕ) → s .inside ≡ false
-    → (atHead s ≡ opened s) × Stored (openingKeys (s .inside)) keys (s .written) (set keys (s .written) 4294967296) (s .written + 1)
+    → (atHead s ≡ opened s) × Stored (openingKeys (s .inside)) keys (s .written) (set keys (s .written) 0x1_0000_0000) (s .written + 1)
 unfolding key
 open-new s keys e =
-    (sym (ap (λ b. cond b s (atHead s)) e), let h : openingKeys (s .inside) ≡ 4294967296 ∷ [] = ap openingKeys e in rw h (record { after-is = refl; end-is = refl }))
+    (sym (ap (λ b. cond b s (atHead s)) e), let h : openingKeys (s .inside) ≡ 0x1_0000_0000 ∷ [] = ap openingKeys e in rw h (record { after-is = refl; end-is = refl }))
 
 -- the positions to come back to: none of them is at or above the depth
 saved-set : (saved : List ℕ) (d x k : ℕ) → k ≤ d → savedIn (set saved d x) k ≡ savedIn saved k
@@ -102,7 +102,7 @@ module _ (a : ℕ) (s : Spot) (saved keys : List ℕ) (within : s .inside ≡ tr
   pub went-push : 0 < a → 0 < s .left → s .depth < length saved
       → Went here s
       (record { inside = s .inside; left = a - 1; depth = s .depth + 1; pushed = s .pushed + 1; count = s .count; from = s .from; written = s .written + 2 })
-      (set saved (s .depth) (s .pushed * 8 + (s .left - 1))) keys (set (set keys (s .written) (21474836480 + s .pushed)) (s .written + 1) 8589934592)
+      (set saved (s .depth) (s .pushed * 8 + (s .left - 1))) keys (set (set keys (s .written) (0x5_0000_0000 + s .pushed)) (s .written + 1) 0x2_0000_0000)
   unfolding key
   went-push h g r =
       rw (way-push a (s .left) (savedIn saved (s .depth)) (s .pushed) h g)
@@ -120,7 +120,7 @@ module _ (a : ℕ) (s : Spot) (saved keys : List ℕ) (within : s .inside ≡ tr
   pub went-down : 0 < a → s .left ≡ 0
       → Went here s
       (record { inside = s .inside; left = a - 1; depth = s .depth; pushed = s .pushed; count = s .count; from = s .from; written = s .written + 1 })
-      saved keys (set keys (s .written) 8589934592)
+      saved keys (set keys (s .written) 0x2_0000_0000)
   unfolding key
   went-down h g =
       rw (ap (λ l. way a l (savedIn saved (s .depth)) (s .pushed)) g ∙ way-down a (savedIn saved (s .depth)) (s .pushed) h)
@@ -138,7 +138,7 @@ module _ (a : ℕ) (s : Spot) (saved keys : List ℕ) (within : s .inside ≡ tr
   pub went-right : a ≡ 0 → 0 < s .left
       → Went here s
       (record { inside = s .inside; left = s .left - 1; depth = s .depth; pushed = s .pushed; count = s .count; from = s .from; written = s .written + 1 })
-      saved keys (set keys (s .written) 12884901888)
+      saved keys (set keys (s .written) 0x3_0000_0000)
   unfolding key
   went-right e g =
       rw (ap (λ a. way a (s .left) (savedIn saved (s .depth)) (s .pushed)) e ∙ way-right (s .left) (savedIn saved (s .depth)) (s .pushed) g)
@@ -156,7 +156,7 @@ module _ (a : ℕ) (s : Spot) (saved keys : List ℕ) (within : s .inside ≡ tr
   pub went-pop : a ≡ 0 → s .left ≡ 0 → 0 < s .depth
       → Went here s
       (record { inside = s .inside; left = getD saved (s .depth - 1) 0 % 8; depth = s .depth - 1; pushed = s .pushed; count = s .count; from = s .from; written = s .written + 1 })
-      saved keys (set keys (s .written) (25769803776 + getD saved (s .depth - 1) 0 / 8))
+      saved keys (set keys (s .written) (0x6_0000_0000 + getD saved (s .depth - 1) 0 / 8))
   unfolding key
   went-pop e f h =
       rw (ap₂ (λ a l. way a l (savedIn saved (s .depth)) (s .pushed)) e f ∙ ap (λ v. way 0 0 v (s .pushed)) (saved-top saved (s .depth) h) ∙ way-pop _ _ _)

@@ -13,7 +13,7 @@ use Rattle.clause.specs.Word.{arity}
 use Rattle.machine.specs.Instr.{Do, key}
 use Rattle.machine.specs.Compile.{Place, ended, inside, Way, way, wayFrom, opening, begun, closing, act, putsAfter, sequenceFrom, sequence, keys}
 use Rattle.machine.specs.Compiled.{maxKeys, Compiled}
-use Rattle.machine.specs.inner.Compiling.{firstsOf, compareKeys, savedIn, placeOf, openingKeys, opened, stepKeys, toCome, Stored, Acted, Went, Ready, Advanced}
+use Rattle.machine.specs.inner.Compiling.{firstsOf, compareKeys, savedIn, placeAt, openingKeys, opened, stepKeys, toCome, Stored, Acted, Went, Ready, Advanced}
 use Rattle.machine.specs.declared.Spot.{Spot}
 use Rattle.machine.proofs.Stores.{stored-none, stored-append, stored-length}
 use Rattle.machine.proofs.Rows.{compare-keys}
@@ -49,13 +49,13 @@ allKeys ws s o saved puts w =
     openingKeys (s .inside) ++ (key (Do (act puts w)) ∷ (stepKeys (wayAt o saved w .steps) ++ (closingKeys o saved puts w ++ after ws o saved puts w)))
 
 keys-spot : (w : ℕ) (ws : List ℕ) (s : Spot) (saved puts : List ℕ) → length puts ≡ s .count
-    → map key (sequenceFrom (w ∷ ws) (placeOf s saved) puts (s .from) (s .pushed)) ≡ allKeys ws s (opened s) saved puts w
+    → map key (sequenceFrom (w ∷ ws) (placeAt s saved) puts (s .from) (s .pushed)) ≡ allKeys ws s (opened s) saved puts w
 unfolding after closingKeys opening begun wayFrom savedIn
 keys-spot w ws s saved puts e = go (s .inside) (s .left) (s .depth) (s .pushed) (s .count) (s .from) (s .written) e
   where
     go : (b : Bool) (l d n c f k : ℕ) → length puts ≡ c
         → let s : Spot = record { inside = b; left = l; depth = d; pushed = n; count = c; from = f; written = k } in
-        map key (sequenceFrom (w ∷ ws) (placeOf s saved) puts f n) ≡ allKeys ws s (opened s) saved puts w
+        map key (sequenceFrom (w ∷ ws) (placeAt s saved) puts f n) ≡ allKeys ws s (opened s) saved puts w
     go true l d n c f k e = keys-word w ws (inside l (savedIn saved d)) puts f n
     go false l d n c f k e = rw (← e) (keys-word w ws ended puts f n)
 
@@ -149,7 +149,7 @@ module _ {words : List ℕ} {i : ℕ} {s : Spot} {variables firsts saved keys : 
           let b = we .same-count in
           rw (b, ← a) (ac .puts)
 
-      place-when : {b : Bool} → r .inside ≡ b → placeOf r saved′ ≡ cond b (inside (r .left) (savedIn saved′ (r .depth))) ended
+      place-when : {b : Bool} → r .inside ≡ b → placeAt r saved′ ≡ cond b (inside (r .left) (savedIn saved′ (r .depth))) ended
       place-when e = ap (λ b. cond b (inside (r .left) (savedIn saved′ (r .depth))) ended) e
 
       -- the literal goes on, or ends with its Compares
