@@ -1,4 +1,5 @@
-// The fields of a tree word: the key (operation and operand), the extent.
+// The fields of a tree word: the key (operation and operand, `machine::Key`), the extent.
+use crate::Tree;
 ghost use mathlib.Core.Path.{_≡_};
 ghost use Rattle.tree.specs.Laid.{keyOf, extentOf};
 
@@ -6,12 +7,12 @@ ghost use Rattle.tree.specs.Laid.{keyOf, extentOf};
 pub fn key(w: u64) -> u64
     ensures { λ r. ⌜ r ≡ keyOf w ⌝ }
 {
-    w / 268435456
+    w / Tree::EXTENTS
 }
 
 // The extent of a tree word: its node and all below it, its lower 28 bits.
 pub fn extent(w: u64) -> usize
     ensures { λ r. ⌜ r ≡ extentOf w ⌝ }
 {
-    (w % 268435456) as usize
+    (w % Tree::EXTENTS) as usize
 }
