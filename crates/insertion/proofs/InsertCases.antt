@@ -9,7 +9,7 @@ use lib.ListN.{length, getD, take, drop, set, replicate, length-take, length-dro
 use lib.Seq.{take-all}
 use borrow.Author.Tests.{lt-ltb, le-ltb, le-leb, lt-leb}
 use borrow.Rule.Slice.PartMut.{putMid}
-use Rattle.tree.specs.Laid.{maxKept, usedOf, keptOf, region}
+use Rattle.tree.specs.Laid.{oneMore, maxKept, usedOf, keptOf, region}
 use Rattle.tree.specs.Entries.{Entry}
 use Rattle.tree.specs.inner.Merge.{Spot, seek, lift, hold, newWords}
 use Rattle.tree.specs.inner.Cut.{Span, locate}
@@ -148,12 +148,12 @@ module _ {T cs : List ℕ} {p k : ℕ} (n : ℕ) (r : Ready T cs) (here : Insert
           → _≡_ {A = Called}
           (record {
             answer = Kept;
-            slice = set (putMid (p + 1) (endOf T + newOf cs k - (p + 1)) (backIn T L) B) 0 (getD T 0 0 + (newOf cs k * 2 ^ 32 + 1));
+            slice = set (putMid (p + 1) (endOf T + newOf cs k - (p + 1)) (backIn T L) B) 0 (oneMore (getD T 0 0) (newOf cs k));
           })
           (insertedAt T n cs p k)
       insert-kept B up back =
           let N = newWords (drop k cs) n in
-          let v = getD T 0 0 + (newOf cs k * 2 ^ 32 + 1) in
+          let v = oneMore (getD T 0 0) (newOf cs k) in
           let fits : usedOf (getD T 0 0) + suc (length (drop k cs)) ≤ length (drop 1 T) = omega (arith, length-drop 1 T, length-drop k cs, room) in
           let new : suc (length (drop k cs)) ≡ newOf cs k = omega (arith, length-drop k cs) in
           let same : length (drop k cs) + 1 ≡ newOf cs k = omega (arith, length-drop k cs) in
