@@ -53,6 +53,9 @@ impl Clause {
     // The most literals of a clause.
     pub const LITERALS: usize = 8;
 
+    // Arities are below this: 0 to 7.
+    pub const ARITIES: usize = 8;
+
     // Where the ends stand in the tables, after the starts of the literals.
     pub const ENDS: usize = Clause::LITERALS;
 

@@ -1,4 +1,5 @@
 // Clause words: what a word is, by number tests.
+use crate::Clause;
 ghost use mathlib.Core.Path.{_≡_};
 ghost use Rattle.clause.specs.Word.{sort, arity as Word·arity, isHead, isInside};
 
@@ -6,7 +7,7 @@ ghost use Rattle.clause.specs.Word.{sort, arity as Word·arity, isHead, 
 pub fn arity(word: u16) -> usize
     ensures { λ r. ⌜ r ≡ Word·arity word ⌝ }
 {
-    (word / 0x800 % 8) as usize
+    (word / 0x800) as usize % Clause::ARITIES
 }
 
 // Whether a word is the head of a literal: its kind, the two upper bits, is 2 or 3.

@@ -11,6 +11,7 @@ use tree::Refusal;
 use tree::Tree;
 use tree::extent;
 use tree::key;
+use tree::word;
 ghost use mathlib.Core.Path.{_≡_};
 ghost use mathlib.Core.Bool.{true};
 ghost use mathlib.Core.List.{[], _++_};
@@ -23,7 +24,7 @@ ghost use Rattle.tree.specs.inner.Cut.{locate};
 ghost use Rattle.clause.specs.Clause.{Accepted};
 ghost use Rattle.tree.specs.Calls.{insertion};
 ghost use Rattle.tree.specs.inner.ByWords.{insertAt, insertByWords};
-ghost use Rattle.insertion.specs.inner.Inserting.{holderOf, Rows, Placed, Ready, Writable, InsertHere, isSome};
+ghost use Rattle.insertion.specs.inner.Inserting.{holderOf, Rows, LeadsTo, Ready, Writable, InsertHere, isSome};
 
 mod moves;
 
@@ -60,7 +61,7 @@ fn first_success(words: &[u64], at: usize, end: usize) -> Holder
 // The caller's words are the used ones of a well-laid slice.
 fn place_of(words: &[u64], keys: &[u64]) -> Place
     requires { ⌜ Rows (now words) ⌝ }
-    ensures { λ r. ⌜ Placed (now (words .entry)) (now (keys .entry)) r ⌝ }
+    ensures { λ r. ⌜ LeadsTo (now (words .entry)) (now (keys .entry)) r ⌝ }
 {
     let mut at: usize = 0;
     let mut end = words.len();
@@ -126,9 +127,9 @@ fn write_chain(words: &mut [u64], keys: &[u64], number: u32)
 {
     let count = keys.len();
     for i in 0..count {
-        words[i] = keys[i] * Tree::EXTENTS + (count + 1 - i) as u64;
+        words[i] = word(keys[i], count + 1 - i);
     }
-    words[count] = number as u64 * Tree::EXTENTS + 1;
+    words[count] = word(number as u64, 1);
 }
 
 // Puts the words of the keys and of the Success in front; the words that stood there move up over the last ones.

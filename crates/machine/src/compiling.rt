@@ -2,6 +2,7 @@
 use crate::Key;
 use crate::Sequence;
 use crate::Spot;
+use clause::Clause;
 use clause::arity;
 ghost use mathlib.Core.Path.{_≡_};
 ghost use mathlib.Core.Bool.{true};
@@ -128,7 +129,7 @@ fn onward(arity: usize, mut s: Spot, saved: &mut [usize], keys: &mut [u64]) -> S
     if arity > 0 {
         s.left = arity - 1;
         if left > 0 {
-            saved[depth] = pushed * 8 + (left - 1);
+            saved[depth] = pushed * Clause::ARITIES + (left - 1);
             keys[written] = Key::PUSH + (pushed as u64);
             keys[written + 1] = Key::DOWN;
             s.depth = depth + 1;
@@ -148,8 +149,8 @@ fn onward(arity: usize, mut s: Spot, saved: &mut [usize], keys: &mut [u64]) -> S
     }
     if depth > 0 {
         let top = saved[depth - 1];
-        keys[written] = Key::POP + ((top / 8) as u64);
-        s.left = top % 8;
+        keys[written] = Key::POP + ((top / Clause::ARITIES) as u64);
+        s.left = top % Clause::ARITIES;
         s.depth = depth - 1;
         s.written = written + 1;
         return s;

@@ -13,7 +13,7 @@ use Rattle.tree.specs.Keys.{inner}
 use Rattle.tree.specs.Forest.{headerOf, Forest, size, leaves, encode, layout, ins, del, find, holder, WellFormed, Body}
 use Rattle.tree.specs.Laid.{leastWords, mostWords, maxKept, sized, usedOf, wellLaid, decode}
 use Rattle.tree.specs.Entries.{Entry, Pair, entry}
-use Rattle.tree.specs.inner.Merge.{Spot, seek}
+use Rattle.tree.specs.inner.Merge.{Gap, seek}
 use Rattle.tree.specs.inner.Cut.{locate}
 use Rattle.tree.specs.Changes.{refuse, change, insertInto, removeFrom}
 use Rattle.tree.specs.Laws.{Stands}
@@ -57,7 +57,7 @@ module _ (len : ℕ) (F : Forest) (f : WellFormed F) (room : size F < len) (high
     abbrev G : Forest
     G = ins (e .keys) (e .number) F
 
-    abbrev spot : Spot
+    abbrev spot : Gap
     spot = seek (filled len F) 0 (size F) 0 (e .keys)
 
     larger : size G ≡ size F + suc (length (spot .left))

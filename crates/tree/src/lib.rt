@@ -12,6 +12,7 @@ mod refusals;
 
 pub use fields::extent;
 pub use fields::key;
+pub use fields::word;
 
 // What is returned on refusal, by every call; a refused clause's fault, with its position, stands inside. `Held`: a variant of the clause, equal up to
 // the names of its variables, is kept under this number. `Spent`: the budget of candidates is used up, after so many.

@@ -98,7 +98,8 @@ put-in-requires c κs =
     let u = c .before .before .before .before .before .before .before in
     let s = u .before .before .before .before in
     let long = (rw (u .used .ensures) at (c .before .before .before .tree .given .0)) ∙ ap length (ready-parts (s .pre .0) .part) in
-    let room : endOf (s .args .tree .now) + newOf (s .args .keys .now) (s .args .shared) ≤ length (s .args .tree .now) = omega (arith, c .before .before .before .before .before .before .if1 .left, u .used .ensures) in (
+    let room : endOf (s .args .tree .now) + newOf (s .args .keys .now) (s .args .shared) ≤ length (s .args .tree .now) =
+    omega (arith, c .before .before .before .before .before .before .if1 .left, u .used .ensures) in (
       tail-writable (s .args .keys .now) (s .args .shared) (s .pre .1 .shares) (s .pre .0 .body) (s .pre .0 .few),
       rw (u .used .ensures) (insert-room (s .args .number) (s .pre .0) (s .pre .1) room (c .before .before .before .before .raise .last .0) long),
     )
@@ -122,7 +123,8 @@ returns-2 c =
     let e = u .used .ensures in
     let P = ready-parts (s .pre .0) in
     let long = (rw e at (c .before .before .before .before .before .before .before .tree .given .0)) ∙ ap length (P .part) in
-    let room : endOf (s .args .tree .now) + newOf (s .args .keys .now) (s .args .shared) ≤ length (s .args .tree .now) = omega (arith, a .before .before .if1 .left, e) in
+    let room : endOf (s .args .tree .now) + newOf (s .args .keys .now) (s .args .shared) ≤ length (s .args .tree .now) =
+    omega (arith, a .before .before .if1 .left, e) in
     rw (c .one-more .ensures, e)
     (insert-kept (s .args .number) (s .pre .0) (s .pre .1) room (a .raise .last .0) long _ (rw (e, P .part) at (a .raise .ensures)) (rw e at (c .before .before .before .put-in .ensures)))
 

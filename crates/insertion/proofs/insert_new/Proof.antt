@@ -2,7 +2,7 @@
 use mathlib.Core.Path.{ap, _∙_}
 use native.Mathlib.Omega.{arith}
 use Rattle.tree.specs.Laid.{region}
-use Rattle.insertion.specs.inner.Inserting.{holderOf, Placed}
+use Rattle.insertion.specs.inner.Inserting.{holderOf, LeadsTo}
 use Rattle.insertion.proofs.InsertCases.{ready-parts, in-region, insert-held, insert-full, insert-there}
 use borrow.Author.Needs.{needs}
 use Rattle.insertion.proofs.insert_new.Statement.{statement}
@@ -56,7 +56,7 @@ same-length c = search needs
 
 -- the place that was found, by the used words
 placed : (c : lts.After-place-of rs reads.Pre reads.Post)
-    → let s = c .before .before .before .before .before .before .before in Placed (region (s .args .tree .now)) (s .args .keys .now) (c .place-of .result)
+    → let s = c .before .before .before .before .before .before .before in LeadsTo (region (s .args .tree .now)) (s .args .keys .now) (c .place-of .result)
 placed c =
     let u = c .before .before .before in
     in-region (u .before .before .before .before .pre .0) (rw (u .used .ensures) at (c .place-of .ensures))
@@ -92,7 +92,8 @@ returns-3 c =
     let p = k .before .before .before in
     let s = p .before .before .before .before .before .before .before in
     let new = placed p .holder ∙ ap holderOf (k .before .enum-told .given .1) in
-    c .before .before .insert-at .ensures ∙ insert-there (s .pre .0) (s .args .number) (s .pre .1) new _ (omega (arith, c .before .before .before .before .if1 .left, k .kept .ensures)) (placed p .spot)
+    c .before .before .insert-at .ensures
+    ∙ insert-there (s .pre .0) (s .args .number) (s .pre .1) new _ (omega (arith, c .before .before .before .before .if1 .left, k .kept .ensures)) (placed p .spot)
 
 pub insert-new-spec : {M : Type 1} → statement M
 insert-new-spec =

@@ -7,14 +7,14 @@ use lib.Dec.{leb, ltb}
 use lib.ListN.{length, take, replicate}
 use Rattle.tree.specs.Laid.{maxKept, usedOf, keptOf, oneMore, oneLess}
 use Rattle.tree.specs.Entries.{Entry}
-use Rattle.tree.specs.inner.Merge.{Spot, seek, lift, splice, hold}
+use Rattle.tree.specs.inner.Merge.{Gap, seek, lift, splice, hold}
 use Rattle.tree.specs.inner.Cut.{Span, locate, cut}
 use Rattle.tree.specs.Calls.{Called, refused}
 use Rattle.tree.specs.declared.Refusal.the-variants.{NumberTaken, Held, NoSuchNumber, ListFull, NoRoom}
 use Rattle.tree.specs.declared.CallAnswer.the-variants.{Kept, Removed}
 
 -- the new words put in at a spot, if there is room for them
-abbrev pub insertAt : (header : ℕ) (words : List ℕ) → Entry → Spot → Called
+abbrev pub insertAt : (header : ℕ) (words : List ℕ) → Entry → Gap → Called
 insertAt h ws e s =
     let r = suc (length (s .left)) in
     cond (ltb (length ws) (usedOf h + r)) (refused NoRoom (h ∷ ws))
