@@ -21,7 +21,8 @@ use Rattle.clause.specs.declared.Fault.the-variants.{BadLength, Bad, Nin
 use Rattle.clause.specs.declared.Shape.{Shape}
 use Rattle.clause.specs.declared.Shape.the-variants.{Faulty, Whole}
 use Rattle.clause.proofs.Whole.{literals-scan, whole-literals, literals-whole}
-use Rattle.clause.proofs.Faults.{apart, Stops, stops, Meets, meets}
+use Rattle.clause.proofs.Apart.{apart}
+use Rattle.clause.proofs.Faults.{Stops, stops, Meets, meets}
 
 -- the shape of 1 to 64 words is what the reading finds
 fits-shape : (ws : List ℕ) → Fits ws → shape ws ≡ scan ws 0 0 0
@@ -146,7 +147,9 @@ begins-shorter : (ws : List ℕ) (k m : ℕ) → k ≤ m → Begins (take m ws) 
 begins-shorter ws k m h (more, r) = (drop k (take m ws) ++ more, rw (sym joins) at r)
   where
     joins : take k ws ++ (drop k (take m ws) ++ more) ≡ take m ws ++ more
-    joins = sym (append-assoc (take k ws) (drop k (take m ws)) more) ∙ ap (λ (l : List ℕ). l ++ more) (ap (λ (l : List ℕ). l ++ drop k (take m ws)) (sym (take-take k m ws h)) ∙ take-append-drop k (take m ws))
+    joins =
+        let first = ap (λ (l : List ℕ). l ++ drop k (take m ws)) (sym (take-take k m ws h)) in
+        sym (append-assoc (take k ws) (drop k (take m ws)) more) ∙ ap (λ (l : List ℕ). l ++ more) (first ∙ take-append-drop k (take m ws))
 
 -- one word more
 take-one : (ws : List ℕ) (q : ℕ) (more : List ℕ) → q < length ws → take (suc q) ws ++ more ≡ take q ws ++ (getD ws q 0 ∷ more)
@@ -200,7 +203,8 @@ module _ (ws : List ℕ) (F : Fits ws) (at : ℕ) (B : Breaks ws at) where
       go C (inr (l, f)) = absurd (f (C .count, C .literals, C .high))
   place (Faulty (Ninth q)) e = go (order at q) (ninth ws q .0 e .1) (B .there)
     where
-      go : Order at q → IsNinth ws q → ((at < length ws) × (Begins (take (suc at) ws) → ⊥) × (IsNinth ws at → ⊥)) ⊎ ((at ≡ length ws) × (Rules ws → ⊥)) → shape ws ≡ Faulty (Bad at)
+      go : Order at q → IsNinth ws q → ((at < length ws) × (Begins (take (suc at) ws) → ⊥) × (IsNinth ws at → ⊥)) ⊎ ((at ≡ length ws) × (Rules ws → ⊥))
+          → shape ws ≡ Faulty (Bad at)
       go (less h) N t =
           let r : Rules (take q ws ++ []) = rw (append-nil (take q ws)) (maxLiterals, N .before, omega arith) in
           absurd (not-past q h (omega (arith, N .inside)) ([], r))
@@ -240,7 +244,16 @@ literals-flatten : {ls : List (List ℕ)} → All IsLiteral ls → literals (fla
 unfolding flatten literals
 literals-flatten none = refl
 literals-flatten (also {x = l} {xs = ls} L p) =
-    rw (L .parts, literals-head (L .top) (L .args ++ flatten ls) (L .top-head), before-args (L .args-inner) (flatten ls), before-flatten p, literals-args (L .args-inner) (flatten ls), literals-flatten p, append-nil (L .args))
+    let inner = L .args-inner in
+    rw (
+      L .parts,
+      literals-head (L .top) (L .args ++ flatten ls) (L .top-head),
+      before-args inner (flatten ls),
+      before-flatten p,
+      literals-args inner (flatten ls),
+      literals-flatten p,
+      append-nil (L .args),
+    )
 
 -- the claim
 pub clause-laws : ClauseLaws

@@ -11,6 +11,7 @@ use Rattle.clause.specs.Word.{arity, Sort, symbol, variable, head, wrong
 use Rattle.clause.specs.Clause.{scanWord, scan, maxLiterals}
 use Rattle.clause.specs.declared.Fault.the-variants.{Bad, Ninth}
 use Rattle.clause.specs.declared.Shape.the-variants.{Faulty, Whole}
+use Rattle.clause.proofs.Apart.{apart}
 use Rattle.clause.proofs.Whole.{scan-inside, scan-head}
 
 -- a variable
@@ -21,10 +22,6 @@ filled : (k lits at : ℕ) → scan (replicate k filler) k lits at ≡ Whole lit
 unfolding scan filler sort sortBy kind arity
 filled zero lits at = refl
 filled (suc k) lits at = let e : 0 + k ≡ k = omega arith in scan-inside filler variable refl tt k lits at (replicate k filler) ∙ rw e (filled k lits (suc at))
-
--- two shapes that are apart
-pub apart : {A : Type 0} → _≡_ {A = ℕ} 0 1 → A
-apart z = absurd (omega arith)
 
 -- the reading stops i words on: the words before can be made whole, and not with the one there
 pub record Stops (ws : List ℕ) (need lits p q : ℕ) : Type 0 where
@@ -40,7 +37,8 @@ stops-here : (w : ℕ) (ws : List ℕ) (need lits p q : ℕ) → ((xs : List ℕ
 stops-here w ws need lits p q f e =
     record { i = 0; place = omega arith; inside = omega arith; more = replicate need filler; n = lits; completed = filled need lits p; broken = λ h more n u. let v = f more in apart cc }
 
-stops-later : (w : ℕ) (ws : List ℕ) (need lits p q need′ lits′ : ℕ) → ((xs : List ℕ) → scan (w ∷ xs) need lits p ≡ scan xs need′ lits′ (suc p)) → Stops ws need′ lits′ (suc p) q
+stops-later : (w : ℕ) (ws : List ℕ) (need lits p q need′ lits′ : ℕ)
+    → ((xs : List ℕ) → scan (w ∷ xs) need lits p ≡ scan xs need′ lits′ (suc p)) → Stops ws need′ lits′ (suc p) q
     → Stops (w ∷ ws) need lits p q
 stops-later w ws need lits p q need′ lits′ f s =
     record {
@@ -84,7 +82,8 @@ pub record Meets (ws : List ℕ) (need lits p q : ℕ) : Type 0 where
   pub whole : scan (take i ws) need lits p ≡ Whole maxLiterals
   pub top : sort (getD ws i 0) ≡ head
 
-meets-later : (w : ℕ) (ws : List ℕ) (need lits p q need′ lits′ : ℕ) → ((xs : List ℕ) → scan (w ∷ xs) need lits p ≡ scan xs need′ lits′ (suc p)) → Meets ws need′ lits′ (suc p) q
+meets-later : (w : ℕ) (ws : List ℕ) (need lits p q need′ lits′ : ℕ)
+    → ((xs : List ℕ) → scan (w ∷ xs) need lits p ≡ scan xs need′ lits′ (suc p)) → Meets ws need′ lits′ (suc p) q
     → Meets (w ∷ ws) need lits p q
 meets-later w ws need lits p q need′ lits′ f s =
     record { i = suc (s .i); place = omega (arith, s .place); inside = omega (arith, s .inside); whole = f (take (s .i) ws) ∙ s .whole; top = s .top }

@@ -10,7 +10,7 @@ use lib.Seq.{take-all, take-suc, length-take-le}
 use Rattle.clause.specs.Word.{arity}
 use Rattle.clause.specs.Clause.{Accepted, maxLiterals, literals, starts, startOf, skip}
 use Rattle.clause.specs.Positions.{jump, ends, siblings}
-use Rattle.clause.specs.inner.Tables.{packed, tablesOf, tablesFrom}
+use Rattle.clause.specs.inner.Tables.{atEnds, atCount, packed, tablesOf, tablesFrom}
 use Rattle.clause.proofs.Lists.{all-get}
 use Rattle.clause.proofs.Skip.{skip-shaped}
 use Rattle.clause.proofs.Jump.{enough-here}
@@ -77,7 +77,7 @@ module _ (d : List ℕ) (A : Accepted d) (count at : ℕ) {table : List ℕ} (H 
 
   -- one literal more
   pub hopped-next : at < length d
-      → (at < jump d 1 at) × (getD (set table count at) (8 + at) 0 ≡ jump d 1 at) × Hopped d (count + 1) (jump d 1 at) (set table count at)
+      → (at < jump d 1 at) × (getD (set table count at) (atEnds + at) 0 ≡ jump d 1 at) × Hopped d (count + 1) (jump d 1 at) (set table count at)
   hopped-next h =
       let g = hopped-more h in
       let few = accepted d A .few in
@@ -89,16 +89,16 @@ module _ (d : List ℕ) (A : Accepted d) (count at : ℕ) {table : List ℕ} (H 
       let s : set table count at ≡ packed (take (suc count) (starts d)) (ends d) (siblings d []) 0 =
       rw (H .is, t) (ap (λ (i : ℕ). set (packed (take count (starts d)) (ends d) (siblings d []) 0) i at) (sym l) ∙ set-start (take count (starts d)) (ends d) (siblings d []) 0 at m) in (
         omega (arith, jump-one d at h, jump-from d (arity (getD d at 0)) (suc at)),
-        ap (λ (x : List ℕ). getD x (8 + at) 0) s ∙ end-at (take (suc count) (starts d)) (ends d) (siblings d []) 0 at (omega arith) ∙ ends-at d at h,
+        ap (λ (x : List ℕ). getD x (atEnds + at) 0) s ∙ end-at (take (suc count) (starts d)) (ends d) (siblings d []) 0 at (omega arith) ∙ ends-at d at h,
         rw add-one (record { few = omega arith; place = hopped-end g; is = s }),
       )
 
   -- all literals are noted
-  pub hopped-all : length d ≤ at → set table 136 count ≡ tablesOf d
+  pub hopped-all : length d ≤ at → set table atCount count ≡ tablesOf d
   unfolding tablesOf
   hopped-all h = go (decLt count (length (literals d)))
     where
-      go : Dec (count < length (literals d)) → set table 136 count ≡ packed (starts d) (ends d) (siblings d []) (length (starts d))
+      go : Dec (count < length (literals d)) → set table atCount count ≡ packed (starts d) (ends d) (siblings d []) (length (starts d))
       go (yes g) = absurd (omega (arith, hopped-start g))
       go (no n) =
           let c : count ≡ length (starts d) = rw length-starts (omega (arith, H .few)) in

@@ -15,6 +15,7 @@ use Rattle.clause.specs.Clause.{scanWord, scan, shape, Accepted, maxLite
 use Rattle.clause.specs.Accepted.{IsLiteral}
 use Rattle.clause.specs.declared.Fault.the-variants.{BadLength, Ninth}
 use Rattle.clause.specs.declared.Shape.the-variants.{Faulty, Whole}
+use Rattle.clause.proofs.Apart.{apart}
 
 pub literal-shaped : {l : List ℕ} → IsLiteral l → Shaped 1 l
 literal-shaped h = let a : Shaped (arity (h .top) + 0) (h .args) = rw add-zero (h .args-shaped) in rw (h .parts) (next-word a)
@@ -89,24 +90,24 @@ pub read : (ws : List ℕ) (need lits at n : ℕ) → lits ≤ maxLiterals → s
 unfolding scan before literals scanWord
 read [] zero lits at n h e =
     let z : lits ≡ n = cc in record { rest-shaped = end; rest-inner = none; rest-literals = none; counted = omega arith; few = omega arith }
-read [] (suc k) lits at n h e = let z : _≡_ {A = ℕ} 0 1 = cc in absurd (omega arith)
+read [] (suc k) lits at n h e = apart cc
 read (w ∷ ws) need lits at n h e = go (sort w) need refl e (read ws)
   where
     go : (s : Sort) (need : ℕ) → sort w ≡ s → scanWord s (arity w) need lits at (scan ws) ≡ Whole n
         → ((need lits at n : ℕ) → lits ≤ maxLiterals → scan ws need lits at ≡ Whole n → Read ws need lits n) → Read (w ∷ ws) need lits n
-    go symbol zero q e ih = let z : _≡_ {A = ℕ} 0 1 = cc in absurd (omega arith)
+    go symbol zero q e ih = apart cc
     go symbol (suc k) q e ih = read-inside w ws k lits n (rw q tt) (ih (arity w + k) lits (suc at) n h e)
-    go variable zero q e ih = let z : _≡_ {A = ℕ} 0 1 = cc in absurd (omega arith)
+    go variable zero q e ih = apart cc
     go variable (suc k) q e ih = read-inside w ws k lits n (rw q tt) (ih (arity w + k) lits (suc at) n h e)
-    go wrong zero q e ih = let z : _≡_ {A = ℕ} 0 1 = cc in absurd (omega arith)
-    go wrong (suc k) q e ih = let z : _≡_ {A = ℕ} 0 1 = cc in absurd (omega arith)
-    go head (suc k) q e ih = let z : _≡_ {A = ℕ} 0 1 = cc in absurd (omega arith)
+    go wrong zero q e ih = apart cc
+    go wrong (suc k) q e ih = apart cc
+    go head (suc k) q e ih = apart cc
     go head zero q e ih = room (ltb lits maxLiterals) refl e
       where
         room : (b : Bool) → ltb lits maxLiterals ≡ b → cond b (scan ws (arity w) (suc lits) (suc at)) (Faulty (Ninth at)) ≡ Whole n
             → Read (w ∷ ws) 0 lits n
         room true q′ e′ = read-head w ws lits n q (ih (arity w) (suc lits) (suc at) n (ltb-true lits maxLiterals q′) e′)
-        room false q′ e′ = let z : _≡_ {A = ℕ} 0 1 = cc in absurd (omega arith)
+        room false q′ e′ = apart cc
 
 -- an accepted clause is at most 64 words, and at most 8 literals one after another
 pub record Clause (ws : List ℕ) : Type 0 where
@@ -141,9 +142,9 @@ some-literal ws C = go (literals ws) (C .whole)
 
 pub accepted : (ws : List ℕ) → Accepted ws → Clause ws
 unfolding shape
-accepted [] h = let e : Faulty BadLength ≡ Whole (h .0) = h .1 in let z : _≡_ {A = ℕ} 0 1 = cc in absurd (omega arith)
+accepted [] h = let e : Faulty BadLength ≡ Whole (h .0) = h .1 in apart cc
 accepted (w ∷ ws) h = go (ltb maxWords (length (w ∷ ws))) refl (h .1)
   where
     go : (b : Bool) → ltb maxWords (length (w ∷ ws)) ≡ b → cond b (Faulty BadLength) (scan (w ∷ ws) 0 0 0) ≡ Whole (h .0) → Clause (w ∷ ws)
-    go true q e = let z : _≡_ {A = ℕ} 0 1 = cc in absurd (omega arith)
+    go true q e = apart cc
     go false q e = scanned (w ∷ ws) (h .0) (ltb-false maxWords (length (w ∷ ws)) q) cons≢nil (read (w ∷ ws) 0 0 0 (h .0) (omega arith) e)

@@ -11,7 +11,7 @@ use Rattle.clause.specs.Lists.{none, also}
 use Rattle.clause.specs.Word.{arity}
 use Rattle.clause.specs.Clause.{maxWords, Accepted, skip}
 use Rattle.clause.specs.Positions.{jump, ends, pushDue, siblings}
-use Rattle.clause.specs.inner.Tables.{packed, tablesFrom}
+use Rattle.clause.specs.inner.Tables.{atEnds, atSiblings, tablesSize, packed, tablesFrom}
 use Rattle.clause.proofs.Skip.{Enough, enough-fewer}
 use Rattle.clause.proofs.Jump.{jump-zero, jump-suc, enough-here, enough-word, enough-term}
 use Rattle.clause.proofs.Literals.{accepted}
@@ -109,11 +109,11 @@ module _ (d : List ℕ) (A : Accepted d) (p : ℕ) (h : p < length d) where
   module _ (at : ℕ) {table : List ℕ} where
     -- one argument more
     pub marking-term : (left v : ℕ) → 0 < left → v ≡ left - 1 → Marking d p at left table
-        → (getD (set table (72 + at) v) (8 + at) 0 ≡ jump d 1 at) × Marking d p (jump d 1 at) v (set table (72 + at) v)
+        → (getD (set table (atSiblings + at) v) (atEnds + at) 0 ≡ jump d 1 at) × Marking d p (jump d 1 at) v (set table (atSiblings + at) v)
     unfolding pushDue
     marking-term zero v g e M = absurd (omega arith)
     marking-term (suc n) v g e M = let f : v ≡ n = omega arith in rw f (
-      ap (λ (t : List ℕ). getD t (8 + at) 0) stored ∙ end-at [] _ _ 0 at room ∙ from-at (ends d) (suc p) at (M .low) ∙ ends-at d at b,
+      ap (λ (t : List ℕ). getD t (atEnds + at) 0) stored ∙ end-at [] _ _ 0 at room ∙ from-at (ends d) (suc p) at (M .low) ∙ ends-at d at b,
       record {
         done = M .done ++ n ∷ inner d at;
         size = rw (length-append, M .size) (inner-size d at b n);
@@ -135,7 +135,7 @@ module _ (d : List ℕ) (A : Accepted d) (p : ℕ) (h : p < length d) where
         later : M .done ++ (n ∷ inner d at ++ siblings (drop (jump d 1 at) d) (pushDue n [])) ≡ replicate p 0 ++ siblings (drop p d) []
         later = ap (λ (l : List ℕ). M .done ++ l) (sym (siblings-term d at b (suc n ∷ []))) ∙ M .goal
 
-        stored : set table (72 + at) n
+        stored : set table (atSiblings + at) n
             ≡ packed [] (replicate (suc p) 0 ++ drop (suc p) (ends d)) (M .done ++ n ∷ inner d at ++ siblings (drop (jump d 1 at) d) []) 0
         stored =
             let r = M .done ++ siblings (drop at d) [] in
@@ -145,7 +145,7 @@ module _ (d : List ℕ) (A : Accepted d) (p : ℕ) (h : p < length d) where
             rw (M .is, set-right [] _ r 0 at n room l, s)
 
     -- all of them are noted: the end of the term is known
-    pub marking-all : Marking d p at 0 table → (at ≡ jump d 1 p) × (set table (8 + p) at ≡ tablesFrom d p)
+    pub marking-all : Marking d p at 0 table → (at ≡ jump d 1 p) × (set table (atEnds + p) at ≡ tablesFrom d p)
     unfolding tablesFrom pushDue
     marking-all M =
         let e : at ≡ jump d 1 p = sym (jump-zero d at) ∙ M .over in
@@ -156,7 +156,7 @@ module _ (d : List ℕ) (A : Accepted d) (p : ℕ) (h : p < length d) where
         (e, rw (M .is, M .goal, set-end [] E _ 0 p at room l, from-set (ends d) p at g (e ∙ sym (ends-at d p h))))
 
 -- nothing is noted yet
-pub marked-none : (d : List ℕ) → replicate 137 0 ≡ tablesFrom d (length d)
+pub marked-none : (d : List ℕ) → replicate tablesSize 0 ≡ tablesFrom d (length d)
 unfolding tablesFrom siblings
 marked-none d =
     let l : drop (length d) (ends d) ≡ [] = ap (λ (m : ℕ). drop m (ends d)) (sym (length-ends d)) ∙ drop-length (ends d) in

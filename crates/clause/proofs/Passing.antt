@@ -18,6 +18,7 @@ use Rattle.clause.specs.declared.Passed.the-variants.{At, Off}
 use Rattle.clause.specs.declared.Fault.the-variants.{Bad}
 use Rattle.clause.specs.declared.Shape.{Shape}
 use Rattle.clause.specs.declared.Shape.the-variants.{Faulty}
+use Rattle.clause.proofs.Apart.{apart}
 
 if-inside {ℓ} : {A : Type ℓ} (s : Sort) → isInside s ≡ true → (a b : A) → ifInside s a b ≡ a
 if-inside symbol e a b = refl
@@ -135,7 +136,7 @@ scan-past q c lits = rw (← one-add (c .left)) (scan-split q (drop (c .at) q) 1
 pass-at : (ws : List ℕ) (need at left : ℕ) (c : Cursor) → pass ws need at left ≡ At c → c .at ≡ at + skip need ws
 unfolding pass skip
 pass-at [] zero at left c e = let z : record { at = at; left = left } ≡ c = cc in rw (← z) (omega arith)
-pass-at [] (suc k) at left c e = let z : _≡_ {A = ℕ} 0 1 = cc in absurd (omega arith)
+pass-at [] (suc k) at left c e = apart cc
 pass-at (w ∷ ws) zero at left c e = let z : record { at = at; left = left } ≡ c = cc in rw (← z) (omega arith)
 pass-at (w ∷ ws) (suc k) at left c e = go (sort w) e (pass-at ws (arity w + k) (suc at) left c)
   where
@@ -143,8 +144,8 @@ pass-at (w ∷ ws) (suc k) at left c e = go (sort w) e (pass-at ws (arity w + k)
         → (pass ws (arity w + k) (suc at) left ≡ At c → c .at ≡ suc at + skip (arity w + k) ws) → c .at ≡ at + suc (skip (arity w + k) ws)
     go symbol e ih = omega (arith, ih e)
     go variable e ih = omega (arith, ih e)
-    go head e ih = let z : _≡_ {A = ℕ} 0 1 = cc in absurd (omega arith)
-    go wrong e ih = let z : _≡_ {A = ℕ} 0 1 = cc in absurd (omega arith)
+    go head e ih = apart cc
+    go wrong e ih = apart cc
 
 -- a term has a word
 pub past-on : (q : List ℕ) (c n : Cursor) → goPast q c ≡ At n → (c .at < length q) × (c .at < n .at)
@@ -152,7 +153,7 @@ unfolding goPast pass skip
 past-on q c n e = go (drop (c .at) q) refl e
   where
     go : (ws : List ℕ) → drop (c .at) q ≡ ws → pass ws 1 (c .at) (c .left) ≡ At n → (c .at < length q) × (c .at < n .at)
-    go [] f e = let z : _≡_ {A = ℕ} 0 1 = cc in absurd (omega arith)
+    go [] f e = apart cc
     go (w ∷ ws) f e =
         let l : length q - c .at ≡ suc (length ws) = sym (length-drop (c .at) q) ∙ ap length f in
         (omega arith, omega (arith, pass-at (w ∷ ws) 1 (c .at) (c .left) n e))

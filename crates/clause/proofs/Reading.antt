@@ -18,6 +18,7 @@ use Rattle.clause.specs.declared.Passed.the-variants.{At, Off}
 use Rattle.clause.specs.declared.Fault.the-variants.{BadLength, Bad, Ninth}
 use Rattle.clause.specs.declared.Shape.{Shape}
 use Rattle.clause.specs.declared.Shape.the-variants.{Faulty, Whole}
+use Rattle.clause.proofs.Apart.{apart}
 use Rattle.clause.proofs.Passing.{scan-past}
 
 -- the reading from a position on, where an argument with its right siblings or, with none, a literal is to come
@@ -31,7 +32,7 @@ read-first q at lits zero = refl
 read-first q at lits (suc k) = refl
 
 pub first-at : (n at : ℕ) (c : Cursor) → firstOf n at ≡ To c → c .at ≡ at
-first-at zero at c e = let z : _≡_ {A = ℕ} 0 1 = cc in absurd (omega arith)
+first-at zero at c e = apart cc
 first-at (suc k) at c e = let z : record { at = at; left = k } ≡ c = cc in rw (← z)
 
 -- past an argument, and right

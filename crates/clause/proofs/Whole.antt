@@ -65,4 +65,5 @@ whole-literals ws n L h = rw (append-nil ws) at (literals-scan ws n L h [])
 pub literals-whole : (ws : List ℕ) (n : ℕ) → scan ws 0 0 0 ≡ Whole n → Literals ws n × (n ≤ maxLiterals)
 literals-whole ws n e =
     let r = read ws 0 0 0 n (omega arith) e in
-    (record { parts = literals ws; each = r .rest-literals; joined = ap (λ (l : List ℕ). l ++ flatten (literals ws)) (sym (shaped-zero (r .rest-shaped) refl)) ∙ joined ws; count = omega (arith, r .counted) }, r .few)
+    let none-before = ap (λ (l : List ℕ). l ++ flatten (literals ws)) (sym (shaped-zero (r .rest-shaped) refl)) in
+    (record { parts = literals ws; each = r .rest-literals; joined = none-before ∙ joined ws; count = omega (arith, r .counted) }, r .few)

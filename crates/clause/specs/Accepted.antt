@@ -26,12 +26,12 @@ pub record Literals (ws : List ℕ) (n : ℕ) : Type 0 where
   pub joined : flatten parts ≡ ws
   pub count : length parts ≡ n
 
--- 1 to 64 words
+-- 1 to maxWords words
 pub record Fits (ws : List ℕ) : Type 0 where
   pub low : 1 ≤ length ws
   pub high : length ws ≤ maxWords
 
--- a clause: 1 to 64 words, which are 1 to 8 whole literals
+-- a clause: 1 to maxWords words, which are 1 to maxLiterals whole literals
 pub record IsClause (ws : List ℕ) : Type 0 where
   pub fits : Fits ws
   pub count : ℕ
@@ -39,15 +39,15 @@ pub record IsClause (ws : List ℕ) : Type 0 where
   pub low : 1 ≤ count
   pub high : count ≤ maxLiterals
 
--- at most 8 whole literals
+-- at most maxLiterals whole literals
 abbrev pub Rules : List ℕ → Type 0
 Rules ws = (n : ℕ) × Literals ws n × (n ≤ maxLiterals)
 
--- words can follow that make them at most 8 whole literals
+-- words can follow that make them at most maxLiterals whole literals
 abbrev pub Begins : List ℕ → Type 0
 Begins ws = (more : List ℕ) × Rules (ws ++ more)
 
--- a head after 8 whole literals
+-- a head after maxLiterals whole literals: the ninth, where that is 8
 pub record IsNinth (ws : List ℕ) (at : ℕ) : Type 0 where
   pub before : Literals (take at ws) maxLiterals
   pub inside : at < length ws

@@ -36,7 +36,7 @@ scan [] zero lits at = Whole lits
 scan [] (suc k) lits at = Faulty (Bad at)
 scan (w ∷ ws) need lits at = scanWord (sort w) (arity w) need lits at (scan ws)
 
--- the shape of a clause of 1 to 64 words
+-- the shape of a clause of 1 to maxWords words
 unfoldable pub shape : List ℕ → Shape
 shape [] = Faulty BadLength
 shape (w ∷ ws) = cond (ltb maxWords (length (w ∷ ws))) (Faulty BadLength) (scan (w ∷ ws) 0 0 0)

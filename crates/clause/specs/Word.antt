@@ -12,9 +12,13 @@ Words = All (λ w. w < 2 ^ 16)
 unfoldable pub kind : ℕ → ℕ
 kind w = w / 0x4000 % 4
 
+-- arities are below this: 0 to 7
+abbrev pub arities : ℕ
+arities = 8
+
 -- the number of its arguments
 unfoldable pub arity : ℕ → ℕ
-arity w = w / 0x800 % 8
+arity w = w / 0x800 % arities
 
 -- what a word is: a function symbol, a variable, the head of a literal, or a variable with arguments, which is none
 pub data Sort : Type 0 where

@@ -7,6 +7,7 @@ mod word;
 
 pub use equality::same;
 pub use reader::read;
+pub use word::arity;
 
 // What is wrong with a clause: its length (code 3), a word or the end that breaks the rules (4) or a ninth head (5), each with its position.
 pub enum Fault {
@@ -52,15 +53,18 @@ impl Clause {
     // The most literals of a clause.
     pub const LITERALS: usize = 8;
 
-    // Where the ends stand in the tables.
-    pub const ENDS: usize = 8;
+    // Arities are below this: 0 to 7.
+    pub const ARITIES: usize = 8;
+
+    // Where the ends stand in the tables, after the starts of the literals.
+    pub const ENDS: usize = Clause::LITERALS;
 
     // Where the right siblings stand in the tables.
-    pub const SIBLINGS: usize = 72;
+    pub const SIBLINGS: usize = Clause::ENDS + Clause::WORDS;
 
     // Where the number of literals stands in the tables.
-    pub const COUNT: usize = 136;
+    pub const COUNT: usize = Clause::SIBLINGS + Clause::WORDS;
 
     // How many entries the tables have.
-    pub const TABLES: usize = 137;
+    pub const TABLES: usize = Clause::COUNT + 1;
 }

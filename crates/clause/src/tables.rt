@@ -5,7 +5,7 @@ ghost use mathlib.Core.Path.{_≡_};
 ghost use Prim.Native.Nat.{suc, _<_};
 ghost use lib.ListN.{length, replicate};
 ghost use Rattle.clause.specs.Clause.{Accepted};
-ghost use Rattle.clause.specs.inner.Tables.{tablesOf, tablesFrom, clauseOf};
+ghost use Rattle.clause.specs.inner.Tables.{tablesSize, tablesOf, tablesFrom, clauseOf};
 
 // Notes the right siblings of each argument of a word, and where the word's term ends: past the word, then past its arguments.
 fn note_term(words: &[u16], tables: &mut [u8; Clause::TABLES], p: usize)
@@ -26,7 +26,7 @@ fn note_term(words: &[u16], tables: &mut [u8; Clause::TABLES], p: usize)
 
 // Notes the ends and the right siblings of all terms.
 fn note_terms(words: &[u16], tables: &mut [u8; Clause::TABLES])
-    requires { ⌜ Accepted (now words) × (now tables ≡ replicate 137 0) ⌝ }
+    requires { ⌜ Accepted (now words) × (now tables ≡ replicate tablesSize 0) ⌝ }
     ensures { λ _. ⌜ now (tables .exit) ≡ tablesFrom (now (words .entry)) 0 ⌝ }
 {
     let mut p = words.len();

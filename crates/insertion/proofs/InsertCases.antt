@@ -9,13 +9,13 @@ use lib.ListN.{length, getD, take, drop, set, replicate, length-take, length-dro
 use lib.Seq.{take-all}
 use borrow.Author.Tests.{lt-ltb, le-ltb, le-leb, lt-leb}
 use borrow.Rule.Slice.PartMut.{putMid}
-use Rattle.tree.specs.Laid.{maxKept, usedOf, keptOf, region}
+use Rattle.tree.specs.Laid.{oneMore, maxKept, usedOf, keptOf, region}
 use Rattle.tree.specs.Entries.{Entry}
-use Rattle.tree.specs.inner.Merge.{Spot, seek, lift, hold, newWords}
+use Rattle.tree.specs.inner.Merge.{Gap, seek, lift, hold, newWords}
 use Rattle.tree.specs.inner.Cut.{Span, locate}
 use Rattle.tree.specs.Calls.{Called, refused}
 use Rattle.tree.specs.inner.ByWords.{insertAt, insertUnless, insertByWords}
-use Rattle.insertion.specs.inner.Inserting.{isSome, Ready, Placed, InsertHere}
+use Rattle.insertion.specs.inner.Inserting.{isSome, Ready, LeadsTo, InsertHere}
 use Rattle.insertion.specs.declared.Place.{Place}
 use Rattle.tree.specs.declared.Refusal.the-variants.{NumberTaken, Held, ListFull, NoRoom}
 use Rattle.tree.specs.declared.CallAnswer.the-variants.{Kept}
@@ -32,7 +32,7 @@ abbrev pub endOf : List ℕ → ℕ
 endOf T = usedOf (getD T 0 0) + 1
 
 -- the place that was found in the part of the used words
-pub in-region : {T cs : List ℕ} {q : Place} → Ready T cs → Placed (take (endOf T - 1) (drop 1 T)) cs q → Placed (region T) cs q
+pub in-region : {T cs : List ℕ} {q : Place} → Ready T cs → LeadsTo (take (endOf T - 1) (drop 1 T)) cs q → LeadsTo (region T) cs q
 in-region r h = rw (ready-parts r .part) at h
 
 by-words-cons : (h : ℕ) (ws : List ℕ) (e : Entry)
@@ -85,7 +85,7 @@ module _ {T cs : List ℕ} (r : Ready T cs) (n : ℕ) where
       insert-full u = sym (by-holder none new ∙ rw (le-leb maxKept (keptOf (getD T 0 0)) u) (ap (refused ListFull) (P .split)))
 
       -- it goes to its place, if there is room
-      pub insert-there : (s : Spot) → keptOf (getD T 0 0) < maxKept → seek (region T) 0 (length (region T)) 0 cs ≡ s
+      pub insert-there : (s : Gap) → keptOf (getD T 0 0) < maxKept → seek (region T) 0 (length (region T)) 0 cs ≡ s
           → insertAt (getD T 0 0) (drop 1 T) (entryOf n cs) s ≡ insertByWords T (entryOf n cs)
       insert-there s u q =
           sym (by-holder none new ∙ rw (lt-leb maxKept (keptOf (getD T 0 0)) u) (ap (insertAt (getD T 0 0) (drop 1 T) (entryOf n cs)) (P .seeks cs ∙ q)))
@@ -148,12 +148,12 @@ module _ {T cs : List ℕ} {p k : ℕ} (n : ℕ) (r : Ready T cs) (here : Insert
           → _≡_ {A = Called}
           (record {
             answer = Kept;
-            slice = set (putMid (p + 1) (endOf T + newOf cs k - (p + 1)) (backIn T L) B) 0 (getD T 0 0 + (newOf cs k * 2 ^ 32 + 1));
+            slice = set (putMid (p + 1) (endOf T + newOf cs k - (p + 1)) (backIn T L) B) 0 (oneMore (getD T 0 0) (newOf cs k));
           })
           (insertedAt T n cs p k)
       insert-kept B up back =
           let N = newWords (drop k cs) n in
-          let v = getD T 0 0 + (newOf cs k * 2 ^ 32 + 1) in
+          let v = oneMore (getD T 0 0) (newOf cs k) in
           let fits : usedOf (getD T 0 0) + suc (length (drop k cs)) ≤ length (drop 1 T) = omega (arith, length-drop 1 T, length-drop k cs, room) in
           let new : suc (length (drop k cs)) ≡ newOf cs k = omega (arith, length-drop k cs) in
           let same : length (drop k cs) + 1 ≡ newOf cs k = omega (arith, length-drop k cs) in

@@ -10,7 +10,7 @@ use lib.Dec.{T}
 use lib.ListN.{length, drop, getD, set, length-set, drop-of-length-le}
 use lib.Seq.{drop-cons, drop-drop, drop-set-lt}
 use Rattle.tree.specs.Keys.{nextKey}
-use Rattle.tree.specs.Laid.{row, rows}
+use Rattle.tree.specs.Laid.{mostWords, row, rows}
 use Rattle.tree.specs.inner.Merge.{lift}
 use Rattle.insertion.specs.inner.Inserting.{Rows}
 use Rattle.tree.proofs.Keys.{Tri, less, same, more, tri}
@@ -47,7 +47,7 @@ module _ {W cs : List ℕ} {r : ℕ} {U : List ℕ} {p t k : ℕ} (s : Raising W
     pub lift-fits : p + extentAt U p ≤ t
     lift-fits = omega (arith, firm .fits)
 
-    pub lift-small : r < 65536 → getD U p 0 + r < 2 ^ 64
+    pub lift-small : r < mostWords → getD U p 0 + r < 2 ^ 64
     lift-small h = omega (arith, firm .small)
 
     -- all keys have a word

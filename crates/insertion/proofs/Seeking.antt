@@ -13,8 +13,8 @@ use borrow.Author.Tests.{lt-ltb, le-ltb}
 use Rattle.tree.specs.Keys.{inner, nextKey}
 use Rattle.tree.specs.Forest.{success}
 use Rattle.tree.specs.Laid.{row, rows}
-use Rattle.tree.specs.inner.Merge.{Spot, seek, hold}
-use Rattle.insertion.specs.inner.Inserting.{Rows, Placed, holderOf}
+use Rattle.tree.specs.inner.Merge.{Gap, seek, hold}
+use Rattle.insertion.specs.inner.Inserting.{Rows, LeadsTo, holderOf}
 use Rattle.insertion.specs.declared.Holder.{Holder}
 use Rattle.insertion.specs.declared.Holder.the-variants.{Nobody}
 use Rattle.tree.proofs.Keys.{Tri, less, same, more, tri}
@@ -45,7 +45,7 @@ pub not-success : (k : ℕ) → inner ≤ k → success k ≡ none
 not-success k h = rw (le-ltb k inner h, success)
 
 -- the place that was found
-abbrev pub spotAt : List ℕ → (p k : ℕ) → Spot
+abbrev pub spotAt : List ℕ → (p k : ℕ) → Gap
 spotAt cs p k = record { place = p; left = drop k cs }
 
 module _ {W cs : List ℕ} {p t k : ℕ} (s : Seeking W cs p t k) where
@@ -80,7 +80,7 @@ module _ {W cs : List ℕ} {p t k : ℕ} (s : Seeking W cs p t k) where
       holding-stop : getD cs k 0 < keyAt W p → hold W 0 (length W) cs ≡ none
       holding-stop u = s .holds ∙ rw here (hold-stop W p t (s .room) l (getD cs k 0) (drop (suc k) cs) u)
 
-      pub stop-placed : getD cs k 0 < keyAt W p → Placed W cs (record { at = p; shared = k; holder = Nobody })
+      pub stop-placed : getD cs k 0 < keyAt W p → LeadsTo W cs (record { at = p; shared = k; holder = Nobody })
       stop-placed u = record { within = omega (arith, s .room); shares = s .keys; spot = seeking-stop u; holder = holding-stop u }
 
       -- it is the key of that word
@@ -131,5 +131,5 @@ module _ {W cs : List ℕ} {p t k : ℕ} (s : Seeking W cs p t k) where
   holding-end (inl l) = s .holds ∙ hold-done W p t l (drop k cs) ∙ sym (hold-done W p t l [])
   holding-end (inr n) = s .holds ∙ ap (hold (drop p W) 0 (t - p)) (all-found n)
 
-  pub end-placed : (t ≤ p) ⊎ (length cs ≤ k) → (h : Holder) → holderOf h ≡ hold (drop p W) 0 (t - p) [] → Placed W cs (record { at = p; shared = k; holder = h })
+  pub end-placed : (t ≤ p) ⊎ (length cs ≤ k) → (h : Holder) → holderOf h ≡ hold (drop p W) 0 (t - p) [] → LeadsTo W cs (record { at = p; shared = k; holder = h })
   end-placed o h e = record { within = omega (arith, s .order, s .room); shares = s .keys; spot = seeking-end o; holder = holding-end o ∙ sym e }

@@ -11,7 +11,7 @@ use lib.Seq.{drop-cons, take-at, drop-at}
 use borrow.Author.Tests.{leb-true}
 use Rattle.tree.specs.Keys.{inner}
 use Rattle.tree.specs.Forest.{Forest, empty, node, size, word, encode, layout, find}
-use Rattle.tree.specs.Laid.{sized, usedOf, wellLaid, region, row, rows, decode}
+use Rattle.tree.specs.Laid.{leastWords, mostWords, sized, usedOf, wellLaid, region, row, rows, decode}
 use Rattle.tree.specs.Laws.{Stands}
 use Rattle.tree.specs.inner.Merge.{seek, hold, lift}
 use Rattle.tree.specs.inner.Cut.{locate}
@@ -89,7 +89,7 @@ abbrev pub spare : List ℕ → ℕ
 spare T = length T - suc (usedOf (getD T 0 0))
 
 pub record Parts (T : List ℕ) : Type 0 where
-  pub short : length T ≤ 65_536
+  pub short : length T ≤ mostWords
   pub room : usedOf (getD T 0 0) < length T
   pub split : getD T 0 0 ∷ drop 1 T ≡ T
   pub part : take (usedOf (getD T 0 0) + 1 - 1) (drop 1 T) ≡ region T
@@ -106,8 +106,8 @@ unfolding layout
 drop-header len F = refl
 
 module _ (T : List ℕ) (s : sized T ≡ true) (w : wellLaid T ≡ true) where
-  low : length T ≤ 65_536
-  low = leb-true (length T) 65_536 (and-eq-true-iff (leb 2 (length T)) (leb (length T) 65_536) .0 s .1)
+  low : length T ≤ mostWords
+  low = leb-true (length T) mostWords (and-eq-true-iff (leb leastWords (length T)) (leb (length T) mostWords) .0 s .1)
 
   F : Forest
   F = decode T

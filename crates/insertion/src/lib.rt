@@ -3,6 +3,7 @@ use crate::moves::open_up;
 use clause::Shape;
 use clause::read;
 use laid::well_laid;
+use machine::Key;
 use machine::Sequence;
 use machine::compile;
 use tree::CallAnswer;
@@ -10,19 +11,20 @@ use tree::Refusal;
 use tree::Tree;
 use tree::extent;
 use tree::key;
+use tree::word;
 ghost use mathlib.Core.Path.{_≡_};
 ghost use mathlib.Core.Bool.{true};
 ghost use mathlib.Core.List.{[], _++_};
 ghost use mathlib.Core.Option.{none};
 ghost use Prim.Native.Nat.{_+_, _-_, _<_, _≤_};
 ghost use lib.ListN.{length, take, drop, getD};
-ghost use Rattle.tree.specs.Laid.{sized, wellLaid, region};
+ghost use Rattle.tree.specs.Laid.{mostWords, sized, wellLaid, region};
 ghost use Rattle.tree.specs.inner.Merge.{hold, lift, newWords};
 ghost use Rattle.tree.specs.inner.Cut.{locate};
 ghost use Rattle.clause.specs.Clause.{Accepted};
 ghost use Rattle.tree.specs.Calls.{insertion};
 ghost use Rattle.tree.specs.inner.ByWords.{insertAt, insertByWords};
-ghost use Rattle.insertion.specs.inner.Inserting.{holderOf, Rows, Placed, Ready, Writable, InsertHere, isSome};
+ghost use Rattle.insertion.specs.inner.Inserting.{holderOf, Rows, LeadsTo, Ready, Writable, InsertHere, isSome};
 
 mod moves;
 
@@ -49,7 +51,7 @@ fn first_success(words: &[u64], at: usize, end: usize) -> Holder
         return Holder::Nobody;
     }
     let first = key(words[at]);
-    if first >= 4294967296 {
+    if first >= Key::FIRST {
         return Holder::Nobody;
     }
     Holder::Clause(first as u32)
@@ -59,7 +61,7 @@ fn first_success(words: &[u64], at: usize, end: usize) -> Holder
 // The caller's words are the used ones of a well-laid slice.
 fn place_of(words: &[u64], keys: &[u64]) -> Place
     requires { ⌜ Rows (now words) ⌝ }
-    ensures { λ r. ⌜ Placed (now (words .entry)) (now (keys .entry)) r ⌝ }
+    ensures { λ r. ⌜ LeadsTo (now (words .entry)) (now (keys .entry)) r ⌝ }
 {
     let mut at: usize = 0;
     let mut end = words.len();
@@ -93,7 +95,7 @@ fn place_of(words: &[u64], keys: &[u64]) -> Place
 // Raises the extents on the way of the keys by `new`.
 // The caller's words are the used ones of a well-laid slice, and the slice has room for `new` more.
 fn raise(words: &mut [u64], keys: &[u64], new: u64)
-    requires { ⌜ Rows (now words) × (new < 65536) ⌝ }
+    requires { ⌜ Rows (now words) × (new < mostWords) ⌝ }
     ensures { λ _. ⌜ now (words .exit) ≡ lift (now (words .entry)) new 0 (length (now (words .entry))) (now (keys .entry)) ⌝ }
 {
     let mut at: usize = 0;
@@ -125,9 +127,9 @@ fn write_chain(words: &mut [u64], keys: &[u64], number: u32)
 {
     let count = keys.len();
     for i in 0..count {
-        words[i] = keys[i] * 268435456 + (count + 1 - i) as u64;
+        words[i] = word(keys[i], count + 1 - i);
     }
-    words[count] = number as u64 * 268435456 + 1;
+    words[count] = word(number as u64, 1);
 }
 
 // Puts the words of the keys and of the Success in front; the words that stood there move up over the last ones.
@@ -151,7 +153,7 @@ fn insert_at(tree: &mut [u64], keys: &[u64], number: u32, at: usize, shared: usi
         (record { number = number; keys = now (keys .entry) }) (record { place = at; left = drop shared (now (keys .entry)) }) ⌝ }
 {
     let header = tree[0];
-    let end = (header / 4294967296) as usize + 1;
+    let end = Tree::used(header) + 1;
     let new = keys.len() - shared + 1;
     if end + new > tree.len() {
         return CallAnswer::Refused(Refusal::NoRoom);
@@ -160,23 +162,24 @@ fn insert_at(tree: &mut [u64], keys: &[u64], number: u32, at: usize, shared: usi
     let from = at + 1;
     let to = end + new;
     put_in(&mut tree[from..to], &keys[shared..], number);
-    tree[0] = header + (new as u64 * 4294967296 + 1);
+    tree[0] = Tree::one_more(header, new);
     CallAnswer::Kept
 }
 
 // Inserts a sequence under a number that no Success has: the caller holds the slice well laid, and knows the numbers in it.
 pub fn insert_new(tree: &mut [u64], keys: &[u64], number: u32) -> CallAnswer
     requires { ⌜ Ready (now tree) (now keys) × (locate (region (now tree)) number 0 0 0 ≡ none) ⌝ }
-    ensures { λ r. ⌜ record { answer = r; slice = now (tree .exit) } ≡ insertByWords (now (tree .entry)) (record { number = number; keys = now (keys .entry) }) ⌝ }
+    ensures { λ r. ⌜ record { answer = r; slice = now (tree .exit) }
+        ≡ insertByWords (now (tree .entry)) (record { number = number; keys = now (keys .entry) }) ⌝ }
 {
     let header = tree[0];
-    let end = (header / 4294967296) as usize + 1;
+    let end = Tree::used(header) + 1;
     let place = place_of(&tree[1..end], keys);
     let holder = place.holder;
     match holder {
         Holder::Clause(held) => CallAnswer::Refused(Refusal::Held(held)),
         Holder::Nobody => {
-            if header % 4294967296 >= Tree::CLAUSES as u64 {
+            if Tree::kept(header) >= Tree::CLAUSES {
                 return CallAnswer::Refused(Refusal::ListFull);
             }
             insert_at(tree, keys, number, place.at, place.shared)
@@ -202,14 +205,15 @@ fn taken(tree: &[u64], number: u32) -> bool
     requires { ⌜ (sized (now tree) ≡ true) × (wellLaid (now tree) ≡ true) ⌝ }
     ensures { λ r. ⌜ r ≡ isSome (locate (region (now (tree .entry))) number 0 0 0) ⌝ }
 {
-    let end = (tree[0] / 4294967296) as usize + 1;
+    let end = Tree::used(tree[0]) + 1;
     has_number(&tree[1..end], number)
 }
 
 // Inserts a sequence under any number. The caller holds the slice well laid.
 fn insert_laid(tree: &mut [u64], keys: &[u64], number: u32) -> CallAnswer
     requires { ⌜ Ready (now tree) (now keys) ⌝ }
-    ensures { λ r. ⌜ record { answer = r; slice = now (tree .exit) } ≡ insertByWords (now (tree .entry)) (record { number = number; keys = now (keys .entry) }) ⌝ }
+    ensures { λ r. ⌜ record { answer = r; slice = now (tree .exit) }
+        ≡ insertByWords (now (tree .entry)) (record { number = number; keys = now (keys .entry) }) ⌝ }
 {
     if taken(tree, number) {
         return CallAnswer::Refused(Refusal::NumberTaken);

@@ -1,4 +1,5 @@
-// Slices of tree words: fresh, and whether a slice is well laid (document 01, "Tree words"): one pass over the words from left to right, no stack.
+// Slices of tree words: fresh, and whether a slice is well laid, its representation invariant (document 01, "Tree words"): one pass over the words from left
+// to right, no stack.
 ghost use mathlib.Core.Path.{_≡_};
 ghost use mathlib.Core.Bool.{_&&_};
 ghost use Prim.Native.Nat.{_-_};
@@ -6,6 +7,7 @@ ghost use lib.Dec.{eqb};
 ghost use Rattle.tree.specs.Keys.{nextKey};
 ghost use Rattle.tree.specs.Laid.{keyOf, extentOf, successes};
 ghost use Rattle.tree.specs.Laid as laid;
+use machine::Key;
 use tree::Tree;
 use tree::extent;
 use tree::key;
@@ -20,7 +22,7 @@ fn next_key(w: u64) -> u64
     ensures { λ r. ⌜ r ≡ nextKey (keyOf w) ⌝ }
 {
     let k = key(w);
-    if k < 4294967296 { 4294967296 } else { k + 1 }
+    if k < Key::FIRST { Key::FIRST } else { k + 1 }
 }
 
 // The number of words below a word.
@@ -37,19 +39,19 @@ fn sound(w: u64) -> bool
 {
     let k = key(w);
     let e = extent(w);
-    if k < 4294967296 {
+    if k < Key::FIRST {
         return e == 1;
     }
     if e == 1 {
         return false;
     }
-    if k >= 38654705664 {
+    if k >= Key::END {
         return false;
     }
-    if k >= 17179869184 {
+    if k >= Key::PUT {
         return true;
     }
-    k % 4294967296 == 0
+    k % Key::OPERANDS == 0
 }
 
 // Whether the first `count` words are the extents of siblings one after another, with keys that rise and at most one Success.
@@ -89,7 +91,7 @@ fn rows(words: &[u64], kept: usize) -> bool
     let mut at = 0;
     while at < words.len() {
         let w = words[at];
-        if key(w) < 4294967296 {
+        if key(w) < Key::FIRST {
             found += 1;
         }
         at += 1;

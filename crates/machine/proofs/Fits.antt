@@ -17,6 +17,7 @@ use Rattle.machine.proofs.Flat.{flat}
 use Rattle.machine.proofs.Compares.{Consistent}
 use Rattle.machine.proofs.Agree.{Agree, agree-append, agree-first, agree-last, agree-consistent, look, look-term, look-agrees, consistent-more}
 use Rattle.machine.proofs.Replace.{vars-append, Match, m-variable, m-other, match-inst, match-length, match-terms, flat-match, inst-flat}
+use Rattle.clause.proofs.Apart.{apart}
 
 -- the words of literal j
 abbrev pub chosen : List ℕ → ℕ → List ℕ
@@ -54,7 +55,7 @@ module _ (d : List ℕ) (D : Clause d) where
     literal-terms : (ps : List ℕ) → Match d l (chosen d j) (startOf d j) ps → All (λ p. IsTerm (termAt d p)) ps
     literal-terms ps m =
         let C = all-get (literals d) (D .all) j [] h in
-        let not-variable : sort (L .top) ≢ variable = λ e. let z : _≡_ {A = ℕ} 0 1 = cc (L .top-head) in omega arith in
+        let not-variable : sort (L .top) ≢ variable = λ e. apart (cc (L .top-head)) in
         let b = match-below not-variable (rw (L .parts) at m) in
         match-terms (b .matched) (rw (tail-eq-of-cons-eq (sym (b .parts) ∙ C .parts)) (C .args-inner))
 

@@ -85,7 +85,7 @@ module _ (d rest : List ℕ) (from : ℕ) (js : List ℕ) where
     hit : {ps : List ℕ} → After s k puts o ps → Agrees s k puts o (some ps)
 
   -- the machine is about to match ws at p
-  pub record Ready (ws : List ℕ) (place : Place) (puts : List ℕ) (n p : ℕ) (s : State) : Type 0 where
+  pub record Aligned (ws : List ℕ) (place : Place) (puts : List ℕ) (n p : ℕ) (s : State) : Type 0 where
     pub shaped : Shaped (need place) ws
     pub enough : Enough (need place) (drop p d)
     pub stands : Stands d s n p place
@@ -94,7 +94,7 @@ module _ (d rest : List ℕ) (from : ℕ) (js : List ℕ) where
     pub pushes : length (s .pushes) ≡ slots
 
   abbrev Reaches : List ℕ → Type 0
-  Reaches ws = (place : Place) (puts : List ℕ) (n p : ℕ) (s : State) → Ready ws place puts n p s
+  Reaches ws = (place : Place) (puts : List ℕ) (n p : ℕ) (s : State) → Aligned ws place puts n p s
       → Agrees s (length puts) (putsAll puts ws) (run d (map Do (closing place puts from) ++ sequenceFrom (ws ++ rest) place puts from n) js s) (flat d ws p)
 
   unmoved : {s : State} → Keeps s s
@@ -137,16 +137,23 @@ module _ (d rest : List ℕ) (from : ℕ) (js : List ℕ) where
     -- from a word that was matched the machine goes on with the others
     go-on : (q : ℕ) (puts′ : List ℕ) (s : State) → Onto d (arity w) p q → Enough (arity w + after l saved) (drop q d)
         → length puts′ ≤ suc (length puts)
-        → Ready (w ∷ ws) (inside l saved) puts n p s → Agrees s (length puts′) (putsAll puts′ ws) (run d (onward puts′) js s) (flat d ws q)
+        → Aligned (w ∷ ws) (inside l saved) puts n p s → Agrees s (length puts′) (putsAll puts′ ws) (run d (onward puts′) js s) (flat d ws q)
     unfolding onward need
     go-on q puts′ s o e h r =
         let m : Moved d s q (way (arity w) l saved n) = move d D s p q n (enough-here d _ p (r .enough)) (arity w) l saved o (omega arith) (r .pushes) (r .stands) in
         agrees-kept (m .keeps) (m .moves _ js)
         (ih _ puts′ _ q (m .state)
-        record { shaped = rw need-way (shaped-tail (r .shaped)); enough = rw need-way e; stands = m .stands; put-room = omega arith; push-room = omega (arith, pushed-way (arity w) l saved n); pushes = m .keeps .pushes ∙ r .pushes })
+        record {
+          shaped = rw need-way (shaped-tail (r .shaped));
+          enough = rw need-way e;
+          stands = m .stands;
+          put-room = omega arith;
+          push-room = omega (arith, pushed-way (arity w) l saved n);
+          pushes = m .keeps .pushes ∙ r .pushes;
+        })
 
     -- a variable takes the whole term at p
-    reach-variable : (s : State) → sort w ≡ variable → Ready (w ∷ ws) (inside l saved) puts n p s
+    reach-variable : (s : State) → sort w ≡ variable → Aligned (w ∷ ws) (inside l saved) puts n p s
         → Agrees s (length puts) (putsAll (puts ++ (w ∷ [])) ws) (run d (Do (Put (length puts)) ∷ onward (puts ++ (w ∷ []))) js s) (Option·map (λ ps. p ∷ ps) (flat d ws (jump d 1 p)))
     unfolding need Stands
     reach-variable s e r =
@@ -157,7 +164,7 @@ module _ (d rest : List ℕ) (from : ℕ) (js : List ℕ) where
         record { shaped = r .shaped; enough = r .enough; stands = r .stands; put-room = r .put-room; push-room = r .push-room; pushes = r .pushes }))
 
     -- another word is at p, or does not match
-    reach-other : (s : State) (b : Bool) → eqb (getD d p 0) w ≡ b → Ready (w ∷ ws) (inside l saved) puts n p s
+    reach-other : (s : State) (b : Bool) → eqb (getD d p 0) w ≡ b → Aligned (w ∷ ws) (inside l saved) puts n p s
         → Agrees s (length puts) (putsAll puts ws) (run d (Do (Check w) ∷ onward puts) js s) (cond b (flat d ws (suc p)) none)
     unfolding need Stands
     reach-other s false e r = miss (run-miss d (onward puts) js s (r .stands .0) w e)
@@ -168,7 +175,7 @@ module _ (d rest : List ℕ) (from : ℕ) (js : List ℕ) where
         agrees-kept unmoved (run-check d (onward puts) js s (r .stands .0) w e)
         (go-on (suc p) puts s o (rw m at (enough-word d _ p (r .enough))) (omega arith) r)
 
-    reach-word : (s : State) → Ready (w ∷ ws) (inside l saved) puts n p s
+    reach-word : (s : State) → Aligned (w ∷ ws) (inside l saved) puts n p s
         → Agrees s (length puts) (putsAll puts (w ∷ ws)) (run d (sequenceFrom (w ∷ (ws ++ rest)) (inside l saved) puts from n) js s) (flat d (w ∷ ws) p)
     unfolding flat putsAll sequenceFrom act putsAfter opening wayFrom begun onward
     reach-word s r = go (sort-discrete (sort w) variable)

@@ -159,6 +159,6 @@ pub sequence-few : (c : List ℕ) → length (sequence c) ≤ 5 * length c
 unfolding sequence
 sequence-few c = omega (arith, from-length c ended [] 0 0)
 
--- at most 320 instructions for a clause
+-- at most maxKeys instructions for a clause
 pub sequence-length : (c : List ℕ) → Clause c → length (sequence c) ≤ maxKeys
 sequence-length c C = omega (arith, sequence-few c, C .fits)

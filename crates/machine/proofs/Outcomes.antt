@@ -1,19 +1,18 @@
 -- Outcomes of steps.
 use mathlib.Core.Path.{_≡_, refl}
-use Prim.Native.Nat.{ℕ}
-use native.Mathlib.Omega.{arith}
 use Rattle.machine.specs.Machine.{Outcome, next, fails, stuck, bind}
+use Rattle.clause.proofs.Apart.{apart}
 
 module _ {S : Type 0} where
   -- the three outcomes are apart
   pub fails≢next : {t : S} → fails ≡ next t → ⊥
-  fails≢next e = let z : _≡_ {A = ℕ} 0 1 = cc in omega arith
+  fails≢next e = apart cc
 
   pub stuck≢next : {t : S} → stuck ≡ next t → ⊥
-  stuck≢next e = let z : _≡_ {A = ℕ} 0 1 = cc in omega arith
+  stuck≢next e = apart cc
 
   pub fails≢stuck : _≡_ {A = Outcome S} fails stuck → ⊥
-  fails≢stuck e = let z : _≡_ {A = ℕ} 0 1 = cc in omega arith
+  fails≢stuck e = apart cc
 
   -- a run that ends goes on behind its first step
   pub bind-next : {t : S} (o : Outcome S) (k : S → Outcome S) → bind o k ≡ next t → (s : S) × (o ≡ next s) × (k s ≡ next t)

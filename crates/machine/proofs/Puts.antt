@@ -46,22 +46,22 @@ firsts-snoc us w =
     ∙ ap₂ (λ (a : List ℕ) (b : ℕ). a ++ (b ∷ [])) (map-get _ _ us (λ k i. first-append (getD us k 0) us (w ∷ []) (omega (arith, first-le us k i)))) (first-last us w)
 
 -- which words are variables
-pub variable-word : (w : ℕ) → w / 2048 ≡ 8 → sort w ≡ variable
+pub variable-word : (w : ℕ) → w / 0x800 ≡ 8 → sort w ≡ variable
 unfolding sort kind arity sortBy
 variable-word w e =
     let k : w / 0x4000 % 4 ≡ 1 = omega arith in
     let a : w / 0x800 % 8 ≡ 0 = omega arith in
     rw (k, a)
 
-variable-only : (w : ℕ) → w < 65536 → w / 0x4000 % 4 ≡ 1 → w / 0x800 % 8 ≡ 0 → w / 2048 ≡ 8
+variable-only : (w : ℕ) → w < 0x1_0000 → w / 0x4000 % 4 ≡ 1 → w / 0x800 % 8 ≡ 0 → w / 0x800 ≡ 8
 variable-only w h e f =
     let few : w / 0x4000 < 4 = omega arith in
     let one : w / 0x4000 ≡ 1 = rw mod-eq-of-lt at e in
-    let low : 8 ≤ w / 2048 = omega arith in
-    let high : w / 2048 < 16 = omega arith in
+    let low : 8 ≤ w / 0x800 = omega arith in
+    let high : w / 0x800 < 16 = omega arith in
     omega arith
 
-pub other-word : {A : Type 0} (w : ℕ) → w < 65536 → w / 2048 ≢ 8 → (x y : A) → ifVariable (sort w) x y ≡ y
+pub other-word : {A : Type 0} (w : ℕ) → w < 0x1_0000 → w / 0x800 ≢ 8 → (x y : A) → ifVariable (sort w) x y ≡ y
 unfolding sort kind arity sortBy
 other-word {A} w h n x y = go (w / 0x4000 % 4) (w / 0x800 % 8) refl refl
   where
@@ -73,8 +73,8 @@ other-word {A} w h n x y = go (w / 0x4000 % 4) (w / 0x800 % 8) refl refl
 
 -- a variable is put
 module _ (w count number : ℕ) (variables firsts keys : List ℕ) (at : ℕ) (i : count < length variables) (j : count < length firsts) where
-  pub acted-put : w / 2048 ≡ 8 → take count firsts ≡ firstsOf (take count variables) → number ≡ first w (take count variables)
-      → Acted w count variables (count + 1) (set variables count w) (set firsts count number) keys at (set keys at (17179869184 + count))
+  pub acted-put : w / 0x800 ≡ 8 → take count firsts ≡ firstsOf (take count variables) → number ≡ first w (take count variables)
+      → Acted w count variables (count + 1) (set variables count w) (set firsts count number) keys at (set keys at (0x4_0000_0000 + count))
   unfolding putsAfter act key
   acted-put e f g =
       let within : count ≤ length variables = omega arith in
@@ -88,8 +88,8 @@ module _ (w count number : ℕ) (variables firsts keys : List ℕ) (at : ℕ) (i
       }
 
 -- any other word is checked
-pub acted-check : (w count : ℕ) (variables firsts keys : List ℕ) (at : ℕ) → w < 65536 → w / 2048 ≢ 8 → take count firsts ≡ firstsOf (take count variables)
-    → Acted w count variables count variables firsts keys at (set keys at (30064771072 + w))
+pub acted-check : (w count : ℕ) (variables firsts keys : List ℕ) (at : ℕ) → w < 0x1_0000 → w / 0x800 ≢ 8 → take count firsts ≡ firstsOf (take count variables)
+    → Acted w count variables count variables firsts keys at (set keys at (0x7_0000_0000 + w))
 unfolding putsAfter act key
 acted-check w count variables firsts keys at h n f =
     record {

@@ -21,6 +21,7 @@ use Rattle.clause.proofs.Terms.{if-other, variable-arity, inst-variable, inst-o
 use Rattle.machine.proofs.Flat.{flat}
 use Rattle.machine.proofs.Agree.{Agree, no-more, and-so, agree-head, agree-tail}
 use Rattle.clause.specs.Positions.{jump}
+use Rattle.clause.proofs.Apart.{apart}
 
 -- what a variable adds
 module _ (d : List ℕ) (w : ℕ) (ws : List ℕ) (p : ℕ) where
@@ -131,7 +132,7 @@ module _ (d : List ℕ) where
       IH = (u : List ℕ) (p : ℕ) (ps r : List ℕ) → Shaped (arity w + k) u → drop p d ≡ u ++ r → flat d ws p ≡ some ps → Match d ws u p ps
 
       hit : sort w ≢ variable → IH → Dec (getD d p 0 ≡ w) → Match d (w ∷ ws) u p ps
-      hit n ih (no m) = let z : _≡_ {A = ℕ} 0 1 = cc (flat-miss d w ws p n m) in absurd (omega arith)
+      hit n ih (no m) = apart (cc (flat-miss d w ws p n m))
       hit n ih (yes m) =
           let c = uncons g in
           let e′ : drop p d ≡ c .top ∷ (c .below ++ r) = rw (c .parts) at e in

@@ -19,7 +19,7 @@ use Rattle.machine.proofs.Length.{flatMap-numbersBelow}
 use Rattle.clause.proofs.Lists.{getD-map-lt}
 
 -- the key of a Compare
-compare-key : (m k : ℕ) → 34359738368 + m * 65536 + k ≡ key (Do (Compare m k))
+compare-key : (m k : ℕ) → 0x8_0000_0000 + m * 0x1_0000 + k ≡ key (Do (Compare m k))
 unfolding key
 compare-key m k = omega arith
 
@@ -90,7 +90,7 @@ module _ (firsts : List ℕ) (from m : ℕ) where
 
   module _ {before after : List ℕ} {at end : ℕ} where
     pub row-stored : (k : ℕ) → from ≤ k → m < k → getD firsts k 0 ≡ m → Stored (row k) before at after end
-        → Stored (row (k + 1)) before at (set after end (34359738368 + m * 65536 + k)) (end + 1)
+        → Stored (row (k + 1)) before at (set after end (0x8_0000_0000 + m * 0x1_0000 + k)) (end + 1)
     row-stored k h g e s = rw (row-hit k h g e, compare-key) (stored-snoc (key (Do (Compare m k))) s)
 
     pub row-passed : (k : ℕ) → from ≤ k → m < k → getD firsts k 0 ≢ m → Stored (row k) before at after end → Stored (row (k + 1)) before at after end

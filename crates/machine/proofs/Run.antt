@@ -24,6 +24,7 @@ use Rattle.machine.proofs.Compares.{Decided, holds, refuted, decided-fr
 use Rattle.machine.proofs.Replace.{length-vars, match-length}
 use Rattle.machine.proofs.Table.{filled, filled-more, filled-get}
 use Rattle.machine.proofs.Fits.{literal-match, Fits, fits-none, fits-also, places}
+use Rattle.clause.proofs.Apart.{apart}
 
 -- the variables put after some words
 puts-vars : (puts ws : List ℕ) → putsAll puts ws ≡ puts ++ vars ws
@@ -77,7 +78,7 @@ fits-first {d} {l} {ls} {js = js} {puts} {poss} ps e (fits-also {ps = qs} f c F)
 
 fits-some : {d l : List ℕ} {ls : List (List ℕ)} {j : ℕ} {js puts poss : List ℕ} → flat d l (startOf d j) ≡ none → Fits d (l ∷ ls) (j ∷ js) puts poss
     → ⊥
-fits-some e (fits-also f c F) = let z : _≡_ {A = ℕ} 0 1 = cc in omega arith
+fits-some e (fits-also f c F) = apart cc
 
 module _ (d : List ℕ) (D : Clause d) where
   abbrev Runs : List (List ℕ) → Type 0

@@ -8,6 +8,7 @@ use native.Mathlib.Omega.{arith}
 use native.Mathlib.Numerals.{add-one}
 use lib.ListN.{length, getD, set}
 use lib.Seq.{getD-set-same, getD-set-other}
+use Rattle.clause.specs.Word.{arities}
 use Rattle.machine.specs.Instr.{Down, Right, Push, Pop, key}
 use Rattle.machine.specs.Compile.{Saved, ended, inside, Way, way}
 use Rattle.machine.specs.inner.Compiling.{Stored, openingKeys, atHead, opened, savedIn, stepKeys, Went}
@@ -20,10 +21,10 @@ open-on s keys e =
     (sym (ap (λ b. cond b s (atHead s)) e), let h : openingKeys (s .inside) ≡ [] = ap openingKeys e in rw h (stored-none keys (s .written)))
 
 pub open-new : (s : Spot) (keys : List ℕ) → s .inside ≡ false
-    → (atHead s ≡ opened s) × Stored (openingKeys (s .inside)) keys (s .written) (set keys (s .written) 4294967296) (s .written + 1)
+    → (atHead s ≡ opened s) × Stored (openingKeys (s .inside)) keys (s .written) (set keys (s .written) 0x1_0000_0000) (s .written + 1)
 unfolding key
 open-new s keys e =
-    (sym (ap (λ b. cond b s (atHead s)) e), let h : openingKeys (s .inside) ≡ 4294967296 ∷ [] = ap openingKeys e in rw h (record { after-is = refl; end-is = refl }))
+    (sym (ap (λ b. cond b s (atHead s)) e), let h : openingKeys (s .inside) ≡ 0x1_0000_0000 ∷ [] = ap openingKeys e in rw h (record { after-is = refl; end-is = refl }))
 
 -- the positions to come back to: none of them is at or above the depth
 saved-set : (saved : List ℕ) (d x k : ℕ) → k ≤ d → savedIn (set saved d x) k ≡ savedIn saved k
@@ -34,16 +35,16 @@ saved-set saved d x (suc k) h =
     rw (getD-set-other saved d k x 0 n, saved-set saved d x k (omega arith))
 
 -- one more
-saved-push : (saved : List ℕ) (d n l : ℕ) → d < length saved → l < 8 → savedIn (set saved d (n * 8 + l)) (d + 1) ≡ record { slot = n; left = l } ∷ savedIn saved d
+saved-push : (saved : List ℕ) (d n l : ℕ) → d < length saved → l < arities → savedIn (set saved d (n * arities + l)) (d + 1) ≡ record { slot = n; left = l } ∷ savedIn saved d
 unfolding savedIn
 saved-push saved d n l h g =
-    let a : (n * 8 + l) / 8 ≡ n = omega arith in
-    let b : (n * 8 + l) % 8 ≡ l = omega arith in
-    rw (add-one, getD-set-same saved d (n * 8 + l) 0 h, a, b, saved-set saved d (n * 8 + l) d (omega arith))
+    let a : (n * arities + l) / arities ≡ n = omega arith in
+    let b : (n * arities + l) % arities ≡ l = omega arith in
+    rw (add-one, getD-set-same saved d (n * arities + l) 0 h, a, b, saved-set saved d (n * arities + l) d (omega arith))
 
 -- the latest
 saved-top : (saved : List ℕ) (d : ℕ) → 0 < d
-    → savedIn saved d ≡ record { slot = getD saved (d - 1) 0 / 8; left = getD saved (d - 1) 0 % 8 } ∷ savedIn saved (d - 1)
+    → savedIn saved d ≡ record { slot = getD saved (d - 1) 0 / arities; left = getD saved (d - 1) 0 % arities } ∷ savedIn saved (d - 1)
 unfolding savedIn
 saved-top saved zero h = absurd (omega arith)
 saved-top saved (suc d) h = let e : suc d - 1 ≡ d = omega arith in rw e
@@ -92,7 +93,7 @@ pub pop-one : (saved : List ℕ) (d n a l : ℕ) → a ≡ 0 → l ≡ 0 → 0 <
 pop-one saved d n a l e f h = rw (e, f, saved-top saved d h, way-pop)
 
 -- the spot that each of them leads to
-module _ (a : ℕ) (s : Spot) (saved keys : List ℕ) (within : s .inside ≡ true) (small : a < 8) (lefts : s .left < 8) (low : s .depth ≤ s .pushed) where
+module _ (a : ℕ) (s : Spot) (saved keys : List ℕ) (within : s .inside ≡ true) (small : a < arities) (lefts : s .left < arities) (low : s .depth ≤ s .pushed) where
   abbrev here : Way
   here = way a (s .left) (savedIn saved (s .depth)) (s .pushed)
 
@@ -102,7 +103,7 @@ module _ (a : ℕ) (s : Spot) (saved keys : List ℕ) (within : s .inside ≡ tr
   pub went-push : 0 < a → 0 < s .left → s .depth < length saved
       → Went here s
       (record { inside = s .inside; left = a - 1; depth = s .depth + 1; pushed = s .pushed + 1; count = s .count; from = s .from; written = s .written + 2 })
-      (set saved (s .depth) (s .pushed * 8 + (s .left - 1))) keys (set (set keys (s .written) (21474836480 + s .pushed)) (s .written + 1) 8589934592)
+      (set saved (s .depth) (s .pushed * arities + (s .left - 1))) keys (set (set keys (s .written) (0x5_0000_0000 + s .pushed)) (s .written + 1) 0x2_0000_0000)
   unfolding key
   went-push h g r =
       rw (way-push a (s .left) (savedIn saved (s .depth)) (s .pushed) h g)
@@ -120,7 +121,7 @@ module _ (a : ℕ) (s : Spot) (saved keys : List ℕ) (within : s .inside ≡ tr
   pub went-down : 0 < a → s .left ≡ 0
       → Went here s
       (record { inside = s .inside; left = a - 1; depth = s .depth; pushed = s .pushed; count = s .count; from = s .from; written = s .written + 1 })
-      saved keys (set keys (s .written) 8589934592)
+      saved keys (set keys (s .written) 0x2_0000_0000)
   unfolding key
   went-down h g =
       rw (ap (λ l. way a l (savedIn saved (s .depth)) (s .pushed)) g ∙ way-down a (savedIn saved (s .depth)) (s .pushed) h)
@@ -138,7 +139,7 @@ module _ (a : ℕ) (s : Spot) (saved keys : List ℕ) (within : s .inside ≡ tr
   pub went-right : a ≡ 0 → 0 < s .left
       → Went here s
       (record { inside = s .inside; left = s .left - 1; depth = s .depth; pushed = s .pushed; count = s .count; from = s .from; written = s .written + 1 })
-      saved keys (set keys (s .written) 12884901888)
+      saved keys (set keys (s .written) 0x3_0000_0000)
   unfolding key
   went-right e g =
       rw (ap (λ a. way a (s .left) (savedIn saved (s .depth)) (s .pushed)) e ∙ way-right (s .left) (savedIn saved (s .depth)) (s .pushed) g)
@@ -155,8 +156,8 @@ module _ (a : ℕ) (s : Spot) (saved keys : List ℕ) (within : s .inside ≡ tr
 
   pub went-pop : a ≡ 0 → s .left ≡ 0 → 0 < s .depth
       → Went here s
-      (record { inside = s .inside; left = getD saved (s .depth - 1) 0 % 8; depth = s .depth - 1; pushed = s .pushed; count = s .count; from = s .from; written = s .written + 1 })
-      saved keys (set keys (s .written) (25769803776 + getD saved (s .depth - 1) 0 / 8))
+      (record { inside = s .inside; left = getD saved (s .depth - 1) 0 % arities; depth = s .depth - 1; pushed = s .pushed; count = s .count; from = s .from; written = s .written + 1 })
+      saved keys (set keys (s .written) (0x6_0000_0000 + getD saved (s .depth - 1) 0 / arities))
   unfolding key
   went-pop e f h =
       rw (ap₂ (λ a l. way a l (savedIn saved (s .depth)) (s .pushed)) e f ∙ ap (λ v. way 0 0 v (s .pushed)) (saved-top saved (s .depth) h) ∙ way-pop _ _ _)

@@ -9,11 +9,12 @@ use native.Mathlib.Numerals.{add-one}
 use lib.ListN.{length, getD, take, drop, length-map, length-append, length-set, drop-of-length-le}
 use lib.Seq.{drop-cons, length-take-le, sets-eq}
 use Rattle.clause.specs.Clause.{maxWords}
-use Rattle.clause.specs.Word.{arity}
+use Rattle.clause.specs.Word.{arities, arity}
 use Rattle.machine.specs.Instr.{Do, key}
+use Rattle.machine.specs.Machine.{slots}
 use Rattle.machine.specs.Compile.{Place, ended, inside, Way, way, wayFrom, opening, begun, closing, act, putsAfter, sequenceFrom, sequence, keys}
 use Rattle.machine.specs.Compiled.{maxKeys, Compiled}
-use Rattle.machine.specs.inner.Compiling.{firstsOf, compareKeys, savedIn, placeOf, openingKeys, opened, stepKeys, toCome, Stored, Acted, Went, Ready, Advanced}
+use Rattle.machine.specs.inner.Compiling.{Room, firstsOf, compareKeys, savedIn, placeAt, openingKeys, opened, stepKeys, toCome, Stored, Acted, Went, Ready, Advanced}
 use Rattle.machine.specs.declared.Spot.{Spot}
 use Rattle.machine.proofs.Stores.{stored-none, stored-append, stored-length}
 use Rattle.machine.proofs.Rows.{compare-keys}
@@ -49,13 +50,13 @@ allKeys ws s o saved puts w =
     openingKeys (s .inside) ++ (key (Do (act puts w)) ∷ (stepKeys (wayAt o saved w .steps) ++ (closingKeys o saved puts w ++ after ws o saved puts w)))
 
 keys-spot : (w : ℕ) (ws : List ℕ) (s : Spot) (saved puts : List ℕ) → length puts ≡ s .count
-    → map key (sequenceFrom (w ∷ ws) (placeOf s saved) puts (s .from) (s .pushed)) ≡ allKeys ws s (opened s) saved puts w
+    → map key (sequenceFrom (w ∷ ws) (placeAt s saved) puts (s .from) (s .pushed)) ≡ allKeys ws s (opened s) saved puts w
 unfolding after closingKeys opening begun wayFrom savedIn
 keys-spot w ws s saved puts e = go (s .inside) (s .left) (s .depth) (s .pushed) (s .count) (s .from) (s .written) e
   where
     go : (b : Bool) (l d n c f k : ℕ) → length puts ≡ c
         → let s : Spot = record { inside = b; left = l; depth = d; pushed = n; count = c; from = f; written = k } in
-        map key (sequenceFrom (w ∷ ws) (placeOf s saved) puts f n) ≡ allKeys ws s (opened s) saved puts w
+        map key (sequenceFrom (w ∷ ws) (placeAt s saved) puts f n) ≡ allKeys ws s (opened s) saved puts w
     go true l d n c f k e = keys-word w ws (inside l (savedIn saved d)) puts f n
     go false l d n c f k e = rw (← e) (keys-word w ws ended puts f n)
 
@@ -106,7 +107,7 @@ module _ {words : List ℕ} {i : ℕ} {s : Spot} {variables firsts saved keys : 
   open-asks = omega (arith, word-room)
 
   pub act-asks : {keys₁ : List ℕ} → Stored (openingKeys (s .inside)) keys (s .written) keys₁ (o .written)
-      → (o .count < length variables) × (o .count < length firsts) × (o .written < length keys₁) × (o .count < 64) × (take (o .count) firsts ≡ firstsOf (take (o .count) variables))
+      → (o .count < length variables) × (o .count < length firsts) × (o .written < length keys₁) × (o .count < slots) × (take (o .count) firsts ≡ firstsOf (take (o .count) variables))
   act-asks so =
       let p = opens s eo in (
         omega (arith, p .count, R .variables-size, R .count-low, R .few-words),
@@ -118,8 +119,8 @@ module _ {words : List ℕ} {i : ℕ} {s : Spot} {variables firsts saved keys : 
 
   pub onward-asks : {keys₁ keys₂ variables′ firsts′ : List ℕ} {count : ℕ} → Stored (openingKeys (s .inside)) keys (s .written) keys₁ (o .written)
       → Acted (wordAt words i) (o .count) variables count variables′ firsts′ keys₁ (o .written) keys₂
-      → (o .inside ≡ true) × (arity (wordAt words i) < 8) × (o .left < 8) × (o .depth ≤ o .pushed) × (o .pushed < 64) × (length saved ≡ 64)
-      × (o .written + 1 + length (stepKeys (wayAt o saved (wordAt words i) .steps)) ≤ length keys₂)
+      → (o .inside ≡ true) × (arity (wordAt words i) < arities) × (o .left < arities) × (o .depth ≤ o .pushed) × (o .pushed < slots) × (length saved ≡ slots)
+      × Room (stepKeys (wayAt o saved (wordAt words i) .steps)) (o .written + 1) keys₂
   unfolding arity
   onward-asks {keys₁} {keys₂} so ac =
       let p = opens s eo in
@@ -149,7 +150,7 @@ module _ {words : List ℕ} {i : ℕ} {s : Spot} {variables firsts saved keys : 
           let b = we .same-count in
           rw (b, ← a) (ac .puts)
 
-      place-when : {b : Bool} → r .inside ≡ b → placeOf r saved′ ≡ cond b (inside (r .left) (savedIn saved′ (r .depth))) ended
+      place-when : {b : Bool} → r .inside ≡ b → placeAt r saved′ ≡ cond b (inside (r .left) (savedIn saved′ (r .depth))) ended
       place-when e = ap (λ b. cond b (inside (r .left) (savedIn saved′ (r .depth))) ended) e
 
       -- the literal goes on, or ends with its Compares
@@ -170,7 +171,7 @@ module _ {words : List ℕ} {i : ℕ} {s : Spot} {variables firsts saved keys : 
       count-fits lf = let p = opens s eo in omega (arith, p .count, ac .high, R .count-low, R .few-words, R .firsts-size)
 
       pub close-asks : r .inside ≡ false → length firsts′ ≡ length firsts
-          → (r .from ≤ length (take count firsts′)) × (length (take count firsts′) ≤ 64) × (r .written + length (compareKeys (take count firsts′) (r .from)) ≤ length keys₃)
+          → (r .from ≤ length (take count firsts′)) × (length (take count firsts′) ≤ slots) × Room (compareKeys (take count firsts′) (r .from)) (r .written) keys₃
       close-asks e lf =
           let p = opens s eo in
           let low : o .from ≤ s .count = p .from (R .from-low) in

@@ -84,11 +84,11 @@ sequenceFrom (w ∷ ws) place puts from n =
     let from′ = begun place puts from in
     opening place ++ (Do (act puts w) ∷ (map Do (t .steps) ++ (map Do (closing (t .place) puts′ from′) ++ sequenceFrom ws (t .place) puts′ from′ (t .pushed))))
 
--- the sequence of a clause up to its Success
+-- the sequence of a clause up to its Success: the code that it is compiled to
 unfoldable pub sequence : List ℕ → List Instr
 sequence ws = sequenceFrom ws ended [] 0 0
 
--- clauses are variants, the same up to variable names, when their sequences agree
+-- clauses are variants, equal up to a renaming of their variables, when their sequences agree
 abbrev pub Variants : (c d : List ℕ) → Type 0
 Variants c d = sequence c ≡ sequence d
 

@@ -76,7 +76,7 @@ unfoldable pub require : Outcome State → Bool → Outcome State → Outcome St
 require o true r = r
 require o false r = o
 
--- the number of a Put, Push, Pop or Compare is below 64
+-- the number of a Put, Push, Pop or Compare is below `slots`
 abbrev pub within : ℕ → Outcome State → Outcome State
 within n r = require stuck (ltb n slots) r
 

@@ -1,14 +1,20 @@
 // Compiling a clause into the keys of its sequence.
+use crate::Key;
 use crate::Sequence;
 use crate::Spot;
+use clause::Clause;
+use clause::arity;
 ghost use mathlib.Core.Path.{_≡_};
 ghost use mathlib.Core.Bool.{true};
 ghost use Prim.Native.Nat.{_+_, _≤_, _<_};
 ghost use lib.ListN.{length, take};
+ghost use Rattle.clause.specs.Word.{arities};
 ghost use Rattle.clause.specs.Clause.{maxWords};
 ghost use Rattle.machine.specs.Compile.{first, way};
+ghost use Rattle.machine.specs.Machine.{slots};
 ghost use Rattle.machine.specs.Compiled.{maxKeys, Compiled};
-ghost use Rattle.machine.specs.inner.Compiling.{Stored, firstsOf, rowKeys, compareKeys, savedIn, openingKeys, opened, Acted, stepKeys, Went, Ready, Advanced};
+ghost use Rattle.machine.specs.inner.Compiling.{Room, Stored, firstsOf, rowKeys, compareKeys, savedIn, openingKeys, opened, Acted, stepKeys, Went};
+ghost use Rattle.machine.specs.inner.Compiling.{Ready, Advanced};
 
 // The number of the first put of variable v.
 fn first_put(variables: &[u16], v: u16) -> usize
@@ -26,7 +32,9 @@ fn first_put(variables: &[u16], v: u16) -> usize
 
 // Writes Compare m k for each put k of this literal whose variable was first put as m < k.
 fn compare_row(firsts: &[usize], from: usize, m: usize, keys: &mut [u64], written: usize) -> usize
-    requires { ⌜ (m < length (now firsts)) × (from ≤ length (now firsts)) × (length (now firsts) ≤ 64) × (written + length (rowKeys (now firsts) from m) ≤ length (now keys)) ⌝ }
+    requires { ⌜
+        (m < length (now firsts)) × (from ≤ length (now firsts)) × (length (now firsts) ≤ slots)
+        × Room (rowKeys (now firsts) from m) written (now keys) ⌝ }
     ensures { λ r. ⌜ Stored (rowKeys (now (firsts .entry)) from m) (now (keys .entry)) written (now (keys .exit)) r ⌝ }
 {
     let mut at = written;
@@ -36,7 +44,7 @@ fn compare_row(firsts: &[usize], from: usize, m: usize, keys: &mut [u64], writte
     }
     while k < firsts.len() {
         if firsts[k] == m {
-            keys[at] = 34359738368 + (m as u64) * 65536 + (k as u64);
+            keys[at] = Key::COMPARE + (m as u64) * Key::PAIR + (k as u64);
             at += 1;
         }
         k += 1;
@@ -46,7 +54,7 @@ fn compare_row(firsts: &[usize], from: usize, m: usize, keys: &mut [u64], writte
 
 // Writes the Compares at a literal's end.
 fn compare_all(firsts: &[usize], from: usize, keys: &mut [u64], written: usize) -> usize
-    requires { ⌜ (from ≤ length (now firsts)) × (length (now firsts) ≤ 64) × (written + length (compareKeys (now firsts) from) ≤ length (now keys)) ⌝ }
+    requires { ⌜ (from ≤ length (now firsts)) × (length (now firsts) ≤ slots) × Room (compareKeys (now firsts) from) written (now keys) ⌝ }
     ensures { λ r. ⌜ Stored (compareKeys (now (firsts .entry)) from) (now (keys .entry)) written (now (keys .exit)) r ⌝ }
 {
     let mut at = written;
@@ -60,14 +68,14 @@ fn compare_all(firsts: &[usize], from: usize, keys: &mut [u64], written: usize) 
 
 // Writes First where a literal begins.
 fn open(s: Spot, keys: &mut [u64]) -> Spot
-    requires { ⌜ s .written + length (openingKeys (s .inside)) ≤ length (now keys) ⌝ }
+    requires { ⌜ Room (openingKeys (s .inside)) (s .written) (now keys) ⌝ }
     ensures { λ r. ⌜ (r ≡ opened s) × Stored (openingKeys (s .inside)) (now (keys .entry)) (s .written) (now (keys .exit)) (r .written) ⌝ }
 {
     if s.inside {
         return s;
     }
     let written = s.written;
-    keys[written] = 4294967296;
+    keys[written] = Key::FIRST;
     Spot {
         inside: true,
         left: 0,
@@ -89,27 +97,30 @@ fn act(
     written: usize,
 ) -> usize
     requires { ⌜
-        (count < length (now variables)) × (count < length (now firsts)) × (written < length (now keys)) × (count < 64)
+        (count < length (now variables)) × (count < length (now firsts)) × (written < length (now keys)) × (count < slots)
         × (take count (now firsts) ≡ firstsOf (take count (now variables))) ⌝ }
-    ensures { λ r. ⌜ Acted w count (now (variables .entry)) r (now (variables .exit)) (now (firsts .exit)) (now (keys .entry)) written (now (keys .exit)) ⌝ }
+    ensures { λ r. ⌜ Acted w count (now (variables .entry)) r (now (variables .exit)) (now (firsts .exit))
+        (now (keys .entry)) written (now (keys .exit)) ⌝ }
 {
-    if w / 2048 == 8 {
+    // kind 1, arity 0
+    if w / 0x800 == 8 {
         let number = first_put(&variables[..count], w);
         firsts[count] = number;
         variables[count] = w;
-        keys[written] = 17179869184 + (count as u64);
+        keys[written] = Key::PUT + (count as u64);
         return count + 1;
     }
-    keys[written] = 30064771072 + (w as u64);
+    keys[written] = Key::CHECK + (w as u64);
     count
 }
 
 // Writes the steps from a word with so many arguments to the next word of its literal.
 fn onward(arity: usize, mut s: Spot, saved: &mut [usize], keys: &mut [u64]) -> Spot
     requires { ⌜
-        (s .inside ≡ true) × (arity < 8) × (s .left < 8) × (s .depth ≤ s .pushed) × (s .pushed < 64) × (length (now saved) ≡ 64)
-        × (s .written + length (stepKeys (way arity (s .left) (savedIn (now saved) (s .depth)) (s .pushed) .steps)) ≤ length (now keys)) ⌝ }
-    ensures { λ r. ⌜ Went (way arity (s .left) (savedIn (now (saved .entry)) (s .depth)) (s .pushed)) s r (now (saved .exit)) (now (keys .entry)) (now (keys .exit)) ⌝ }
+        (s .inside ≡ true) × (arity < arities) × (s .left < arities) × (s .depth ≤ s .pushed) × (s .pushed < slots) × (length (now saved) ≡ slots)
+        × Room (stepKeys (way arity (s .left) (savedIn (now saved) (s .depth)) (s .pushed) .steps)) (s .written) (now keys) ⌝ }
+    ensures { λ r. ⌜ Went (way arity (s .left) (savedIn (now (saved .entry)) (s .depth)) (s .pushed)) s r
+        (now (saved .exit)) (now (keys .entry)) (now (keys .exit)) ⌝ }
 {
     let left = s.left;
     let depth = s.depth;
@@ -118,28 +129,28 @@ fn onward(arity: usize, mut s: Spot, saved: &mut [usize], keys: &mut [u64]) -> S
     if arity > 0 {
         s.left = arity - 1;
         if left > 0 {
-            saved[depth] = pushed * 8 + (left - 1);
-            keys[written] = 21474836480 + (pushed as u64);
-            keys[written + 1] = 8589934592;
+            saved[depth] = pushed * Clause::ARITIES + (left - 1);
+            keys[written] = Key::PUSH + (pushed as u64);
+            keys[written + 1] = Key::DOWN;
             s.depth = depth + 1;
             s.pushed = pushed + 1;
             s.written = written + 2;
             return s;
         }
-        keys[written] = 8589934592;
+        keys[written] = Key::DOWN;
         s.written = written + 1;
         return s;
     }
     if left > 0 {
-        keys[written] = 12884901888;
+        keys[written] = Key::RIGHT;
         s.left = left - 1;
         s.written = written + 1;
         return s;
     }
     if depth > 0 {
         let top = saved[depth - 1];
-        keys[written] = 25769803776 + ((top / 8) as u64);
-        s.left = top % 8;
+        keys[written] = Key::POP + ((top / Clause::ARITIES) as u64);
+        s.left = top % Clause::ARITIES;
         s.depth = depth - 1;
         s.written = written + 1;
         return s;
@@ -170,7 +181,7 @@ fn compile_word(
     let count = act(w, a.count, variables, firsts, keys, at);
     a.count = count;
     a.written = at + 1;
-    let mut t = onward((w / 2048 % 8) as usize, a, saved, keys);
+    let mut t = onward(arity(w), a, saved, keys);
     if t.inside {
         return t;
     }

@@ -16,6 +16,7 @@ use Rattle.tree.specs.inner.Cut.{Span, begin, locate}
 use Rattle.tree.proofs.InsertWords.{leaf-number}
 use Rattle.tree.proofs.RemoveWords.{locate-hit, locate-miss}
 use Rattle.tree.proofs.Hops.{keyAt, extentAt, locate-stop, locate-step}
+use Rattle.clause.proofs.Apart.{apart}
 
 -- ---- where the run begins
 
@@ -59,13 +60,14 @@ found-here w ws n at from up s l h q e =
     subst (Found (w ∷ ws) at) (cc) (record { order = begin-le w at from up h; inside = omega arith; counted = omega arith })
 
 pub found : (ws : List ℕ) (n at from up : ℕ) (s : Span) → n < inner → from ≤ at → locate ws n at from up ≡ some s → Found ws at s
-found [] n at from up s l h e = let z : _≡_ {A = ℕ} 0 1 = cc in absurd (omega arith)
+found [] n at from up s l h e = apart cc
 found (w ∷ ws) n at from up s l h e = go (eqb (keyOf w) n) refl (found ws n (suc at) (begin w at from up) (extentOf w) s l)
   where
     start : begin w at from up ≤ at
     start = begin-le w at from up h
 
-    go : (b : Bool) → eqb (keyOf w) n ≡ b → (begin w at from up ≤ suc at → locate ws n (suc at) (begin w at from up) (extentOf w) ≡ some s → Found ws (suc at) s) → Found (w ∷ ws) at s
+    go : (b : Bool) → eqb (keyOf w) n ≡ b
+        → (begin w at from up ≤ suc at → locate ws n (suc at) (begin w at from up) (extentOf w) ≡ some s → Found ws (suc at) s) → Found (w ∷ ws) at s
     go true q r = found-here w ws n at from up s l h (eqb-true (keyOf w) n q) e
     go false q r =
         let f : Found ws (suc at) s = r (omega (arith, start)) (sym (locate-miss w ws n at from up (eqb-false (keyOf w) n q)) ∙ e) in

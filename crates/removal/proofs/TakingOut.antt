@@ -13,7 +13,7 @@ use lib.Seq.{length-take-le, take-all, take-at, drop-at, take-take, drop-drop}
 use borrow.Author.Tests.{leb-true, ltb-false, ne-eqb}
 use borrow.Rule.Slice.PartMut.{putMid}
 use Rattle.tree.specs.Keys.{inner}
-use Rattle.tree.specs.Laid.{extentOf, usedOf, keptOf, rows, sized, wellLaid}
+use Rattle.tree.specs.Laid.{leastWords, mostWords, oneLess, extentOf, usedOf, keptOf, rows, sized, wellLaid}
 use Rattle.tree.specs.inner.Cut.{Span, locate, lower, cut}
 use Rattle.removal.specs.inner.Close.{Lowerable, Removable, closeUp, takenOut}
 use Rattle.tree.specs.Calls.{Called, refused}
@@ -23,6 +23,7 @@ use Rattle.tree.specs.declared.Refusal.the-variants.{NoSuchNumber}
 use Rattle.tree.proofs.Grow.{rows-under, Tests, tests, zeros-replicated}
 use Rattle.tree.proofs.RemoveWords.{cut-parts}
 use Rattle.removal.proofs.Locating.{Found, found}
+use Rattle.clause.proofs.Apart.{apart}
 
 -- ---- the words before the place
 
@@ -92,7 +93,7 @@ module _ (h : ℕ) (D L : List ℕ) (place : ℕ) (long : length L ≡ place) wh
 pub taken : (s : List ℕ) (place gone : ℕ) (L C : List ℕ) → Removable s place gone
     → L ≡ lower (take (place + 1 - 1) (drop 1 s)) (length (take (place + 1 - 1) (drop 1 s))) gone
     → C ≡ closeUp (take (length (lent s place L) - (place + 1)) (drop (place + 1) (lent s place L))) (usedOf (getD s 0 0) - place) gone
-    → set (putMid (place + 1) (length (lent s place L) - (place + 1)) (lent s place L) C) 0 (getD s 0 0 - (gone * 2 ^ 32 + 1)) ≡ takenOut s place gone
+    → set (putMid (place + 1) (length (lent s place L) - (place + 1)) (lent s place L) C) 0 (oneLess (getD s 0 0) gone) ≡ takenOut s place gone
 taken [] place gone L C r p q = absurd (omega (arith, r .room))
 taken (h ∷ ws) place gone L C r p q =
     let w : place + 1 - 1 ≡ place = omega arith in
@@ -103,15 +104,15 @@ taken (h ∷ ws) place gone L C r p q =
     let closes : C ≡ closeUp D (usedOf h - place) gone = q ∙ rw w (rw (the-tail h D L place long)) in
     let back : putMid (place + 1) (length (lent (h ∷ ws) place L) - (place + 1)) (lent (h ∷ ws) place L) C ≡ h ∷ (L ++ C) =
     rw w (tail-back (h ∷ (L ++ D)) C (place + 1) (rw (length-append L D, long) (omega arith)) ∙ ap (_++ C) (before-tail h D L place long)) in
-    ap (λ (l : List ℕ). set l 0 (h - (gone * 2 ^ 32 + 1))) back ∙ ap₂ (λ (a b : List ℕ). (h - (gone * 2 ^ 32 + 1)) ∷ (a ++ b)) lowers closes
+    ap (λ (l : List ℕ). set l 0 (oneLess h gone)) back ∙ ap₂ (λ (a b : List ℕ). oneLess h gone ∷ (a ++ b)) lowers closes
 
 -- ---- removal
 
-pub sized-low : (t : List ℕ) → sized t ≡ true → 2 ≤ length t
-sized-low t h = leb-true 2 (length t) (and-eq-true-iff (leb 2 (length t)) (leb (length t) 65_536) .0 h .0)
+pub sized-low : (t : List ℕ) → sized t ≡ true → leastWords ≤ length t
+sized-low t h = leb-true leastWords (length t) (and-eq-true-iff (leb leastWords (length t)) (leb (length t) mostWords) .0 h .0)
 
-pub sized-high : (t : List ℕ) → sized t ≡ true → length t ≤ 65_536
-sized-high t h = leb-true (length t) 65_536 (and-eq-true-iff (leb 2 (length t)) (leb (length t) 65_536) .0 h .1)
+pub sized-high : (t : List ℕ) → sized t ≡ true → length t ≤ mostWords
+sized-high t h = leb-true (length t) mostWords (and-eq-true-iff (leb leastWords (length t)) (leb (length t) mostWords) .0 h .1)
 
 -- the scan of the used words, as the code lends them
 abbrev pub scan : List ℕ → ℕ → Option Span
@@ -142,17 +143,18 @@ hit h ws n s l w e =
 -- the used words of a well-laid slice are in it
 pub laid-room : (t : List ℕ) → wellLaid t ≡ true → usedOf (getD t 0 0) < length t
 unfolding wellLaid
-laid-room [] w = let z : _≡_ {A = ℕ} 0 1 = cc in absurd (omega arith)
+laid-room [] w = apart cc
 laid-room (h ∷ ws) w = omega (arith, tests h ws (rw w tt) .room)
 
 -- what is found is among them
 pub hit-order : (t : List ℕ) (n : ℕ) (s : Span) → n < inner → wellLaid t ≡ true → some s ≡ scan t n → (s .place ≤ s .last) × (s .last < usedOf (getD t 0 0))
-hit-order [] n s l w e = let z : _≡_ {A = ℕ} 0 1 = cc in absurd (omega arith)
+hit-order [] n s l w e = apart cc
 hit-order (h ∷ ws) n s l w e = let f : Hit h ws n s = hit h ws n s l w e in (f .order, f .inside)
 
 -- what is found in a well-laid slice can be taken out, and so can fewer words
-pub removable : (t : List ℕ) (n : ℕ) (s : Span) (gone : ℕ) → gone ≤ s .last + 1 - s .place → length t ≤ 65_536 → n < inner → wellLaid t ≡ true → some s ≡ scan t n → Removable t (s .place) gone
-removable [] n s gone q u l w e = let z : _≡_ {A = ℕ} 0 1 = cc in absurd (omega arith)
+pub removable : (t : List ℕ) (n : ℕ) (s : Span) (gone : ℕ) → gone ≤ s .last + 1 - s .place → length t ≤ mostWords → n < inner
+    → wellLaid t ≡ true → some s ≡ scan t n → Removable t (s .place) gone
+removable [] n s gone q u l w e = apart cc
 removable (h ∷ ws) n s gone q u l w e =
     let f : Hit h ws n s = hit h ws n s l w e in
     let same : take (s .place) (take (usedOf h) ws) ≡ take (s .place) ws = take-take (s .place) (usedOf h) ws (omega (arith, f .order, f .inside)) in
@@ -169,7 +171,7 @@ removable (h ∷ ws) n s gone q u l w e =
 pub removed : (t : List ℕ) (n : ℕ) (s : Span) → n < inner → wellLaid t ≡ true → some s ≡ scan t n
     → _≡_ {A = Called} (record { answer = Removed; slice = takenOut t (s .place) (s .last + 1 - s .place) }) (removeByWords t n)
 unfolding removeByWords
-removed [] n s l w e = let z : _≡_ {A = ℕ} 0 1 = cc in absurd (omega arith)
+removed [] n s l w e = apart cc
 removed (h ∷ ws) n s l w e =
     let f : Hit h ws n s = hit h ws n s l w e in
     let many : s .last + 1 - s .place ≡ suc (s .last) - s .place = omega arith in
@@ -180,7 +182,7 @@ removed (h ∷ ws) n s l w e =
 -- a number that is not found is refused
 pub missed : (t : List ℕ) (n : ℕ) → wellLaid t ≡ true → none ≡ scan t n → refused NoSuchNumber t ≡ removeByWords t n
 unfolding removeByWords wellLaid
-missed [] n w e = let z : _≡_ {A = ℕ} 0 1 = cc in absurd (omega arith)
+missed [] n w e = apart cc
 missed (h ∷ ws) n w e =
     let used : usedOf h + 1 - 1 ≡ usedOf h = omega arith in
     let here : locate (take (usedOf h) ws) n 0 0 0 ≡ none = sym (rw used at e) in

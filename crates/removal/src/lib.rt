@@ -75,11 +75,11 @@ fn take_out(tree: &mut [u64], place: usize, gone: usize)
     ensures { λ _. ⌜ now (tree .exit) ≡ takenOut (now (tree .entry)) place gone ⌝ }
 {
     let header = tree[0];
-    let used = (header / 4294967296) as usize;
+    let used = Tree::used(header);
     let at = place + 1;
     lower(&mut tree[1..at], gone as u64);
     close_up(&mut tree[at..], used - place, gone);
-    tree[0] = header - (gone as u64 * 4294967296 + 1);
+    tree[0] = Tree::one_less(header, gone);
 }
 
 // The removal of a number from a slice that the caller holds well laid.
@@ -87,8 +87,7 @@ pub fn remove_laid(tree: &mut [u64], number: u32) -> CallAnswer
     requires { ⌜ (sized (now tree) ≡ true) × (wellLaid (now tree) ≡ true) ⌝ }
     ensures { λ r. ⌜ record { answer = r; slice = now (tree .exit) } ≡ removeByWords (now (tree .entry)) number ⌝ }
 {
-    let used = (tree[0] / 4294967296) as usize;
-    let end = used + 1;
+    let end = Tree::used(tree[0]) + 1;
     let located = locate(&tree[1..end], number);
     let Located::At(run) = located else {
         return CallAnswer::Refused(Refusal::NoSuchNumber);

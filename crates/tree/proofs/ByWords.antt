@@ -10,10 +10,10 @@ use lib.ListN.{length, replicate, length-append, length-replicate}
 use borrow.Author.Tests.{leb-true, leb-false, lt-ltb, le-ltb}
 use Rattle.clause.specs.Clause.{shape}
 use Rattle.tree.specs.Keys.{inner}
-use Rattle.tree.specs.Forest.{Forest, size, leaves, encode, layout, ins, del, find, holder, WellFormed, Body}
-use Rattle.tree.specs.Laid.{maxKept, sized, usedOf, wellLaid, decode}
+use Rattle.tree.specs.Forest.{headerOf, Forest, size, leaves, encode, layout, ins, del, find, holder, WellFormed, Body}
+use Rattle.tree.specs.Laid.{leastWords, mostWords, maxKept, sized, usedOf, wellLaid, decode}
 use Rattle.tree.specs.Entries.{Entry, Pair, entry}
-use Rattle.tree.specs.inner.Merge.{Spot, seek}
+use Rattle.tree.specs.inner.Merge.{Gap, seek}
 use Rattle.tree.specs.inner.Cut.{locate}
 use Rattle.tree.specs.Changes.{refuse, change, insertInto, removeFrom}
 use Rattle.tree.specs.Laws.{Stands}
@@ -34,20 +34,20 @@ use Rattle.tree.specs.declared.CallAnswer.{CallAnswer}
 use Rattle.tree.specs.declared.CallAnswer.the-variants.{Kept, Removed}
 
 -- a slice is its header and its words
-laid-words : (len : ℕ) (F : Forest) → layout len F ≡ (size F * 2 ^ 32 + leaves F) ∷ filled len F
+laid-words : (len : ℕ) (F : Forest) → layout len F ≡ headerOf (size F) (leaves F) ∷ filled len F
 unfolding layout
 laid-words len F = refl
 
-module _ (len : ℕ) (F : Forest) (f : WellFormed F) (room : size F < len) (high : len ≤ 65_536) where
+module _ (len : ℕ) (F : Forest) (f : WellFormed F) (room : size F < len) (high : len ≤ mostWords) where
   -- the header of the slice
   abbrev header : ℕ
-  header = size F * 2 ^ 32 + leaves F
+  header = headerOf (size F) (leaves F)
 
   length-filled : length (filled len F) ≡ len - 1
   length-filled = simp (length-append, length-encode, length-replicate) (omega arith)
 
   -- a new tree in the slice
-  changes-to : (G : Forest) (a : CallAnswer) (h : ℕ) (ws : List ℕ) → h ≡ size G * 2 ^ 32 + leaves G → ws ≡ filled len G
+  changes-to : (G : Forest) (a : CallAnswer) (h : ℕ) (ws : List ℕ) → h ≡ headerOf (size G) (leaves G) → ws ≡ filled len G
       → _≡_ {A = Called} (record { answer = a; slice = h ∷ ws }) (changed (layout len F) a (change G))
   changes-to G a h ws p q = rw (length-layout len F room, laid-words len G, p, q)
 
@@ -57,7 +57,7 @@ module _ (len : ℕ) (F : Forest) (f : WellFormed F) (room : size F < len) (high
     abbrev G : Forest
     G = ins (e .keys) (e .number) F
 
-    abbrev spot : Spot
+    abbrev spot : Gap
     spot = seek (filled len F) 0 (size F) 0 (e .keys)
 
     larger : size G ≡ size F + suc (length (spot .left))
@@ -124,8 +124,8 @@ module _ (len : ℕ) (F : Forest) (f : WellFormed F) (room : size F < len) (high
 -- ---- any well-laid slice
 
 module _ (T : List ℕ) (s : sized T ≡ true) (w : wellLaid T ≡ true) where
-  short : length T ≤ 65_536
-  short = leb-true (length T) 65_536 (and-eq-true-iff (leb 2 (length T)) (leb (length T) 65_536) .0 s .1)
+  short : length T ≤ mostWords
+  short = leb-true (length T) mostWords (and-eq-true-iff (leb leastWords (length T)) (leb (length T) mostWords) .0 s .1)
 
   stands : Stands T (decode T)
   stands = laid-decode T (omega (arith, short)) (rw w tt)

@@ -23,6 +23,7 @@ use Rattle.tree.proofs.Held.{has-number, Holding, holding}
 use Rattle.tree.proofs.Count.{book-size}
 use Rattle.tree.proofs.Words.{decode-layout}
 use Rattle.tree.proofs.Grow.{laid-iff}
+use Rattle.clause.proofs.Apart.{apart}
 
 slices : (s : List ℕ) → length s ≤ 2 ^ 28 → Slices s
 slices s u =
@@ -33,7 +34,7 @@ slices s u =
 
 -- nothing is something
 none≢some : {A : Type 0} {a : A} → none ≡ some a → ⊥
-none≢some e = let z : _≡_ {A = ℕ} 0 1 = cc in omega arith
+none≢some e = apart cc
 
 -- ---- the first with a number
 

@@ -1,8 +1,10 @@
-// The code tree in lent words: fresh, insertion, removal (document 01, "Tree words" and "Insertion, ceiling, removal").
+// Tree words (document 01, "Tree words"): the fields of a word and of a header, the size of a slice; what calls answer.
 ghost use mathlib.Core.Path.{_≡_};
 ghost use mathlib.Core.Bool.{_&&_};
+ghost use Prim.Native.Nat.{_^_, _≤_, _<_};
 ghost use lib.Dec.{leb};
-ghost use Rattle.tree.specs.Laid.{leastWords, mostWords, usedOf, keptOf};
+ghost use Rattle.tree.specs.Forest.{headerOf};
+ghost use Rattle.tree.specs.Laid.{leastWords, mostWords, usedOf, keptOf, oneMore, oneLess};
 use clause::Fault;
 
 mod fields;
@@ -10,8 +12,10 @@ mod refusals;
 
 pub use fields::extent;
 pub use fields::key;
+pub use fields::word;
 
-// What is returned on refusal, by every call; a refused clause's fault, with its position, stands inside.
+// What is returned on refusal, by every call; a refused clause's fault, with its position, stands inside. `Held`: a variant of the clause, equal up to
+// the names of its variables, is kept under this number. `Spent`: the budget of candidates is used up, after so many.
 // `codeOf` and `valuesOf` of specs/Refusal give document 01's code and values for each case.
 pub enum Refusal {
     BadSlice,
@@ -49,14 +53,49 @@ impl Tree {
     // The most clauses that a tree keeps.
     pub const CLAUSES: usize = 1024;
 
+    // Extents are below this: the lower bits of a tree word, with its key above them.
+    pub const EXTENTS: u64 = 0x1000_0000;
+    // The kept clauses are below this: the lower bits of a header, with the used words above them.
+    const KEPT: u64 = 0x1_0000_0000;
+
+    // The used words, by a header.
+    pub fn used(word: u64) -> usize
+        ensures { λ r. ⌜ r ≡ usedOf word ⌝ }
+    {
+        (word / Self::KEPT) as usize
+    }
+
+    // The kept clauses, by a header.
+    pub fn kept(word: u64) -> usize
+        ensures { λ r. ⌜ r ≡ keptOf word ⌝ }
+    {
+        (word % Self::KEPT) as usize
+    }
+
     // Reads a header.
     pub fn header(word: u64) -> Self
         ensures { λ r. ⌜ (r .used ≡ usedOf word) × (r .kept ≡ keptOf word) ⌝ }
     {
         Self {
-            used: (word / 4294967296) as usize,
-            kept: (word % 4294967296) as usize,
+            used: Self::used(word),
+            kept: Self::kept(word),
         }
+    }
+
+    // The header with `new` used words more and one clause more, for which it has room.
+    pub fn one_more(word: u64, new: usize) -> u64
+        requires { ⌜ oneMore word new < 2 ^ 64 ⌝ }
+        ensures { λ r. ⌜ r ≡ oneMore word new ⌝ }
+    {
+        word + (new as u64 * Self::KEPT + 1)
+    }
+
+    // The header with `gone` used words less and one clause less, which it has.
+    pub fn one_less(word: u64, gone: usize) -> u64
+        requires { ⌜ headerOf gone 1 ≤ word ⌝ }
+        ensures { λ r. ⌜ r ≡ oneLess word gone ⌝ }
+    {
+        word - (gone as u64 * Self::KEPT + 1)
     }
 
     // Whether a slice of so many words may hold a tree.

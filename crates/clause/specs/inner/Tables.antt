@@ -1,10 +1,24 @@
 -- The tables of a clause: where its literals start, where its terms end and how many right siblings they have.
 use mathlib.Core.List.{List, [], _∷_, _++_}
-use Prim.Native.Nat.{ℕ}
+use Prim.Native.Nat.{ℕ, _+_}
 use lib.ListN.{length, take, drop, replicate}
 use Rattle.clause.specs.Clause.{maxWords, maxLiterals, starts}
 use Rattle.clause.specs.Positions.{ends, siblings}
 use Rattle.clause.specs.declared.Clause.{Clause}
+
+-- the layout: where the literals start stands at 0, then where the terms end, their right siblings, and the number of literals
+abbrev pub atEnds : ℕ
+atEnds = maxLiterals
+
+abbrev pub atSiblings : ℕ
+atSiblings = atEnds + maxWords
+
+abbrev pub atCount : ℕ
+atCount = atSiblings + maxWords
+
+-- how many entries the tables have
+abbrev pub tablesSize : ℕ
+tablesSize = atCount + 1
 
 -- the first n of a list, filled up with zeros
 unfoldable pub padded : ℕ → List ℕ → List ℕ

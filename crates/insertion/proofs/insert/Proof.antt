@@ -47,7 +47,14 @@ returns-3 c =
     let t = l .before .before in
     let r = t .before .before in
     let z = r .before in
-    rw (← z .before .sized .ensures, not-false (z .before .sized .result) (z .if1 .left), ← r .read .ensures, t .enum-told .given .1, ← l .well-laid .ensures, not-true (l .well-laid .result) (c .if2 .taken))
+    rw (
+      ← z .before .sized .ensures,
+      not-false (z .before .sized .result) (z .if1 .left),
+      ← r .read .ensures,
+      t .enum-told .given .1,
+      ← l .well-laid .ensures,
+      not-true (l .well-laid .result) (c .if2 .taken),
+    )
 
 insert-read-requires : tie.Need-insert-read-requires
 insert-read-requires c κs =

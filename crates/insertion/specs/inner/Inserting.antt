@@ -30,7 +30,7 @@ pub record Rows (words : List ℕ) : Type 0 where
   pub inside : T (rows words)
 
 -- the place that the keys lead to, and who keeps them
-pub record Placed (words keys : List ℕ) (r : Place) : Type 0 where
+pub record LeadsTo (words keys : List ℕ) (r : Place) : Type 0 where
   pub within : r .at ≤ length words
   pub shares : r .shared ≤ length keys
   pub spot : seek words 0 (length words) 0 keys ≡ record { place = r .at; left = drop (r .shared) keys }

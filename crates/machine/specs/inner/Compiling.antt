@@ -7,10 +7,16 @@ use lib.ListN.{length, getD, take, drop, set}
 use lib.Dec.{leb, ltb, eqb}
 use lib.Seq.{sets}
 use Rattle.clause.specs.Lists.{numbersBelow}
+use Rattle.clause.specs.Word.{arities}
 use Rattle.clause.specs.Clause.{maxWords}
 use Rattle.machine.specs.Instr.{Step, Compare, First, Do, key}
+use Rattle.machine.specs.Machine.{slots}
 use Rattle.machine.specs.Compile.{Saved, Place, ended, inside, Way, first, act, putsAfter, sequenceFrom}
 use Rattle.machine.specs.declared.Spot.{Spot}
+
+-- there is room for new keys
+abbrev pub Room : (new : List ℕ) (written : ℕ) (keys : List ℕ) → Type 0
+Room new written keys = written + length new ≤ length keys
 
 -- keys stored from `at` on, up to `end`
 pub record Stored (new before : List ℕ) (at : ℕ) (after : List ℕ) (end : ℕ) : Type 0 where
@@ -33,14 +39,14 @@ rowKeys firsts from m = flatMap (λ k. cond (repeatsBy firsts from m k) (key (Do
 unfoldable pub compareKeys : (firsts : List ℕ) (from : ℕ) → List ℕ
 compareKeys firsts from = flatMap (rowKeys firsts from) (numbersBelow (length firsts))
 
--- the positions to come back to, the latest first, each held as its push × 8 + its right siblings
+-- the positions to come back to, the latest first, each held as its push × arities + its right siblings
 unfoldable pub savedIn : (saved : List ℕ) (depth : ℕ) → List Saved
 savedIn saved zero = []
-savedIn saved (suc d) = record { slot = getD saved d 0 / 8; left = getD saved d 0 % 8 } ∷ savedIn saved d
+savedIn saved (suc d) = record { slot = getD saved d 0 / arities; left = getD saved d 0 % arities } ∷ savedIn saved d
 
 -- the place of a spot
-abbrev pub placeOf : Spot → (saved : List ℕ) → Place
-placeOf s saved = cond (s .inside) (inside (s .left) (savedIn saved (s .depth))) ended
+abbrev pub placeAt : Spot → (saved : List ℕ) → Place
+placeAt s saved = cond (s .inside) (inside (s .left) (savedIn saved (s .depth))) ended
 
 -- the key before a literal's first word
 abbrev pub openingKeys : (inside : Bool) → List ℕ
@@ -68,33 +74,33 @@ stepKeys steps = map key (map Do steps)
 
 -- a way is written, and its end is the new spot
 pub record Went (t : Way) (s r : Spot) (saved keys now-keys : List ℕ) : Type 0 where
-  pub place : placeOf r saved ≡ t .place
+  pub place : placeAt r saved ≡ t .place
   pub pushed : r .pushed ≡ t .pushed
   pub stored : Stored (stepKeys (t .steps)) keys (s .written) now-keys (r .written)
   pub same-count : r .count ≡ s .count
   pub same-from : r .from ≡ s .from
-  pub left-small : r .left < 8
+  pub left-small : r .left < arities
   pub depth-low : r .depth ≤ r .pushed
   pub one-more : r .pushed ≤ s .pushed + 1
 
 -- the keys of the words from i on
 unfoldable pub toCome : (words : List ℕ) (i : ℕ) → Spot → (variables saved : List ℕ) → List ℕ
 toCome words i s variables saved =
-    map key (sequenceFrom (drop i words) (placeOf s saved) (take (s .count) variables) (s .from) (s .pushed))
+    map key (sequenceFrom (drop i words) (placeAt s saved) (take (s .count) variables) (s .from) (s .pushed))
 
 -- a spot and its arrays before word i, with room for the keys to come
 pub record Ready (words : List ℕ) (i : ℕ) (s : Spot) (variables firsts saved keys : List ℕ) : Type 0 where
   pub few-words : length words ≤ maxWords
-  pub variables-size : length variables ≡ maxWords
-  pub firsts-size : length firsts ≡ maxWords
-  pub saved-size : length saved ≡ maxWords
+  pub variables-size : length variables ≡ slots
+  pub firsts-size : length firsts ≡ slots
+  pub saved-size : length saved ≡ slots
   pub numbers : take (s .count) firsts ≡ firstsOf (take (s .count) variables)
-  pub left-small : s .left < 8
+  pub left-small : s .left < arities
   pub depth-low : s .depth ≤ s .pushed
   pub pushed-low : s .pushed ≤ i
   pub count-low : s .count ≤ i
   pub from-low : s .from ≤ s .count
-  pub room : s .written + length (toCome words i s variables saved) ≤ length keys
+  pub room : Room (toCome words i s variables saved) (s .written) keys
 
 -- the keys of one word are written
 pub record Advanced (words : List ℕ) (i : ℕ) (s : Spot) (variables saved keys : List ℕ) (r : Spot) (now-variables now-saved now-keys : List ℕ) : Type 0 where

@@ -65,7 +65,9 @@ loop-again : tie.Need-loop-again Inv-loop μ-loop
 loop-again c =
     let l = c .before .before .before .before .before .before in (
       search needs,
-      rw (c .before .before .before .extent .ensures) (scan-on _ _ _ _ _ _ (c .before .before .before .before .before .loop-test .taken) (top (c .before .before)) (λ e. c .if2 .left (c .before .key .ensures ∙ e)) ∙ l .loop .inv .1),
+      rw (c .before .before .before .extent .ensures)
+          (scan-on _ _ _ _ _ _ (c .before .before .before .before .before .loop-test .taken) (top (c .before .before)) (λ e. c .if2 .left (c .before .key .ensures ∙ e))
+          ∙ l .loop .inv .1),
     )
 
 returns-2 : tie.Need-returns-2 Inv-loop μ-loop

@@ -42,7 +42,10 @@ returns-3 c =
     let s = w .before .before in
     let b = s .before .before .before in
     c .before .before .remove-laid .ensures
-    ∙ sym (removal-words (b .args .tree .now) (sym (s .before .sized .ensures) ∙ not-false _ (s .if1 .left)) (sym (w .well-laid .ensures) ∙ not-false _ (c .before .before .before .before .if2 .left)) (b .args .number) (omega arith))
+    ∙ sym (
+    removal-words (b .args .tree .now) (sym (s .before .sized .ensures) ∙ not-false _ (s .if1 .left))
+    (sym (w .well-laid .ensures) ∙ not-false _ (c .before .before .before .before .if2 .left)) (b .args .number) (omega arith)
+    )
 
 pub remove-spec : {M : Type 1} → statement M
 remove-spec =

@@ -10,22 +10,34 @@ use Rattle.removal.proofs.remove_laid.Statement.{statement}
 use Rattle.removal.proofs.remove_laid.Tie as tie
 use Rattle.removal.proofs.remove_laid.Reads as reads
 use Rattle.removal.proofs.remove_laid.Lts as lts
+use Rattle.tree.proofs.Tree.used.Reads as used-reads
 use Rattle.removal.proofs.locate.Reads as locate-reads
 use Rattle.removal.proofs.take_out.Reads as take-out-reads
 
--- the scan's answer, where it is a run
-run : (c : lts.After-located (locate-reads.Asked, locate-reads.Learnt, take-out-reads.Asked, take-out-reads.Learnt) reads.Pre reads.Post)
-    → let s = c .before .before .before .before .before .before .before in
+-- what the callees ask and tell
+abbrev rs : lts.Claims
+rs = (used-reads.Asked, used-reads.Learnt, locate-reads.Asked, locate-reads.Learnt, take-out-reads.Asked, take-out-reads.Learnt)
+
+-- the scan's answer
+scanned : (c : lts.After-locate rs reads.Pre reads.Post) → let s = c .before .before .before .before .before .before in spanOf (c .locate .result) ≡ scan (s .args .tree .now) (s .args .number)
+scanned c = rw (c .before .before .before .used .ensures) at (c .locate .ensures)
+
+-- where it is a run
+run : (c : lts.After-located rs reads.Pre reads.Post)
+    → let s = c .before .before .before .before .before .before .before .before in
     some (record { place = c .located .given .0 .0 .place; last = c .located .given .0 .0 .last }) ≡ scan (s .args .tree .now) (s .args .number)
-run c = sym (ap spanOf (c .located .given .1)) ∙ c .before .before .locate .ensures
+run c = sym (ap spanOf (c .located .given .1)) ∙ scanned (c .before .before)
 
 slice-read-used : tie.Need-slice-read-used
 slice-read-used c =
     let s = c .before .before in omega (arith, sized-low (s .args .tree .now) (s .pre .0))
 
+used-requires : tie.Need-used-requires
+used-requires c κs = search needs
+
 add-end : tie.Need-add-end
 add-end c =
-    let s = c .before .before in omega (arith, laid-room (s .args .tree .now) (s .pre .1))
+    let s = c .before .before .before in omega (arith, laid-room (s .args .tree .now) (s .pre .1))
 
 sub-locate : tie.Need-sub-locate
 sub-locate c = search needs
@@ -35,7 +47,7 @@ part-locate-start c = search needs
 
 part-locate-end : tie.Need-part-locate-end
 part-locate-end c =
-    let s = c .before .before .before in omega (arith, laid-room (s .args .tree .now) (s .pre .1))
+    let s = c .before .before .before .before in omega (arith, laid-room (s .args .tree .now) (s .pre .1))
 
 locate-requires : tie.Need-locate-requires
 locate-requires c κs = search needs
@@ -51,26 +63,27 @@ same-length c = search needs
 
 returns : tie.Need-returns
 returns c =
-    let s = c .before .before .before .before .before .before .before in
-    missed (s .args .tree .now) (s .args .number) (s .pre .1) (sym (ap spanOf (c .enum-told .given .1)) ∙ c .before .before .locate .ensures)
+    let s = c .before .before .before .before .before .before .before .before in
+    missed (s .args .tree .now) (s .args .number) (s .pre .1) (sym (ap spanOf (c .enum-told .given .1)) ∙ scanned (c .before .before))
 
 add-take-out : tie.Need-add-take-out
 add-take-out c =
     let l = c .before .before .before in
-    let s = l .before .before .before .before .before .before .before in
+    let s = l .before .before .before .before .before .before .before .before in
     omega (arith, hit-order (s .args .tree .now) (s .args .number) _ (omega arith) (s .pre .1) (run l) .1, laid-room (s .args .tree .now) (s .pre .1))
 
 sub-take-out : tie.Need-sub-take-out
 sub-take-out c =
     let l = c .before .before .before in
-    let s = l .before .before .before .before .before .before .before in
+    let s = l .before .before .before .before .before .before .before .before in
     omega (arith, hit-order (s .args .tree .now) (s .args .number) _ (omega arith) (s .pre .1) (run l) .0)
 
 take-out-requires : tie.Need-take-out-requires
 take-out-requires c κs =
     let l = c .before .before .before in
-    let s = l .before .before .before .before .before .before .before in
-    removable (s .args .tree .now) (s .args .number) (record { place = l .located .given .0 .0 .place; last = l .located .given .0 .0 .last }) _ (omega arith) (sized-high (s .args .tree .now) (s .pre .0)) (omega arith) (s .pre .1) (run l)
+    let s = l .before .before .before .before .before .before .before .before in
+    let r = l .located .given .0 .0 in
+    removable (s .args .tree .now) (s .args .number) (record { place = r .place; last = r .last }) _ (omega arith) (sized-high (s .args .tree .now) (s .pre .0)) (omega arith) (s .pre .1) (run l)
 
 same-length-2 : tie.Need-same-length-2
 same-length-2 c = search needs
@@ -78,7 +91,7 @@ same-length-2 c = search needs
 returns-2 : tie.Need-returns-2
 returns-2 c =
     let l = c .before .before .before .before .before .before in
-    let s = l .before .before .before .before .before .before .before in
+    let s = l .before .before .before .before .before .before .before .before in
     rw (c .before .before .take-out .ensures) (removed (s .args .tree .now) (s .args .number) _ (omega arith) (s .pre .1) (run l))
 
 pub remove-laid-spec : {M : Type 1} → statement M
@@ -86,6 +99,7 @@ remove-laid-spec =
     tie.close
     (tie.spec
     slice-read-used
+    used-requires
     add-end
     sub-locate
     part-locate-start

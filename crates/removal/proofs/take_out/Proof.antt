@@ -11,6 +11,9 @@ use Rattle.removal.proofs.take_out.Tie as tie
 slice-read-header : tie.Need-slice-read-header
 slice-read-header c = search needs
 
+used-requires : tie.Need-used-requires
+used-requires c κs = search needs
+
 add-at : tie.Need-add-at
 add-at c = search needs
 
@@ -25,7 +28,7 @@ part-lower-end c = search needs
 
 lower-requires : tie.Need-lower-requires
 lower-requires c κs =
-    let s = c .before .before .before in
+    let s = c .before .before .before .before in
     let w : s .args .place + 1 - 1 ≡ s .args .place = omega arith in
     rw w (s .pre .high)
 
@@ -47,38 +50,31 @@ sub-close-up-2 c = search needs
 close-up-requires : tie.Need-close-up-requires
 close-up-requires c κs = search needs
 
-mul-tree : tie.Need-mul-tree
-mul-tree c =
-    let k = c .before .before .before .before .before .before .before .before in
-    omega (arith, k .slice-known2 .given 0, k .before .before .pre .inside)
-
-add-tree : tie.Need-add-tree
-add-tree c =
-    let k = c .before .before .before .before .before .before .before .before in
-    omega (arith, k .slice-known2 .given 0, k .before .before .pre .inside)
-
-sub-tree : tie.Need-sub-tree
-sub-tree c = search needs
+one-less-requires : tie.Need-one-less-requires
+one-less-requires c κs = search needs
 
 slice-write-tree : tie.Need-slice-write-tree
 slice-write-tree c = search needs
 
 same-length : tie.Need-same-length
 same-length c =
-    let l = c .before .before .before .before .before in
-    simp length-set (c .before .tree2 .given .1 ∙ l .tree .given .1)
+    let l = c .before .before .before .before .before .before in
+    simp length-set (c .before .before .tree2 .given .1 ∙ l .tree .given .1)
 
 returns : tie.Need-returns
 returns c =
-    let l = c .before .before .before .before .before .before in
-    let s = l .before .before .before .before in
-    taken (s .args .tree .now) (s .args .place) (s .args .gone) _ _ (s .pre) (l .lower .ensures) (c .before .before .close-up .ensures)
+    let l = c .before .before .before .before .before .before .before in
+    let u = l .before .before in
+    let s = u .before .before .before in
+    rw (c .one-less .ensures)
+    (taken (s .args .tree .now) (s .args .place) (s .args .gone) _ _ (s .pre) (l .lower .ensures) (rw (u .used .ensures) at (c .before .before .before .close-up .ensures)))
 
 pub take-out-spec : {M : Type 1} → statement M
 take-out-spec =
     tie.close
     (tie.spec
     slice-read-header
+    used-requires
     add-at
     sub-lower
     part-lower-start
@@ -90,9 +86,7 @@ take-out-spec =
     part-close-up-end
     sub-close-up-2
     close-up-requires
-    mul-tree
-    add-tree
-    sub-tree
+    one-less-requires
     slice-write-tree
     same-length
     returns)

@@ -1,9 +1,9 @@
 -- What the parts of a removal do: the place that the scan answers, the words that can be lowered, and the words closed up.
 use mathlib.Core.Option.{Option, none, some}
 use mathlib.Core.List.{List, [], _∷_, _++_}
-use Prim.Native.Nat.{ℕ, _+_, _-_, _*_, _^_, _≤_, _<_}
+use Prim.Native.Nat.{ℕ, _+_, _-_, _≤_, _<_}
 use lib.ListN.{length, getD, take, drop, replicate}
-use Rattle.tree.specs.Laid.{extentOf, usedOf, keptOf}
+use Rattle.tree.specs.Laid.{extentOf, usedOf, keptOf, oneLess}
 use Rattle.tree.specs.inner.Cut.{Span, lower}
 use Rattle.removal.specs.declared.Located.{Located}
 use Rattle.removal.specs.declared.Located.the-variants.{At, Nowhere}
@@ -32,4 +32,4 @@ pub record Removable (slice : List ℕ) (place gone : ℕ) : Type 0 where
 abbrev pub takenOut : List ℕ → (place gone : ℕ) → List ℕ
 takenOut [] place gone = []
 takenOut (h ∷ ws) place gone =
-    (h - (gone * 2 ^ 32 + 1)) ∷ (lower (take place ws) place gone ++ closeUp (drop place ws) (usedOf h - place) gone)
+    oneLess h gone ∷ (lower (take place ws) place gone ++ closeUp (drop place ws) (usedOf h - place) gone)

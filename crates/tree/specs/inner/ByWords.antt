@@ -2,23 +2,23 @@
 use mathlib.Core.Bool.{cond}
 use mathlib.Core.Option.{Option, none, some}
 use mathlib.Core.List.{List, [], _∷_, _++_}
-use Prim.Native.Nat.{ℕ, suc, _+_, _-_, _*_, _^_}
+use Prim.Native.Nat.{ℕ, suc, _+_, _-_}
 use lib.Dec.{leb, ltb}
 use lib.ListN.{length, take, replicate}
-use Rattle.tree.specs.Laid.{maxKept, usedOf, keptOf}
+use Rattle.tree.specs.Laid.{maxKept, usedOf, keptOf, oneMore, oneLess}
 use Rattle.tree.specs.Entries.{Entry}
-use Rattle.tree.specs.inner.Merge.{Spot, seek, lift, splice, hold}
+use Rattle.tree.specs.inner.Merge.{Gap, seek, lift, splice, hold}
 use Rattle.tree.specs.inner.Cut.{Span, locate, cut}
 use Rattle.tree.specs.Calls.{Called, refused}
 use Rattle.tree.specs.declared.Refusal.the-variants.{NumberTaken, Held, NoSuchNumber, ListFull, NoRoom}
 use Rattle.tree.specs.declared.CallAnswer.the-variants.{Kept, Removed}
 
 -- the new words put in at a spot, if there is room for them
-abbrev pub insertAt : (header : ℕ) (words : List ℕ) → Entry → Spot → Called
+abbrev pub insertAt : (header : ℕ) (words : List ℕ) → Entry → Gap → Called
 insertAt h ws e s =
     let r = suc (length (s .left)) in
     cond (ltb (length ws) (usedOf h + r)) (refused NoRoom (h ∷ ws))
-    (record { answer = Kept; slice = (h + (r * 2 ^ 32 + 1)) ∷ take (length ws) (splice (lift ws r 0 (usedOf h) (e .keys)) s (e .number)) })
+    (record { answer = Kept; slice = oneMore h r ∷ take (length ws) (splice (lift ws r 0 (usedOf h) (e .keys)) s (e .number)) })
 
 -- by where the number stands and who holds the sequence
 abbrev pub insertUnless : (header : ℕ) (words : List ℕ) → Entry → Option Span → Option ℕ → Called
@@ -36,7 +36,7 @@ abbrev pub removeAt : (header : ℕ) (words : List ℕ) → Option Span → Call
 removeAt h ws none = refused NoSuchNumber (h ∷ ws)
 removeAt h ws (some s) =
     let r = suc (s .last) - s .place in
-    record { answer = Removed; slice = (h - (r * 2 ^ 32 + 1)) ∷ (cut ws (s .place) r ++ replicate r 0) }
+    record { answer = Removed; slice = oneLess h r ∷ (cut ws (s .place) r ++ replicate r 0) }
 
 -- the removal of a number from the words of a well-laid slice
 unfoldable pub removeByWords : List ℕ → (number : ℕ) → Called

@@ -7,10 +7,11 @@ use lib.ListN.{length, getD, drop}
 use borrow.Author.Needs.{needs}
 use borrow.Author.Tests.{not-true, not-false}
 use Rattle.clause.specs.Word.{arity}
-use Rattle.clause.specs.Clause.{scan}
+use Rattle.clause.specs.Clause.{maxLiterals, scan}
 use Rattle.clause.specs.Cursor.{headAt, goDown}
 use Rattle.clause.specs.declared.Cursor.{Cursor}
 use Rattle.clause.specs.declared.Move.the-variants.{To}
+use Rattle.clause.proofs.Apart.{apart}
 use Rattle.clause.proofs.Passing.{past-on}
 use Rattle.clause.proofs.Reading.{readOn, first-at, read-off, read-right, scan-end, scan-other, scan-ninth, scan-head}
 use Rattle.clause.proofs.reader.literals.Statement.{statement}
@@ -18,13 +19,13 @@ use Rattle.clause.proofs.reader.literals.Tie as tie
 
 abbrev Inv-loop : tie.InvT-loop
 Inv-loop words at₀ count₀ argument₀ at count argument =
-    (count ≤ 8) × ((c : Cursor) → argument ≡ To c → c .at ≡ at) × (scan words 0 0 0 ≡ readOn words at count argument)
+    (count ≤ maxLiterals) × ((c : Cursor) → argument ≡ To c → c .at ≡ at) × (scan words 0 0 0 ≡ readOn words at count argument)
 
 abbrev μ-loop : tie.MeasureT-loop
 μ-loop words at₀ count₀ argument₀ at count argument = length words - at
 
 loop-holds : tie.Need-loop-holds Inv-loop μ-loop
-loop-holds c = (search needs, λ h e. let z : _≡_ {A = ℕ} 0 1 = cc in absurd (omega arith), refl)
+loop-holds c = (search needs, λ h e. apart cc, refl)
 
 enum-known-argument : tie.Need-enum-known-argument Inv-loop μ-loop
 enum-known-argument c = search needs

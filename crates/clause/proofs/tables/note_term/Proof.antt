@@ -2,7 +2,7 @@
 use mathlib.Core.Path.{_≡_, refl}
 use native.Mathlib.Omega.{arith}
 use Prim.Native.Nat.{_-_, _≤_, _<_}
-use Rattle.clause.specs.Word.{arity}
+use Rattle.clause.specs.Word.{arities, arity}
 use Rattle.clause.specs.Clause.{maxWords}
 use Rattle.clause.proofs.Literals.{accepted}
 use borrow.Author.Needs.{needs}
@@ -11,7 +11,7 @@ use Rattle.clause.proofs.tables.note_term.Statement.{statement}
 use Rattle.clause.proofs.tables.note_term.Tie as tie
 
 abbrev Inv-loop : tie.InvT-loop
-Inv-loop words tables₀ p at₀ left₀ tables at left = (at ≤ maxWords) × (left ≤ 7) × Marking words p at left tables
+Inv-loop words tables₀ p at₀ left₀ tables at left = (at ≤ maxWords) × (left < arities) × Marking words p at left tables
 
 abbrev μ-loop : tie.MeasureT-loop
 μ-loop words tables₀ p at₀ left₀ tables at left = left

@@ -31,16 +31,16 @@ add-a c =
     let s = o .before .before .before .before .before .before .before .before in
     omega (arith, act-asks (s .pre .1) (s .pre .0) (o .«open» .ensures .0) (o .«open» .ensures .1) .2)
 
-cast-onward : tie.Need-cast-onward
-cast-onward c = search needs
+arity-requires : tie.Need-arity-requires
+arity-requires c κs = search needs
 
 onward-requires : tie.Need-onward-requires
 unfolding arity
 onward-requires c κs =
-    let d = c .before .before .before .before .before .before .before .before in
+    let d = c .before .before .before .before .before .before .before .before .before in
     let o = d .before .before .before .before .before .before in
     let s = o .before .before .before .before .before .before .before .before in
-    onward-asks (s .pre .1) (s .pre .0) (o .«open» .ensures .0) (o .«open» .ensures .1) (d .act .ensures)
+    rw (c .before .before .arity .ensures) (onward-asks (s .pre .1) (s .pre .0) (o .«open» .ensures .0) (o .«open» .ensures .1) (d .act .ensures))
 
 same-length : tie.Need-same-length
 same-length c = search needs
@@ -58,38 +58,42 @@ returns : tie.Need-returns
 unfolding arity
 returns c =
     let r = c .before .before .before .before .before in
-    let d = r .before .before .before .before .before .before .before .before .before in
+    let d = r .before .before .before .before .before .before .before .before .before .before in
+    let w = rw (r .before .before .before .arity .ensures) at (r .onward .ensures) in
     let o = d .before .before .before .before .before .before in
     let s = o .before .before .before .before .before .before .before .before in
-    turn-on (s .pre .1) (s .pre .0) (o .«open» .ensures .0) (o .«open» .ensures .1) (d .act .ensures) (r .onward .ensures)
+    turn-on (s .pre .1) (s .pre .0) (o .«open» .ensures .0) (o .«open» .ensures .1) (d .act .ensures) w
     (d .act .kept .1 .1 .0) (d .act .kept .1 .1 .1 .0) (r .onward .kept .1 .1 .0) (c .if1 .taken)
 
 slice-reshare-prefix-compare-all : tie.Need-slice-reshare-prefix-compare-all
 unfolding arity
 slice-reshare-prefix-compare-all c =
     let r = c .before .before .before .before .before in
-    let d = r .before .before .before .before .before .before .before .before .before in
+    let d = r .before .before .before .before .before .before .before .before .before .before in
+    let w = rw (r .before .before .before .arity .ensures) at (r .onward .ensures) in
     let o = d .before .before .before .before .before .before in
     let s = o .before .before .before .before .before .before .before .before in
-    count-fits (s .pre .1) (s .pre .0) (o .«open» .ensures .0) (o .«open» .ensures .1) (d .act .ensures) (r .onward .ensures) (d .act .kept .1 .1 .1 .0)
+    count-fits (s .pre .1) (s .pre .0) (o .«open» .ensures .0) (o .«open» .ensures .1) (d .act .ensures) w (d .act .kept .1 .1 .1 .0)
 
 slice-aggregate-compare-all : tie.Need-slice-aggregate-compare-all
 unfolding arity
 slice-aggregate-compare-all c =
     let r = c .before .before .before .before .before .before in
-    let d = r .before .before .before .before .before .before .before .before .before in
+    let d = r .before .before .before .before .before .before .before .before .before .before in
+    let w = rw (r .before .before .before .arity .ensures) at (r .onward .ensures) in
     let o = d .before .before .before .before .before .before in
     let s = o .before .before .before .before .before .before .before .before in
-    sym (length-take-le (d .act .result) _ (count-fits (s .pre .1) (s .pre .0) (o .«open» .ensures .0) (o .«open» .ensures .1) (d .act .ensures) (r .onward .ensures) (d .act .kept .1 .1 .1 .0)))
+    sym (length-take-le (d .act .result) _ (count-fits (s .pre .1) (s .pre .0) (o .«open» .ensures .0) (o .«open» .ensures .1) (d .act .ensures) w (d .act .kept .1 .1 .1 .0)))
 
 compare-all-requires : tie.Need-compare-all-requires
 unfolding arity
 compare-all-requires c κs =
     let r = c .before .before .before .before .before .before .before in
-    let d = r .before .before .before .before .before .before .before .before .before in
+    let d = r .before .before .before .before .before .before .before .before .before .before in
+    let w = rw (r .before .before .before .arity .ensures) at (r .onward .ensures) in
     let o = d .before .before .before .before .before .before in
     let s = o .before .before .before .before .before .before .before .before in
-    close-asks (s .pre .1) (s .pre .0) (o .«open» .ensures .0) (o .«open» .ensures .1) (d .act .ensures) (r .onward .ensures) (c .before .before .if1 .left) (d .act .kept .1 .1 .1 .0)
+    close-asks (s .pre .1) (s .pre .0) (o .«open» .ensures .0) (o .«open» .ensures .1) (d .act .ensures) w (c .before .before .if1 .left) (d .act .kept .1 .1 .1 .0)
 
 same-length-5 : tie.Need-same-length-5
 same-length-5 c = search needs
@@ -107,10 +111,11 @@ returns-2 : tie.Need-returns-2
 unfolding arity
 returns-2 c =
     let r = c .before .before .before .before .before .before .before .before .before .before in
-    let d = r .before .before .before .before .before .before .before .before .before in
+    let d = r .before .before .before .before .before .before .before .before .before .before in
+    let w = rw (r .before .before .before .arity .ensures) at (r .onward .ensures) in
     let o = d .before .before .before .before .before .before in
     let s = o .before .before .before .before .before .before .before .before in
-    turn-out (s .pre .1) (s .pre .0) (o .«open» .ensures .0) (o .«open» .ensures .1) (d .act .ensures) (r .onward .ensures)
+    turn-out (s .pre .1) (s .pre .0) (o .«open» .ensures .0) (o .«open» .ensures .1) (d .act .ensures) w
     (d .act .kept .1 .1 .0) (d .act .kept .1 .1 .1 .0) (r .onward .kept .1 .1 .0) (c .before .before .before .before .before .if1 .left) (c .before .before .compare-all .ensures)
 
 pub compile-word-spec : {M : Type 1} → statement M
@@ -122,7 +127,7 @@ compile-word-spec =
     open-requires
     act-requires
     add-a
-    cast-onward
+    arity-requires
     onward-requires
     same-length
     same-length-2
