@@ -1,11 +1,11 @@
 /*
- * code_tree.h: a code tree that tells which clauses kept clauses cover (document 01).
+ * code_tree.h: a code tree that tells which clauses kept clauses cover (docs/REFERENCE.md).
  *
  * Link libcodetree.a (made by `rt staticlib codetree`, for x86-64). Each function is proved, for all words,
  * lengths and numbers, to return the number and to leave the words that its definition says
  * (crates/codetree/specs/Calls.antt), to read and write nothing but the slices that it is handed, and to end.
- * What queries say after any list of calls, and that no two answers of a function are told the same, is proved
- * of those definitions (crates/codetree/specs/Claims.antt).
+ * What queries say after any list of calls, and that with three told words or more no two answers of a function
+ * are told the same, is proved of those definitions (crates/codetree/specs/Claims.antt).
  *
  * A slice is a pointer and the number of its elements. The pointer must be aligned and valid for all of them;
  * with 0 elements it may be null. Slices handed to one call must not overlap. No pointer is kept, nothing is
@@ -21,13 +21,13 @@
  *
  *   code                    told       refused by
  *    1  bad slice                      fresh, insert, remove, query: n not 2 to 65,536
- *    2  broken                         insert, remove: the tree's words are not well laid (document 01)
+ *    2  broken                         insert, remove: the tree's words are not well laid (docs/REFERENCE.md)
  *                                      query: the header has more than n - 1 words used, or the walk meets a
  *                                      word with an operation over 8 or a wrong extent, or a step that it
  *                                      can't take; it does not look at words that it does not meet
  *    3  bad length                     insert, query: m not 1 to 64
  *    4  bad clause          position   insert, query: the first word, or the end, that breaks the clause rules
- *    5  ninth literal       position   insert, query: a ninth head
+ *    5  ninth literal       position   insert, query: a ninth head where a literal begins, met before any 4
  *    6  short witness                  query: k under 72
  *    7  number taken                   insert
  *    8  held                number     insert: a variant is kept, under this number
@@ -106,8 +106,8 @@ uint64_t ct_query(const uint64_t *tree, size_t n, const uint16_t *clause, size_t
                   uint16_t *witness, size_t k, uint64_t *told, size_t t);
 
 /*
- * The most candidates that a query of q literals can take in a tree of `kept` clauses of at most m literals:
- * kept * (q + q^2 + .. + q^m).
+ * A bound: a query of q literals takes no more candidates in a tree, made by these calls, of `kept` clauses of
+ * at most m literals: kept * (q + q^2 + .. + q^m).
  * Returns 0, or 13. told: with 0 the ceiling; else nothing.
  */
 uint64_t ct_ceiling(uint64_t kept, uint64_t q, uint64_t m, uint64_t *told, size_t t);
