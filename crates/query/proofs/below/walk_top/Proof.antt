@@ -49,7 +49,7 @@ first c = (c .before .enum-told .given .1, refl)
 -- they lie in the row
 called : (c : lts.After-extent rs reads.Pre reads.Post Inv-loop μ-loop)
     → (1 ≤ c .extent .result) × (c .extent .result ≤ length (c .before .before .before .before .before .before .before .loop .rest .now))
-called c = call-fits (word (c .before .before .before) _ (c .extent .ensures)) 255 (inl (first c))
+called c = call-fits (word (c .before .before .before) _ (c .extent .ensures)) (inl (first c))
 
 loop-holds : tie.Need-loop-holds Inv-loop μ-loop
 loop-holds c = walking-whole _ _ _ _ _ _ (c .before .before .pre) 0
@@ -82,7 +82,7 @@ part-walk-end : tie.Need-part-walk-end Inv-loop μ-loop
 part-walk-end c = called c .1
 
 walk-requires : tie.Need-walk-requires Inv-loop μ-loop
-walk-requires c κs = call-ready (word (c .before .before .before .before .before) _ (c .before .before .extent .ensures)) 255 (inl (first (c .before .before)))
+walk-requires c κs = call-ready (word (c .before .before .before .before .before) _ (c .before .before .extent .ensures)) (inl (first (c .before .before)))
 
 enum-told-2 : tie.Need-enum-told-2 Inv-loop μ-loop
 enum-told-2 c = search needs
@@ -91,7 +91,7 @@ returns-2 : tie.Need-returns-2 Inv-loop μ-loop
 returns-2 c =
     let w = c .before .walk .ensures in
     let nm : (c .before .walk .result .end ≡ Missed → ⊥) = λ m. let h = c .match2 .keys2 in miss (1 ∷ 2 ∷ 3 ∷ []) 0 tt (rw m at h) in
-    walked-same nm (node-ends (word (c .before .before .before .before .before .before .before) _ (c .before .before .before .before .extent .ensures)) 255 (inl (first (c .before .before .before .before))) _ _ w nm) w (ap (λ (l : List ℕ). length l) (same-cells (c .before .before .before .before .before .before .before .before .before .before .before)))
+    walked-same nm (node-ends (word (c .before .before .before .before .before .before .before) _ (c .before .before .before .before .extent .ensures)) (inl (first (c .before .before .before .before))) w nm) w (ap (λ (l : List ℕ). length l) (same-cells (c .before .before .before .before .before .before .before .before .before .before .before)))
 
 mul-rest : tie.Need-mul-rest Inv-loop μ-loop
 mul-rest c = search needs
@@ -112,7 +112,7 @@ loop-again : tie.Need-loop-again Inv-loop μ-loop
 loop-again c =
     let M = word (c .before .before .before .before .before .before .before .before .before) _ (c .before .before .before .before .before .before .extent .ensures) in
     let g = c .before .before .before .before .before .before .before .enum-told .given .1 in
-    node-next M 255 (inl (first (c .before .before .before .before .before .before))) _ _ (c .before .before .before .walk .ensures) (c .before .enum-told2 .given .1) (sym (restored-none _) ∙ ap (λ (k : ℕ). restored k (c .before .before .before .walk .last .1 .1 .1 .0)) (sym (marked-zero (c .before .before .before .before .before .before .before .before .before .meet-top .ensures .0 .marked) (rw g))))
+    node-next M (inl (first (c .before .before .before .before .before .before))) (c .before .before .before .walk .ensures) (c .before .enum-told2 .given .1) (sym (restored-none _) ∙ ap (λ (k : ℕ). restored k (c .before .before .before .walk .last .1 .1 .1 .0)) (sym (marked-zero (c .before .before .before .before .before .before .before .before .before .meet-top .ensures .0 .marked) (rw g))))
 
 returns-3 : tie.Need-returns-3 Inv-loop μ-loop
 returns-3 c = walked-missed (walking-end (c .before .loop .inv) (c .loop-test .left)) (same-cells (c .before))
