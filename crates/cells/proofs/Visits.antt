@@ -19,7 +19,7 @@ use Rattle.clause.proofs.Siblings.{right-inside}
 use Rattle.machine.specs.Machine.{State, Outcome, onto, down, right, next, fails, given, headed, putting, pushing, require, within, sameTerms, compareTerms, stepAt, stepFrom, step, finish, finishFrom}
 use Rattle.machine.specs.Instr.{Step, Down, Right, Put, Push, Pop, Check, Compare, Instr, First, Do, Success, instruction}
 use Rattle.walk.specs.Words.{extends}
-use Rattle.cells.specs.inner.Cells.{placeOf, placed, stateOf, Met, bad, hit, firsts, stepped, reached, sized, metAs, meeting, metOf, stores, plain, store, Visited, Tables, Ready}
+use Rattle.cells.specs.inner.Cells.{placeOf, placed, stateOf, Met, past, bad, hit, firsts, stepped, reached, sized, metAs, meeting, metOf, stores, plain, store, Visited, Tables, Ready}
 use Rattle.cells.specs.declared.Go.{Go}
 use Rattle.cells.specs.declared.Go.the-variants.{Fails, Stuck, Below, Stored}
 use Rattle.tree.specs.Laid.{extentOf}
@@ -31,8 +31,17 @@ use Rattle.cells.proofs.Places.{place-none, place-some, placed-get, sta
 pub stays : (g : Go) (h : ℕ) (l : List ℕ) {m : Met} → stores g ≡ false → metOf g (stateOf h l) ≡ m → Visited m l l (record { go = g; head = h; mark = 0 })
 stays g h l n e = record { comes = e; marked = plain g n }
 
+-- a broken node, and one that fails
+pub sticks : (l : List ℕ) {m : Met} → bad ≡ m → Visited m l l (record { go = Stuck; head = 255; mark = 0 })
+unfolding metOf
+sticks l e = stays Stuck 255 l refl e
+
+pub misses : (l : List ℕ) {m : Met} → past ≡ m → Visited m l l (record { go = Fails; head = 255; mark = 0 })
+unfolding metOf
+misses l e = stays Fails 255 l refl e
+
 -- another head
-pub moved-none : (h : ℕ) (l : List ℕ) {to : ℕ} → to ≡ 255 → metOf Stuck (stateOf h l) ≡ stepped (given (placeOf to) (headed (stateOf h l)))
+pub moved-none : (h : ℕ) (l : List ℕ) {to : ℕ} → to ≡ 255 → bad ≡ stepped (given (placeOf to) (headed (stateOf h l)))
 unfolding metOf stepped given
 moved-none h l e = rw (place-none e)
 
@@ -41,9 +50,9 @@ unfolding metOf stepped given
 moved-some h l n = rw (place-some n)
 
 -- a number over 63
-pub over : (k : ℕ) (s : State) (o : Outcome State) → 64 ≤ k → metOf Stuck s ≡ stepped (within k o)
+pub over : (k : ℕ) (o : Outcome State) → 64 ≤ k → bad ≡ stepped (within k o)
 unfolding metOf stepped require
-over k s o h = rw (le-ltb k 64 h)
+over k o h = rw (le-ltb k 64 h)
 
 -- the arguments and the right sibling
 pub down-none : (d : List ℕ) (p : ℕ) → arity (getD d p 0) ≡ 0 → placeOf 255 ≡ down d p
@@ -57,7 +66,7 @@ down-some d p h n =
     let f : p + 1 ≡ suc p = omega arith in
     rw (e, f) (place-some {x = suc p} (λ z. omega arith))
 
-pub down-stuck : (d : List ℕ) (h : ℕ) (l : List ℕ) → arity (getD d h 0) ≡ 0 → metOf Stuck (stateOf h l) ≡ stepped (given (down d h) (headed (stateOf h l)))
+pub down-stuck : (d : List ℕ) (h : ℕ) (l : List ℕ) → arity (getD d h 0) ≡ 0 → bad ≡ stepped (given (down d h) (headed (stateOf h l)))
 down-stuck d h l e = moved-none h l {to = 255} refl ∙ ap (λ (o : Option ℕ). stepped (given o (headed (stateOf h l)))) (down-none d h e)
 
 pub down-below : (d : List ℕ) (h : ℕ) (l : List ℕ) → (h < length d) × (length d ≤ 64) → (arity (getD d h 0) ≡ 0 → ⊥)
@@ -77,7 +86,7 @@ module _ (d t : List ℕ) (h : ℕ) (l : List ℕ) (R : Ready d t h l) (inside :
       let w = few-words R in
       (rw (e, R .tables .ends h inside, r) (place-some {x = jump d 1 h} (λ z. omega arith)), rw (e, R .tables .ends h inside) (omega arith))
 
-  pub right-stuck : getD t (72 + h) 0 ≡ 0 → metOf Stuck (stateOf h l) ≡ stepped (given (right d h) (headed (stateOf h l)))
+  pub right-stuck : getD t (72 + h) 0 ≡ 0 → bad ≡ stepped (given (right d h) (headed (stateOf h l)))
   right-stuck e = moved-none h l {to = 255} refl ∙ ap (λ (o : Option ℕ). stepped (given o (headed (stateOf h l)))) (right-none e)
 
   pub right-below : (getD t (72 + h) 0 ≡ 0 → ⊥) → {x : ℕ} → x ≡ getD t (8 + h) 0 → metOf Below (stateOf x l) ≡ stepped (given (right d h) (headed (stateOf h l)))
@@ -105,7 +114,7 @@ module _ (h : ℕ) (l : List ℕ) (few : getD l 136 0 ≤ 8) where
         marked = store (72 + n) x (omega arith) (omega arith) b;
       }
 
-pub push-none : (n : ℕ) (s : State) {x : ℕ} → x ≡ 255 → n < 64 → metOf Stuck s ≡ stepped (within n (given (placeOf x) (pushing s n)))
+pub push-none : (n : ℕ) (s : State) {x : ℕ} → x ≡ 255 → n < 64 → bad ≡ stepped (within n (given (placeOf x) (pushing s n)))
 unfolding metOf stepped require given
 push-none n s e g = rw (lt-ltb n 64 g, place-none e)
 
@@ -120,7 +129,7 @@ pub check-same : (s : State) (a b : ℕ) → a ≡ b → metOf Below s ≡ stepp
 unfolding metOf stepped require
 check-same s a b e = rw (eq-eqb a b e)
 
-pub check-other : (s : State) (a b : ℕ) → (a ≡ b → ⊥) → metOf Fails s ≡ stepped (require fails (eqb a b) (next s))
+pub check-other : (s : State) (a b : ℕ) → (a ≡ b → ⊥) → past ≡ stepped (require fails (eqb a b) (next s))
 unfolding metOf stepped require
 check-other s a b n = rw (ne-eqb a b n)
 
@@ -137,12 +146,12 @@ module _ (d t : List ℕ) (T : Tables d t) (p : ℕ) (h : p < length d) {e : ℕ
   part-term = rw (f, T .ends p h) (term-part d p)
 
 module _ (d t : List ℕ) (h : ℕ) (l : List ℕ) (R : Ready d t h l) (m k : ℕ) where
-  pub compare-over-m : 64 ≤ m → metOf Stuck (stateOf h l) ≡ stepped (stepAt d (Compare m k) (stateOf h l) h)
+  pub compare-over-m : 64 ≤ m → bad ≡ stepped (stepAt d (Compare m k) (stateOf h l) h)
   unfolding stepAt metOf stepped require
   compare-over-m g = rw (le-ltb m 64 g)
 
   module _ (u : m < 64) where
-    pub compare-over-k : 64 ≤ k → metOf Stuck (stateOf h l) ≡ stepped (stepAt d (Compare m k) (stateOf h l) h)
+    pub compare-over-k : 64 ≤ k → bad ≡ stepped (stepAt d (Compare m k) (stateOf h l) h)
     unfolding stepAt metOf stepped require
     compare-over-k g = rw (lt-ltb m 64 u, le-ltb k 64 g)
 
@@ -153,12 +162,12 @@ module _ (d t : List ℕ) (h : ℕ) (l : List ℕ) (R : Ready d t h l) (m k : �
           let s = R .size in
           rw (lt-ltb m 64 u, lt-ltb k 64 v, placed-get 8 l m u (omega arith), placed-get 8 l k v (omega arith))
 
-      pub compare-no-m : {p : ℕ} → p ≡ getD l (8 + m) 0 → p ≡ 255 → metOf Stuck (stateOf h l) ≡ stepped (stepAt d (Compare m k) (stateOf h l) h)
+      pub compare-no-m : {p : ℕ} → p ≡ getD l (8 + m) 0 → p ≡ 255 → bad ≡ stepped (stepAt d (Compare m k) (stateOf h l) h)
       unfolding metOf stepped compareTerms
       compare-no-m e f = rw (compare-places, place-none (sym e ∙ f))
 
       module _ {p : ℕ} (e : p ≡ getD l (8 + m) 0) (n : p ≡ 255 → ⊥) where
-        pub compare-no-k : {q : ℕ} → q ≡ getD l (8 + k) 0 → q ≡ 255 → metOf Stuck (stateOf h l) ≡ stepped (stepAt d (Compare m k) (stateOf h l) h)
+        pub compare-no-k : {q : ℕ} → q ≡ getD l (8 + k) 0 → q ≡ 255 → bad ≡ stepped (stepAt d (Compare m k) (stateOf h l) h)
         unfolding metOf stepped compareTerms
         compare-no-k f g = rw (compare-places, ← e, place-some n, place-none (sym f ∙ g))
 
@@ -177,7 +186,7 @@ module _ (d t : List ℕ) (h : ℕ) (l : List ℕ) (R : Ready d t h l) (m k : �
           unfolding metOf stepped require
           compare-same g = rw (compare-both, g)
 
-          pub compare-other : sameTerms d p q ≡ false → metOf Fails (stateOf h l) ≡ stepped (stepAt d (Compare m k) (stateOf h l) h)
+          pub compare-other : sameTerms d p q ≡ false → past ≡ stepped (stepAt d (Compare m k) (stateOf h l) h)
           unfolding metOf stepped require
           compare-other g = rw (compare-both, g)
 
@@ -334,6 +343,6 @@ module _ (d t : List ℕ) (h : ℕ) (l : List ℕ) (R : Ready d t h l) (inside :
   unfolding instruction
   act-compare e = at-step (Compare (x / 2 ^ 16) (x % 2 ^ 16)) (rw e)
 
-  pub act-over : 9 ≤ op → metOf Stuck (stateOf h l) ≡ metAs d (instruction op x) (stateOf h l)
+  pub act-over : 9 ≤ op → bad ≡ metAs d (instruction op x) (stateOf h l)
   unfolding metAs metOf
   act-over g = rw (nothing-over op x g)

@@ -59,3 +59,19 @@ pub struct Visit {
     pub head: usize,
     pub mark: u64,
 }
+
+impl Visit {
+    // A broken node.
+    pub const STUCK: Visit = Visit {
+        go: Go::Stuck,
+        head: Path::NONE,
+        mark: 0,
+    };
+
+    // A node that fails.
+    pub const FAILS: Visit = Visit {
+        go: Go::Fails,
+        head: Path::NONE,
+        mark: 0,
+    };
+}

@@ -25,11 +25,7 @@ fn down(query: &[u16], head: usize) -> Visit
     ensures { λ r. ⌜ ((l : List ℕ) → Visited (stepped (given (m.down (now (query .entry)) head) (headed (stateOf head l)))) l l r) ⌝ }
 {
     if query[head] / 2048 % 8 == 0 {
-        Visit {
-            go: Go::Stuck,
-            head: head,
-            mark: 0,
-        }
+        Visit::STUCK
     } else {
         let to = head + 1;
         Visit {
@@ -72,11 +68,7 @@ fn sibling(
     let siblings = Clause::SIBLINGS + head;
     let end = Clause::ENDS + head;
     if tables[siblings] == 0 {
-        Visit {
-            go: Go::Stuck,
-            head: head,
-            mark: 0,
-        }
+        Visit::STUCK
     } else {
         Visit {
             go: Go::Below,
@@ -91,11 +83,7 @@ fn moved(head: usize, to: usize) -> Visit
     ensures { λ r. ⌜ ((l : List ℕ) → Visited (stepped (given (placeOf to) (headed (stateOf head l)))) l l r) ⌝ }
 {
     if to == Path::NONE {
-        Visit {
-            go: Go::Stuck,
-            head: head,
-            mark: 0,
-        }
+        Visit::STUCK
     } else {
         Visit {
             go: Go::Below,
@@ -126,11 +114,7 @@ fn put(cells: &mut [u8; Path::CELLS], head: usize, k: u32) -> Visit
     ensures { λ r. ⌜ Visited (stepped (within k (next (putting (stateOf head (now (cells .entry))) k head)))) (now (cells .entry)) (now (cells .exit)) r ⌝ }
 {
     if k >= 64 {
-        return Visit {
-            go: Go::Stuck,
-            head: head,
-            mark: 0,
-        };
+        return Visit::STUCK;
     }
     let slot = Path::PUTS + k as usize;
     store(cells, head, slot, head)
@@ -142,18 +126,10 @@ fn push(cells: &mut [u8; Path::CELLS], head: usize, n: u32, to: usize) -> Visit
     ensures { λ r. ⌜ Visited (stepped (within n (given (placeOf to) (pushing (stateOf head (now (cells .entry))) n)))) (now (cells .entry)) (now (cells .exit)) r ⌝ }
 {
     if n >= 64 {
-        return Visit {
-            go: Go::Stuck,
-            head: head,
-            mark: 0,
-        };
+        return Visit::STUCK;
     }
     if to == Path::NONE {
-        return Visit {
-            go: Go::Stuck,
-            head: head,
-            mark: 0,
-        };
+        return Visit::STUCK;
     }
     let slot = Path::PUSHES + n as usize;
     store(cells, head, slot, to)
@@ -165,11 +141,7 @@ fn pop(cells: &[u8; Path::CELLS], head: usize, n: u32) -> Visit
     ensures { λ r. ⌜ Visited (stepped (within n (given (getD (stateOf head (now (cells .entry)) .pushes) n none) (headed (stateOf head (now (cells .entry))))))) (now (cells .entry)) (now (cells .entry)) r ⌝ }
 {
     if n >= 64 {
-        return Visit {
-            go: Go::Stuck,
-            head: head,
-            mark: 0,
-        };
+        return Visit::STUCK;
     }
     let slot = Path::PUSHES + n as usize;
     moved(head, wide(cells[slot]))
@@ -194,11 +166,7 @@ fn check(query: &[u16], head: usize, x: u32) -> Visit
             mark: 0,
         }
     } else {
-        Visit {
-            go: Go::Fails,
-            head: head,
-            mark: 0,
-        }
+        Visit::FAILS
     }
 }
 
@@ -225,11 +193,7 @@ fn success(words: usize, head: usize) -> Visit
             mark: 0,
         }
     } else {
-        Visit {
-            go: Go::Stuck,
-            head: head,
-            mark: 0,
-        }
+        Visit::STUCK
     }
 }
 
@@ -246,11 +210,7 @@ fn tries(cells: &[u8; Path::CELLS], head: usize) -> Visit
             mark: 0,
         }
     } else {
-        Visit {
-            go: Go::Stuck,
-            head: head,
-            mark: 0,
-        }
+        Visit::STUCK
     }
 }
 
@@ -267,26 +227,21 @@ fn compare(
 {
     let m = (x / 65536) as usize;
     let k = (x % 65536) as usize;
-    let stuck = Visit {
-        go: Go::Stuck,
-        head: head,
-        mark: 0,
-    };
     if m >= 64 {
-        return stuck;
+        return Visit::STUCK;
     }
     if k >= 64 {
-        return stuck;
+        return Visit::STUCK;
     }
     let m_cell = Path::PUTS + m;
     let k_cell = Path::PUTS + k;
     let p = wide(cells[m_cell]);
     let q = wide(cells[k_cell]);
     if p == Path::NONE {
-        return stuck;
+        return Visit::STUCK;
     }
     if q == Path::NONE {
-        return stuck;
+        return Visit::STUCK;
     }
     if same_terms(query, tables, p, q) {
         Visit {
@@ -295,11 +250,7 @@ fn compare(
             mark: 0,
         }
     } else {
-        Visit {
-            go: Go::Fails,
-            head: head,
-            mark: 0,
-        }
+        Visit::FAILS
     }
 }
 
@@ -329,11 +280,7 @@ fn act(
         6 => pop(cells, head, x),
         7 => check(query, head, x),
         8 => compare(query, tables, cells, head, x),
-        _ => Visit {
-            go: Go::Stuck,
-            head: head,
-            mark: 0,
-        },
+        _ => Visit::STUCK,
     }
 }
 
@@ -349,17 +296,12 @@ pub fn meet(
     requires { ⌜ Ready (now query) (now tables) head (now cells) × (1 ≤ room) × (head < length (now query)) ⌝ }
     ensures { λ r. ⌜ Visited (meeting (now (query .entry)) w room (stateOf head (now (cells .entry)))) (now (cells .entry)) (now (cells .exit)) r ⌝ }
 {
-    let stuck = Visit {
-        go: Go::Stuck,
-        head: head,
-        mark: 0,
-    };
     let words = row::extent(w);
     if words == 0 {
-        return stuck;
+        return Visit::STUCK;
     }
     if words > room {
-        return stuck;
+        return Visit::STUCK;
     }
     act(
         row::operation(w),
@@ -384,20 +326,15 @@ pub fn meet_top(
     ensures { λ r. ⌜ Visited (meeting (now (query .entry)) w room (stateOf 255 (now (cells .entry)))) (now (cells .entry)) (now (cells .entry)) r
         × ((r .go ≡ Tries) ⊎ (r .go ≡ Stuck)) ⌝ }
 {
-    let stuck = Visit {
-        go: Go::Stuck,
-        head: Path::NONE,
-        mark: 0,
-    };
     let words = row::extent(w);
     if words == 0 {
-        return stuck;
+        return Visit::STUCK;
     }
     if words > room {
-        return stuck;
+        return Visit::STUCK;
     }
     if row::operation(w) != 1 {
-        return stuck;
+        return Visit::STUCK;
     }
     tries(cells, Path::NONE)
 }
