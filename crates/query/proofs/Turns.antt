@@ -8,7 +8,7 @@ use native.Mathlib.Omega.{arith}
 use lib.Dec.{eqb}
 use lib.ListN.{length, getD}
 use borrow.Author.Tests.{eqb-true, eqb-false}
-use Rattle.clause.specs.Clause.{literals}
+use Rattle.clause.specs.Clause.{maxLiterals, literals}
 use Rattle.clause.proofs.Literals.{accepted}
 use Rattle.machine.specs.Machine.{State}
 use Rattle.machine.specs.inner.Safe.{Safe}
@@ -16,7 +16,7 @@ use Rattle.machine.proofs.Safe.{start-in, starting-safe}
 use Rattle.walk.specs.Walk.{Answer, covered, notCovered, broken, Part, andThen, upTo}
 use Rattle.walk.specs.Words.{walkWords}
 use Rattle.walk.specs.Query.{machine}
-use Rattle.cells.specs.inner.Cells.{entered, stateOf, Ready, reserved, candidate, released, keptIn, headAt, startAt, passesOf}
+use Rattle.cells.specs.inner.Cells.{literalsAt, cellCount, noPosition, HasPlace, HasCandidate, entered, stateOf, Walkable, reserved, candidate, released, keptIn, headAt, startAt, passesOf}
 use Rattle.query.specs.inner.Findings.{Walked}
 use Rattle.query.specs.declared.End.the-variants.{Missed, Found, Broken, Spent}
 use Rattle.query.specs.declared.Finding.{Finding}
@@ -31,7 +31,7 @@ pass-literal {last = last} {q} {j} e f g h = let z : last ≡ q = f ∙ rw e in 
 
 -- the next pass
 turn :
-    (d : List ℕ) (b : ℕ) (k : State → Part State) (first : Bool) (s : State) → (first ≡ true → length (s .chosen) < 8)
+    (d : List ℕ) (b : ℕ) (k : State → Part State) (first : Bool) (s : State) → (first ≡ true → length (s .chosen) < maxLiterals)
     → (last j n n′ : ℕ) → j < last → ((first ≡ true) × (n < b) × (n′ ≡ n + 1)) ⊎ ((first ≡ false) × (n′ ≡ n)) → {u : State} → u ≡ startAt d first j s
     → runs d b first k s (last - j) j n ≡ andThen (k u n′) (runs d b first k s (last - (j + 1)) (j + 1))
 turn d b k first s few last j n n′ more kind e =
@@ -41,8 +41,8 @@ turn d b k first s few last j n n′ more kind e =
     kind)
 
 -- the state at the beginning of a pass
-module _ (d t : List ℕ) (h : ℕ) (l : List ℕ) (R : Ready d t h l) (first : Bool) (j : ℕ) (more : first ≡ true → (getD l 136 0 < 8) × (j < length (literals d))) where
-  start-ready : Ready d t (headAt d first h j) (waiting first j l)
+module _ (d t : List ℕ) (h : ℕ) (l : List ℕ) (R : Walkable d t h l) (first : Bool) (j : ℕ) (more : first ≡ true → (HasPlace l) × (j < length (literals d))) where
+  start-ready : Walkable d t (headAt d first h j) (waiting first j l)
   unfolding startAt
   start-ready =
       record {
@@ -65,16 +65,16 @@ module _ (d t : List ℕ) (h : ℕ) (l : List ℕ) (R : Ready d t h l) (first : 
       go false e = g e
       go true e = start-in d (accepted d (R .whole)) j (more e .1)
 
--- a First, which hands on no head, finds fewer than eight candidates
-pub first-few : (h : ℕ) (l : List ℕ) → (h ≡ 255 → getD l 136 0 < 8) → {first : Bool} → first ≡ eqb h 255 → first ≡ true → getD l 136 0 < 8
+-- a First, which hands on no head, finds a place for one candidate more
+pub first-few : (h : ℕ) (l : List ℕ) → (h ≡ noPosition → HasPlace l) → {first : Bool} → first ≡ eqb h noPosition → first ≡ true → HasPlace l
 first-few h l room f e = room (eqb-true _ _ (sym f ∙ e))
 
 -- a node is entered: whether it is a First, how many passes there are, and what stood where the candidate is to stand
 pub record Entry (d t words : List ℕ) (b h : ℕ) (l : List ℕ) (n₀ : ℕ) (first : Bool) (last kept : ℕ) (l₁ : List ℕ) : Type 0 where
-  pub ready : Ready d t h l
-  pub room : h ≡ 255 → getD l 136 0 < 8
-  pub by-head : first ≡ eqb h 255
-  pub times : last ≡ passesOf first (getD t 136 0)
+  pub ready : Walkable d t h l
+  pub room : h ≡ noPosition → HasPlace l
+  pub by-head : first ≡ eqb h noPosition
+  pub times : last ≡ passesOf first (getD t literalsAt 0)
   pub keeps : kept ≡ keptIn first l
   pub reserves : l₁ ≡ reserved first l
 
@@ -103,10 +103,10 @@ module _ {d t words : List ℕ} {b h : ℕ} {l : List ℕ} {n₀ : ℕ} {first :
   abbrev s : State
   s = stateOf h l
 
-  size : length l ≡ 256
+  size : length l ≡ cellCount
   size = E .ready .size
 
-  few : first ≡ true → getD l 136 0 < 8
+  few : first ≡ true → HasPlace l
   few = first-few h l (E .room) (E .by-head)
 
   -- any other head stands in the query
@@ -114,10 +114,10 @@ module _ {d t words : List ℕ} {b h : ℕ} {l : List ℕ} {n₀ : ℕ} {first :
   inside e = E .ready .safe .head h (place-some (eqb-false _ _ (sym (E .by-head) ∙ e)))
 
   -- the walk is entered by the head
-  asked : entered d b (eqb h 255) k s n₀ ≡ entered d b first k s n₀
+  asked : entered d b (eqb h noPosition) k s n₀ ≡ entered d b first k s n₀
   asked = ap (λ (f : Bool). entered d b f k s n₀) (sym (E .by-head))
 
-  chosen-few : first ≡ true → length (s .chosen) < 8
+  chosen-few : first ≡ true → length (s .chosen) < maxLiterals
   chosen-few e = rw (chosen-length d t h l (E .ready)) (few e)
 
   literal : {j : ℕ} → j < last → first ≡ true → j < length (literals d)
@@ -143,21 +143,21 @@ module _ {d t words : List ℕ} {b h : ℕ} {l : List ℕ} {n₀ : ℕ} {first :
     left : entered d b first k s n₀ ≡ runs d b first k s (last - j) j n
     left = rw base at (B .same)
 
-    pub between-size : length cells ≡ 256
+    pub between-size : length cells ≡ cellCount
     between-size = rw held (waiting-size first l size few (B .latest)) ∙ size
 
-    pub between-room : first ≡ true → (1 ≤ getD cells 136 0) × (getD cells 136 0 ≤ 8)
+    pub between-room : first ≡ true → HasCandidate cells
     between-room e = let f = waiting-few first l size few (E .ready .few) (B .latest) in rw held (f .1 e, f .0)
 
-    pub between-literal : j < last → first ≡ true → (1 ≤ getD cells 136 0) × (getD cells 136 0 ≤ 8) × (j < length (literals d))
-    between-literal m e = let r = between-room e in (r .0, r .1, literal m e)
+    pub between-literal : j < last → first ≡ true → HasCandidate cells × (j < length (literals d))
+    between-literal m e = (between-room e, literal m e)
 
     -- no pass is left
-    pub between-ends : last ≤ j → {out : List ℕ} → out ≡ released first kept cells → Walked (entered d b (eqb h 255) k s n₀) l out (record { end = Missed; count = n })
+    pub between-ends : last ≤ j → {out : List ℕ} → out ≡ released first kept cells → Walked (entered d b (eqb h noPosition) k s n₀) l out (record { end = Missed; count = n })
     between-ends m o = walked-missed (asked ∙ left ∙ runs-end d b k s first last j n m) (o ∙ rw (E .keeps, held) (waiting-release first l size few (B .latest)))
 
     -- the budget is spent
-    pub between-spent : first ≡ true → j < last → b ≤ n → Walked (entered d b (eqb h 255) k s n₀) l cells (record { end = Spent; count = n })
+    pub between-spent : first ≡ true → j < last → b ≤ n → Walked (entered d b (eqb h noPosition) k s n₀) l cells (record { end = Spent; count = n })
     between-spent e m g = walked-spent n (asked ∙ left ∙ runs-spent d b k s (chosen-few e) e last j n m g) (between-size ∙ sym size)
 
 module _ {d t words : List ℕ} {b h : ℕ} {l : List ℕ} {n₀ : ℕ} {first : Bool} {last kept : ℕ} {l₁ cells : List ℕ} {n j n₁ here : ℕ} {out : List ℕ}
@@ -169,15 +169,15 @@ module _ {d t words : List ℕ} {b h : ℕ} {l : List ℕ} {n₀ : ℕ} {first :
   row = walkWords (machine d) (upTo b) words
 
   abbrev whole : Answer State
-  whole = entered d b (eqb h 255) row (stateOf h l) n₀
+  whole = entered d b (eqb h noPosition) row (stateOf h l) n₀
 
-  more : first ≡ true → (getD l 136 0 < 8) × (j < length (literals d))
+  more : first ≡ true → (HasPlace l) × (j < length (literals d))
   more e = (few E e, literal E (P .more) e)
 
   begun : out ≡ waiting first j l
   begun = P .stored ∙ rw (held E (P .between)) (waiting-next first l (size E) (few E) (P .between .latest) j)
 
-  pub begun-ready : Ready d t here out × (here < length d)
+  pub begun-ready : Walkable d t here out × (here < length d)
   begun-ready = (
     rw (P .head, begun) (start-ready d t h l (E .ready) first j more),
     rw (P .head) (start-inside d t h l (E .ready) first j more (inside E)),
@@ -200,7 +200,7 @@ module _ {d t words : List ℕ} {b h : ℕ} {l : List ℕ} {n₀ : ℕ} {first :
       }
 
   -- its row ends with anything else
-  module _ {after : List ℕ} (sized : length after ≡ 256) where
+  module _ {after : List ℕ} (sized : length after ≡ cellCount) where
     pub pass-broken : (c : ℕ) → row (stateOf here out) n₁ ≡ broken → Walked whole l after (record { end = Broken; count = c })
     pass-broken c e = walked-broken c (asked E ∙ next ∙ then-broken _ e) (sized ∙ sym (size E))
 
@@ -208,5 +208,5 @@ module _ {d t words : List ℕ} {b h : ℕ} {l : List ℕ} {n₀ : ℕ} {first :
     pass-found x e f = walked-found x f (asked E ∙ next ∙ then-covered _ e) (sized ∙ sym (size E))
 
   pub pass-ends :
-      {m after : List ℕ} {r : Finding} {a : Answer State} → length m ≡ 256 → (r .end ≡ Missed → ⊥) → row (stateOf here out) n₁ ≡ a → Walked a m after r → Walked whole l after r
+      {m after : List ℕ} {r : Finding} {a : Answer State} → length m ≡ cellCount → (r .end ≡ Missed → ⊥) → row (stateOf here out) n₁ ≡ a → Walked a m after r → Walked whole l after r
   pass-ends z nm e w = walked-same nm (asked E ∙ next ∙ then-found _ nm e w) w (z ∙ sym (size E))

@@ -7,12 +7,6 @@ use Rattle.cells.proofs.Visits.{sticks, met-unfit, met-sized}
 use borrow.Author.Needs.{needs}
 use Rattle.cells.proofs.step.meet.Statement.{statement}
 use Rattle.cells.proofs.step.meet.Tie as tie
-use Rattle.cells.proofs.step.meet.Reads as reads
-use Rattle.cells.proofs.step.meet.Lts as lts
-use Rattle.cells.proofs.row.extent.Reads as extent-reads
-use Rattle.cells.proofs.row.operand.Reads as operand-reads
-use Rattle.cells.proofs.row.operation.Reads as operation-reads
-use Rattle.cells.proofs.step.act.Reads as act-reads
 
 extent-requires : tie.Need-extent-requires
 extent-requires c κs = search needs

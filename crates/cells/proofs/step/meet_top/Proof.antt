@@ -9,11 +9,6 @@ use Rattle.cells.proofs.Visits.{sticks, met-unfit, met-early, met-tries
 use borrow.Author.Needs.{needs}
 use Rattle.cells.proofs.step.meet_top.Statement.{statement}
 use Rattle.cells.proofs.step.meet_top.Tie as tie
-use Rattle.cells.proofs.step.meet_top.Reads as reads
-use Rattle.cells.proofs.step.meet_top.Lts as lts
-use Rattle.cells.proofs.row.extent.Reads as extent-reads
-use Rattle.cells.proofs.row.operation.Reads as operation-reads
-use Rattle.cells.proofs.step.tries.Reads as tries-reads
 
 extent-requires : tie.Need-extent-requires
 extent-requires c κs = search needs

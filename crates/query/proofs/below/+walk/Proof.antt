@@ -25,11 +25,11 @@ use Rattle.cells.proofs.passes.Reads as passes-reads
 use Rattle.cells.proofs.release.Reads as release-reads
 use Rattle.cells.proofs.reserve.Reads as reserve-reads
 use Rattle.cells.proofs.restore.Reads as restore-reads
+use Rattle.cells.proofs.skip.Reads as skip-reads
 use Rattle.cells.proofs.trace.Reads as trace-reads
 use Rattle.cells.proofs.unwind.Reads as unwind-reads
-use Rattle.cells.proofs.extent.Reads as extent-reads
+use Rattle.tree.proofs.extent.Reads as extent-reads
 use Rattle.cells.proofs.operand.Reads as operand-reads
-use Rattle.cells.proofs.pass.Reads as pass-reads
 use Rattle.cells.proofs.wanted.Reads as wanted-reads
 use Rattle.cells.proofs.meet.Reads as meet-reads
 use Rattle.query.proofs.below.+walk.{statement}
@@ -59,8 +59,8 @@ rs t = (
   begin-reads.Learnt,
   wanted-reads.Asked,
   wanted-reads.Learnt,
-  pass-reads.Asked,
-  pass-reads.Learnt,
+  skip-reads.Asked,
+  skip-reads.Learnt,
   meet-reads.Asked,
   meet-reads.Learnt,
   extent-reads.Asked,
@@ -121,7 +121,7 @@ module _ (t : ℕ) where
   abbrev back : At walk-lts.After-restore → At walk-lts.After-walk
   back c = missed c .before .before
 
-  abbrev onward : At walk-lts.After-pass2 → At walk-lts.After-restore
+  abbrev onward : At walk-lts.After-skip2 → At walk-lts.After-restore
   onward c = c .before .before
 
   -- the node is entered
@@ -221,26 +221,26 @@ module _ (t : ℕ) where
   walk-wanted-requires : At walk-lts.Need-wanted-requires
   walk-wanted-requires c κs = begun-ready (begun c) .1
 
-  walk-pass-requires : At walk-lts.Need-pass-requires
-  walk-pass-requires c κs = (omega arith, c .wanted .ensures .1)
+  walk-skip-requires : At walk-lts.Need-skip-requires
+  walk-skip-requires c κs = (omega arith, c .wanted .ensures .1)
 
   walk-sub-start : At walk-lts.Need-sub-start
-  walk-sub-start c = c .pass .ensures .0
+  walk-sub-start c = c .skip .ensures .0
 
   walk-mul-rest : At walk-lts.Need-mul-rest
   walk-mul-rest c = search needs
 
   walk-sub-rest : At walk-lts.Need-sub-rest
-  walk-sub-rest c = c .pass .ensures .1 .inside
+  walk-sub-rest c = c .skip .ensures .1 .inside
 
   walk-part-rest-start : At walk-lts.Need-part-rest-start
-  walk-part-rest-start c = c .pass .ensures .1 .inside
+  walk-part-rest-start c = c .skip .ensures .1 .inside
 
   walk-part-rest-end : At walk-lts.Need-part-rest-end
   walk-part-rest-end c = search needs
 
   walk-loop-holds : At walk-lts.Need-loop-holds
-  walk-loop-holds c = let r = begun-ready (begun (c .before .before .before)) in (walking-start (r .0) (r .1) (c .before .before .wanted .ensures .0) (c .before .pass .ensures .1), r .1)
+  walk-loop-holds c = let r = begun-ready (begun (c .before .before .before)) in (walking-start (r .0) (r .1) (c .before .before .wanted .ensures .0) (c .before .skip .ensures .1), r .1)
 
   walk-shared-slice-read-w : At walk-lts.Need-shared-slice-read-w
   walk-shared-slice-read-w c = search needs
@@ -353,22 +353,22 @@ module _ (t : ℕ) where
   walk-wanted-requires-2 : At walk-lts.Need-wanted-requires-2
   walk-wanted-requires-2 c κs = row (call (back c) .before) .loop .inv .1
 
-  walk-pass-requires-2 : At walk-lts.Need-pass-requires-2
-  walk-pass-requires-2 c κs = (called (call (back (c .before))) .1, c .wanted2 .ensures .1)
+  walk-skip-requires-2 : At walk-lts.Need-skip-requires-2
+  walk-skip-requires-2 c κs = (called (call (back (c .before))) .1, c .wanted2 .ensures .1)
 
   walk-sub-next : At walk-lts.Need-sub-next
-  walk-sub-next c = c .pass2 .ensures .0
+  walk-sub-next c = c .skip2 .ensures .0
 
   walk-mul-rest-3 : At walk-lts.Need-mul-rest-3
   walk-mul-rest-3 c =
       let r = row (call (back (onward c)) .before) in
-      record { fits = omega (arith, c .pass2 .ensures .1 .inside, r .loop .inv .0 .shorter, start (passes (pass r) .before) .good .0) }
+      record { fits = omega (arith, c .skip2 .ensures .1 .inside, r .loop .inv .0 .shorter, start (passes (pass r) .before) .good .0) }
 
   walk-sub-rest-5 : At walk-lts.Need-sub-rest-5
-  walk-sub-rest-5 c = c .pass2 .ensures .1 .inside
+  walk-sub-rest-5 c = c .skip2 .ensures .1 .inside
 
   walk-part-rest-start-5 : At walk-lts.Need-part-rest-start-5
-  walk-part-rest-start-5 c = c .pass2 .ensures .1 .inside
+  walk-part-rest-start-5 c = c .skip2 .ensures .1 .inside
 
   walk-part-rest-end-5 : At walk-lts.Need-part-rest-end-5
   walk-part-rest-end-5 c = search needs
@@ -377,7 +377,7 @@ module _ (t : ℕ) where
   walk-loop-less-4 c =
       let m = call (back (onward (c .before))) in
       let f = called m in
-      let p = c .before .pass2 .ensures .1 in
+      let p = c .before .skip2 .ensures .1 in
       tail-less _ (row (m .before) .loop .rest .now) (omega arith) (p .inside)
 
   walk-loop-again-4 : At walk-lts.Need-loop-again-4
@@ -386,7 +386,7 @@ module _ (t : ℕ) where
       let m = call (back o) in
       let i = row (m .before) .loop .inv .1 in
       let p = c .before in
-      (node-missed (word (m .before)) (kind m) (back o .walk .ensures) (missed o .enum-told7 .given .1) i (p .before .wanted2 .ensures .0) (p .pass2 .ensures .1) (o .restore .ensures), i)
+      (node-missed (word (m .before)) (kind m) (back o .walk .ensures) (missed o .enum-told7 .given .1) i (p .before .wanted2 .ensures .0) (p .skip2 .ensures .1) (o .restore .ensures), i)
 
   walk-unwind-requires : At walk-lts.Need-unwind-requires
   walk-unwind-requires c κs = c .before .before .loop .inv .0 .ready .size
@@ -426,13 +426,13 @@ module _ (t : ℕ) where
 pub +walk-spec : {M : Type 1} → statement M
 +walk-spec = close μ-walk λ t. walk-lts.spec (rs t) (walk-at t) walk.Post walk-Inv-loop walk-μ-loop walk-Inv-tries walk-μ-tries
     (walk-is-none-requires t) (walk-passes-requires t) (walk-reserve-requires t) (walk-tries-holds t) (walk-release-requires t) (walk-add-n t)
-    (walk-begin-requires t) (walk-wanted-requires t) (walk-pass-requires t) (walk-sub-start t) (walk-mul-rest t) (walk-sub-rest t)
+    (walk-begin-requires t) (walk-wanted-requires t) (walk-skip-requires t) (walk-sub-start t) (walk-mul-rest t) (walk-sub-rest t)
     (walk-part-rest-start t) (walk-part-rest-end t) (walk-loop-holds t) (walk-shared-slice-read-w t) (walk-meet-requires t) (walk-extent-requires t)
     (walk-enum-told t) (walk-enum-told-2 t) (walk-operand-requires t) (walk-enum-told-3 t) (walk-mul-rest-2 t) (walk-sub-rest-2 t)
     (walk-part-rest-start-2 t) (walk-part-rest-end-2 t) (walk-loop-less t) (walk-loop-again t) (walk-enum-told-4 t) (walk-enum-told-5 t)
     (walk-sub-rest-3 t) (walk-part-rest-start-3 t) (walk-part-rest-end-3 t) (walk-loop-less-2 t) (walk-loop-again-2 t) (walk-enum-told-6 t)
     (walk-trace-requires t) (walk-sub-rest-4 t) (walk-part-rest-start-4 t) (walk-part-rest-end-4 t) (walk-loop-less-3 t) (walk-loop-again-3 t)
     (walk-sub-walk t) (walk-part-walk-start t) (walk-part-walk-end t) (walk-walk-requires t) (walk-enum-told-7 t) (walk-restore-requires t)
-    (walk-wanted-requires-2 t) (walk-pass-requires-2 t) (walk-sub-next t) (walk-mul-rest-3 t) (walk-sub-rest-5 t) (walk-part-rest-start-5 t)
+    (walk-wanted-requires-2 t) (walk-skip-requires-2 t) (walk-sub-next t) (walk-mul-rest-3 t) (walk-sub-rest-5 t) (walk-part-rest-start-5 t)
     (walk-part-rest-end-5 t) (walk-loop-less-4 t) (walk-loop-again-4 t) (walk-unwind-requires t) (walk-add-j t) (walk-tries-less t)
     (walk-tries-again t) (walk-returns t) (walk-returns-2 t) (walk-returns-3 t) (walk-returns-4 t) (walk-returns-5 t)

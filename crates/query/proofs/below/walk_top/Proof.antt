@@ -17,7 +17,7 @@ use Rattle.query.proofs.below.walk_top.Statement.{statement}
 use Rattle.query.proofs.below.walk_top.Tie as tie
 use Rattle.query.proofs.below.walk_top.Reads as reads
 use Rattle.query.proofs.below.walk_top.Lts as lts
-use Rattle.cells.proofs.extent.Reads as extent-reads
+use Rattle.tree.proofs.extent.Reads as extent-reads
 use Rattle.cells.proofs.meet_top.Reads as meet-top-reads
 use Rattle.query.proofs.below.walk.Reads as walk-reads
 
