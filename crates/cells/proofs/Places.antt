@@ -15,14 +15,14 @@ use Rattle.clause.specs.Clause.{literals, startOf}
 use Rattle.clause.proofs.Lists.{getD-map-lt}
 use Rattle.clause.proofs.Literals.{accepted}
 use Rattle.machine.proofs.Safe.{start-in}
-use Rattle.cells.specs.inner.Cells.{placeOf, placed, stateOf, restored, Marked, plain, store, unwound, reserved, candidate, released, keptIn, headAt, startAt, Ready}
+use Rattle.cells.specs.inner.Cells.{positionIn, placed, stateOf, restored, Marked, plain, store, unwound, reserved, candidate, released, keptIn, headAt, startAt, Walkable}
 
-pub place-none : {x : ℕ} → x ≡ 255 → placeOf x ≡ none
-unfolding placeOf
+pub place-none : {x : ℕ} → x ≡ 255 → positionIn x ≡ none
+unfolding positionIn
 place-none {x} e = rw (eq-eqb x 255 e)
 
-pub place-some : {x : ℕ} → (x ≡ 255 → ⊥) → placeOf x ≡ some x
-unfolding placeOf
+pub place-some : {x : ℕ} → (x ≡ 255 → ⊥) → positionIn x ≡ some x
+unfolding positionIn
 place-some {x} n = rw (ne-eqb x 255 n)
 
 map-set : {A B : Type 0} (f : A → B) (l : List A) (i : ℕ) (a : A) → map f (set l i a) ≡ set (map f l) i (f a)
@@ -43,15 +43,15 @@ module _ (a : ℕ) (l : List ℕ) where
       let f : drop a (set l i x) ≡ set (drop a l) (i - a) x = ap (λ (n : ℕ). drop a (set l n x)) e ∙ drop-set-add a l (i - a) x in
       rw (f, take-set-le 64 (drop a l) (i - a) x (omega arith))
 
-  pub placed-at : (k x : ℕ) → k < 64 → placed a (set l (a + k) x) ≡ set (placed a l) k (placeOf x)
+  pub placed-at : (k x : ℕ) → k < 64 → placed a (set l (a + k) x) ≡ set (placed a l) k (positionIn x)
   unfolding placed
-  placed-at k x h = rw (drop-set-add a l k x, take-set-lt 64 (drop a l) k x h, map-set placeOf (take 64 (drop a l)) k x)
+  placed-at k x h = rw (drop-set-add a l k x, take-set-lt 64 (drop a l) k x h, map-set positionIn (take 64 (drop a l)) k x)
 
-  pub placed-get : (k : ℕ) → k < 64 → a + k < length l → getD (placed a l) k none ≡ placeOf (getD l (a + k) 0)
+  pub placed-get : (k : ℕ) → k < 64 → a + k < length l → getD (placed a l) k none ≡ positionIn (getD l (a + k) 0)
   unfolding placed
   placed-get k h g =
       let n : k < length (take 64 (drop a l)) = simp (length-take, length-drop) (omega arith) in
-      getD-map-lt placeOf (take 64 (drop a l)) k 0 none n ∙ rw (getD-take 64 (drop a l) k 0 h, getD-drop a l k 0)
+      getD-map-lt positionIn (take 64 (drop a l)) k 0 none n ∙ rw (getD-take 64 (drop a l) k 0 h, getD-drop a l k 0)
 
 -- what a state says after a Put or a Push
 module _ (h : ℕ) (l : List ℕ) (few : getD l 136 0 ≤ 8) where
@@ -61,11 +61,11 @@ module _ (h : ℕ) (l : List ℕ) (few : getD l 136 0 ≤ 8) where
   chosen-other : (i x : ℕ) → 8 ≤ i → i < 136 → take (getD (set l i x) 136 0) (set l i x) ≡ take (getD l 136 0) l
   chosen-other i x g k = rw (count-other i x k, take-set-le (getD l 136 0) l i x (omega arith))
 
-  pub state-put : (k x : ℕ) → k < 64 → x < 255 → stateOf h (set l (8 + k) x) ≡ record { chosen = take (getD l 136 0) l; head = placeOf h; puts = set (placed 8 l) k (some x); pushes = placed 72 l }
+  pub state-put : (k x : ℕ) → k < 64 → x < 255 → stateOf h (set l (8 + k) x) ≡ record { chosen = take (getD l 136 0) l; head = positionIn h; puts = set (placed 8 l) k (some x); pushes = placed 72 l }
   state-put k x g v =
       rw (chosen-other (8 + k) x (omega arith) (omega arith), placed-at 8 l k x g, placed-before 72 l (8 + k) x (omega arith), place-some {x = x} (λ e. omega arith))
 
-  pub state-push : (n x : ℕ) → n < 64 → x < 255 → stateOf h (set l (72 + n) x) ≡ record { chosen = take (getD l 136 0) l; head = placeOf h; puts = placed 8 l; pushes = set (placed 72 l) n (some x) }
+  pub state-push : (n x : ℕ) → n < 64 → x < 255 → stateOf h (set l (72 + n) x) ≡ record { chosen = take (getD l 136 0) l; head = positionIn h; puts = placed 8 l; pushes = set (placed 72 l) n (some x) }
   state-push n x g v =
       rw (chosen-other (72 + n) x (omega arith) (omega arith), placed-behind 8 l (72 + n) x (omega arith), placed-at 72 l n x g, place-some {x = x} (λ e. omega arith))
 
@@ -148,7 +148,7 @@ module _ (first : Bool) (l : List ℕ) (size : length l ≡ 256) (few : first �
       go true e = let n = waiting-count l size (few e) x in (omega (arith, n, few e), λ f. omega (arith, n))
 
 -- a candidate begins: its state
-module _ (d t : List ℕ) (h : ℕ) (l : List ℕ) (R : Ready d t h l) (j : ℕ) where
+module _ (d t : List ℕ) (h : ℕ) (l : List ℕ) (R : Walkable d t h l) (j : ℕ) where
   pub start-small : j < length (literals d) → startOf d j < 64
   start-small g = let C = accepted d (R .whole) in omega (arith, start-in d C j g, C .fits)
 
@@ -160,7 +160,7 @@ module _ (d t : List ℕ) (h : ℕ) (l : List ℕ) (R : Ready d t h l) (j : ℕ)
       let s = R .size in
       let g : n < 8 = m refl .0 in
       let c : getD (set (set l 136 (n + 1)) n j) 136 0 ≡ suc n = rw (← waiting-cells l s g j) (waiting-count l s g j) ∙ add-one n in
-      let p : placeOf (startOf d j) ≡ some (startOf d j) = place-some {x = startOf d j} (λ z. omega (arith, start-small (m refl .1))) in
+      let p : positionIn (startOf d j) ≡ some (startOf d j) = place-some {x = startOf d j} (λ z. omega (arith, start-small (m refl .1))) in
       rw (
         waiting-cells l s g j,
         c,
@@ -224,5 +224,5 @@ unwound-traced t m l h k n =
     unwound-next (t * 2 ^ 16 + m) l (omega arith) ∙ rw (e, restored-low t m l k n)
 
 -- a query has at most 64 words
-pub few-words : {d t : List ℕ} {h : ℕ} {l : List ℕ} → Ready d t h l → length d ≤ 64
+pub few-words : {d t : List ℕ} {h : ℕ} {l : List ℕ} → Walkable d t h l → length d ≤ 64
 few-words {d} R = accepted d (R .whole) .fits

@@ -18,7 +18,7 @@ use Rattle.tree.specs.Laid.{keyOf, extentOf}
 use Rattle.walk.specs.Walk.{Machine, covered, notCovered, broken, Part, andThen, follow, tries, visitAt, visit, upTo}
 use Rattle.walk.specs.Words.{extends, walkWords}
 use Rattle.walk.specs.Query.{machine}
-use Rattle.cells.specs.inner.Cells.{Met, past, bad, hit, firsts, below, stepped, reached, metAs, meeting, entered, Passed}
+use Rattle.cells.specs.inner.Cells.{Met, past, bad, hit, firsts, below, stepped, reached, metAs, meeting, entered, Skipped}
 use Rattle.walk.proofs.Fuel.{walkWords-cons}
 use Rattle.cells.proofs.Region.{instrOf-word, success-word}
 
@@ -180,13 +180,13 @@ fails-there d allow T at h s p c wanted e f op ne x g l fit =
     row-node (machine d) allow T at h s c x g l ok ∙ rw (instrOf-word w, op, e, ne-eqb (getD d p 0) (w / 2 ^ 28 % 2 ^ 32) miss)
 
 -- the place where the passing begins, and one more Check that fails
-pub passed-none : (T : List ℕ) (at key : ℕ) → at ≤ length T → Passed T at key at
-passed-none T at key h = record { inside = h; further = omega arith; same = λ d allow s p c e f. refl }
+pub skipped-none : (T : List ℕ) (at key : ℕ) → at ≤ length T → Skipped T at key at
+skipped-none T at key h = record { inside = h; further = omega arith; same = λ d allow s p c e f. refl }
 
-pub passed-more :
-    (T : List ℕ) (at key i : ℕ) → Passed T at key i → i < length T → getD T i 0 / 2 ^ 60 ≡ 7 → (getD T i 0 / 2 ^ 28 ≡ key → ⊥)
-    → (x : ℕ) → x ≡ extentOf (getD T i 0) → (x ≡ 0 → ⊥) → i + x ≤ length T → Passed T at key (i + x)
-passed-more T at key i P h op ne x e z fit =
+pub skipped-more :
+    (T : List ℕ) (at key i : ℕ) → Skipped T at key i → i < length T → getD T i 0 / 2 ^ 60 ≡ 7 → (getD T i 0 / 2 ^ 28 ≡ key → ⊥)
+    → (x : ℕ) → x ≡ extentOf (getD T i 0) → (x ≡ 0 → ⊥) → i + x ≤ length T → Skipped T at key (i + x)
+skipped-more T at key i P h op ne x e z fit =
     record {
       inside = omega arith;
       further = omega arith;
@@ -194,5 +194,5 @@ passed-more T at key i P h op ne x e z fit =
     }
 
 -- by how many words are left
-pub passed-left : {T : List ℕ} {at key i : ℕ} → Passed T at key i → (length T - i ≤ length T) × Passed T at key (length T - (length T - i))
-passed-left {T} {i = i} P = let e : length T - (length T - i) ≡ i = omega (arith, P .inside) in (omega arith, rw e P)
+pub skipped-left : {T : List ℕ} {at key i : ℕ} → Skipped T at key i → (length T - i ≤ length T) × Skipped T at key (length T - (length T - i))
+skipped-left {T} {i = i} P = let e : length T - (length T - i) ≡ i = omega (arith, P .inside) in (omega arith, rw e P)

@@ -19,7 +19,7 @@ use Rattle.clause.proofs.Siblings.{right-inside}
 use Rattle.machine.specs.Machine.{State, Outcome, onto, down, right, next, fails, given, headed, putting, pushing, require, within, sameTerms, compareTerms, stepAt, stepFrom, step, finish, finishFrom}
 use Rattle.machine.specs.Instr.{Step, Down, Right, Put, Push, Pop, Check, Compare, Instr, First, Do, Success, instruction}
 use Rattle.walk.specs.Words.{extends}
-use Rattle.cells.specs.inner.Cells.{placeOf, placed, stateOf, Met, bad, hit, firsts, stepped, reached, sized, metAs, meeting, metOf, stores, plain, store, Visited, Tables, Ready}
+use Rattle.cells.specs.inner.Cells.{positionIn, placed, stateOf, Met, past, bad, hit, firsts, stepped, reached, withWords, metAs, meeting, metOf, stores, plain, store, Visited, Tables, Walkable}
 use Rattle.cells.specs.declared.Go.{Go}
 use Rattle.cells.specs.declared.Go.the-variants.{Fails, Stuck, Below, Stored}
 use Rattle.tree.specs.Laid.{extentOf}
@@ -31,45 +31,54 @@ use Rattle.cells.proofs.Places.{place-none, place-some, placed-get, sta
 pub stays : (g : Go) (h : ℕ) (l : List ℕ) {m : Met} → stores g ≡ false → metOf g (stateOf h l) ≡ m → Visited m l l (record { go = g; head = h; mark = 0 })
 stays g h l n e = record { comes = e; marked = plain g n }
 
+-- a broken node, and one that fails
+pub sticks : (l : List ℕ) {m : Met} → bad ≡ m → Visited m l l (record { go = Stuck; head = 255; mark = 0 })
+unfolding metOf
+sticks l e = stays Stuck 255 l refl e
+
+pub misses : (l : List ℕ) {m : Met} → past ≡ m → Visited m l l (record { go = Fails; head = 255; mark = 0 })
+unfolding metOf
+misses l e = stays Fails 255 l refl e
+
 -- another head
-pub moved-none : (h : ℕ) (l : List ℕ) {to : ℕ} → to ≡ 255 → metOf Stuck (stateOf h l) ≡ stepped (given (placeOf to) (headed (stateOf h l)))
+pub moved-none : (h : ℕ) (l : List ℕ) {to : ℕ} → to ≡ 255 → bad ≡ stepped (given (positionIn to) (headed (stateOf h l)))
 unfolding metOf stepped given
 moved-none h l e = rw (place-none e)
 
-pub moved-some : (h : ℕ) (l : List ℕ) {to : ℕ} → (to ≡ 255 → ⊥) → metOf Below (stateOf to l) ≡ stepped (given (placeOf to) (headed (stateOf h l)))
+pub moved-some : (h : ℕ) (l : List ℕ) {to : ℕ} → (to ≡ 255 → ⊥) → metOf Below (stateOf to l) ≡ stepped (given (positionIn to) (headed (stateOf h l)))
 unfolding metOf stepped given
 moved-some h l n = rw (place-some n)
 
 -- a number over 63
-pub over : (k : ℕ) (s : State) (o : Outcome State) → 64 ≤ k → metOf Stuck s ≡ stepped (within k o)
+pub over : (k : ℕ) (o : Outcome State) → 64 ≤ k → bad ≡ stepped (within k o)
 unfolding metOf stepped require
-over k s o h = rw (le-ltb k 64 h)
+over k o h = rw (le-ltb k 64 h)
 
 -- the arguments and the right sibling
-pub down-none : (d : List ℕ) (p : ℕ) → arity (getD d p 0) ≡ 0 → placeOf 255 ≡ down d p
+pub down-none : (d : List ℕ) (p : ℕ) → arity (getD d p 0) ≡ 0 → positionIn 255 ≡ down d p
 unfolding down onto
 down-none d p e = rw e (place-none refl)
 
-pub down-some : (d : List ℕ) (p : ℕ) → p < 64 → (arity (getD d p 0) ≡ 0 → ⊥) → placeOf (p + 1) ≡ down d p
+pub down-some : (d : List ℕ) (p : ℕ) → p < 64 → (arity (getD d p 0) ≡ 0 → ⊥) → positionIn (p + 1) ≡ down d p
 unfolding down onto
 down-some d p h n =
     let e : arity (getD d p 0) ≡ suc (arity (getD d p 0) - 1) = omega arith in
     let f : p + 1 ≡ suc p = omega arith in
     rw (e, f) (place-some {x = suc p} (λ z. omega arith))
 
-pub down-stuck : (d : List ℕ) (h : ℕ) (l : List ℕ) → arity (getD d h 0) ≡ 0 → metOf Stuck (stateOf h l) ≡ stepped (given (down d h) (headed (stateOf h l)))
+pub down-stuck : (d : List ℕ) (h : ℕ) (l : List ℕ) → arity (getD d h 0) ≡ 0 → bad ≡ stepped (given (down d h) (headed (stateOf h l)))
 down-stuck d h l e = moved-none h l {to = 255} refl ∙ ap (λ (o : Option ℕ). stepped (given o (headed (stateOf h l)))) (down-none d h e)
 
 pub down-below : (d : List ℕ) (h : ℕ) (l : List ℕ) → (h < length d) × (length d ≤ 64) → (arity (getD d h 0) ≡ 0 → ⊥)
     → metOf Below (stateOf (h + 1) l) ≡ stepped (given (down d h) (headed (stateOf h l)))
 down-below d h l p n = moved-some h l {to = h + 1} (λ z. omega (arith, p)) ∙ ap (λ (o : Option ℕ). stepped (given o (headed (stateOf h l)))) (down-some d h (omega (arith, p)) n)
 
-module _ (d t : List ℕ) (h : ℕ) (l : List ℕ) (R : Ready d t h l) (inside : h < length d) where
-  pub right-none : getD t (72 + h) 0 ≡ 0 → placeOf 255 ≡ right d h
+module _ (d t : List ℕ) (h : ℕ) (l : List ℕ) (R : Walkable d t h l) (inside : h < length d) where
+  pub right-none : getD t (72 + h) 0 ≡ 0 → positionIn 255 ≡ right d h
   unfolding right onto
   right-none e = rw (sym (R .tables .rights h inside) ∙ e) (place-none refl)
 
-  pub right-some : (getD t (72 + h) 0 ≡ 0 → ⊥) → {x : ℕ} → x ≡ getD t (8 + h) 0 → (placeOf x ≡ right d h) × (x < 64)
+  pub right-some : (getD t (72 + h) 0 ≡ 0 → ⊥) → {x : ℕ} → x ≡ getD t (8 + h) 0 → (positionIn x ≡ right d h) × (x < 64)
   unfolding right onto
   right-some n e =
       let r : rights d h ≡ suc (rights d h - 1) = omega (arith, R .tables .rights h inside) in
@@ -77,7 +86,7 @@ module _ (d t : List ℕ) (h : ℕ) (l : List ℕ) (R : Ready d t h l) (inside :
       let w = few-words R in
       (rw (e, R .tables .ends h inside, r) (place-some {x = jump d 1 h} (λ z. omega arith)), rw (e, R .tables .ends h inside) (omega arith))
 
-  pub right-stuck : getD t (72 + h) 0 ≡ 0 → metOf Stuck (stateOf h l) ≡ stepped (given (right d h) (headed (stateOf h l)))
+  pub right-stuck : getD t (72 + h) 0 ≡ 0 → bad ≡ stepped (given (right d h) (headed (stateOf h l)))
   right-stuck e = moved-none h l {to = 255} refl ∙ ap (λ (o : Option ℕ). stepped (given o (headed (stateOf h l)))) (right-none e)
 
   pub right-below : (getD t (72 + h) 0 ≡ 0 → ⊥) → {x : ℕ} → x ≡ getD t (8 + h) 0 → metOf Below (stateOf x l) ≡ stepped (given (right d h) (headed (stateOf h l)))
@@ -97,7 +106,7 @@ module _ (h : ℕ) (l : List ℕ) (few : getD l 136 0 ≤ 8) where
       }
 
   pub push-visit : (n x : ℕ) → n < 64 → x < 256 → (x ≡ 255 → ⊥) → getD l (72 + n) 0 < 256
-      → Visited (stepped (within n (given (placeOf x) (pushing (stateOf h l) n)))) l (set l (72 + n) x) (record { go = Stored; head = h; mark = (72 + n) * 256 + getD l (72 + n) 0 })
+      → Visited (stepped (within n (given (positionIn x) (pushing (stateOf h l) n)))) l (set l (72 + n) x) (record { go = Stored; head = h; mark = (72 + n) * 256 + getD l (72 + n) 0 })
   unfolding metOf stepped require given
   push-visit n x g v ne b =
       record {
@@ -105,12 +114,12 @@ module _ (h : ℕ) (l : List ℕ) (few : getD l 136 0 ≤ 8) where
         marked = store (72 + n) x (omega arith) (omega arith) b;
       }
 
-pub push-none : (n : ℕ) (s : State) {x : ℕ} → x ≡ 255 → n < 64 → metOf Stuck s ≡ stepped (within n (given (placeOf x) (pushing s n)))
+pub push-none : (n : ℕ) (s : State) {x : ℕ} → x ≡ 255 → n < 64 → bad ≡ stepped (within n (given (positionIn x) (pushing s n)))
 unfolding metOf stepped require given
 push-none n s e g = rw (lt-ltb n 64 g, place-none e)
 
 -- Pop
-pub pop-visit : (h : ℕ) (l : List ℕ) → length l ≡ 256 → (n : ℕ) → n < 64 → stepped (given (placeOf (getD l (72 + n) 0)) (headed (stateOf h l)))
+pub pop-visit : (h : ℕ) (l : List ℕ) → length l ≡ 256 → (n : ℕ) → n < 64 → stepped (given (positionIn (getD l (72 + n) 0)) (headed (stateOf h l)))
     ≡ stepped (within n (given (getD (placed 72 l) n none) (headed (stateOf h l))))
 unfolding require
 pop-visit h l s n g = rw (lt-ltb n 64 g, placed-get 72 l n g (omega arith))
@@ -120,7 +129,7 @@ pub check-same : (s : State) (a b : ℕ) → a ≡ b → metOf Below s ≡ stepp
 unfolding metOf stepped require
 check-same s a b e = rw (eq-eqb a b e)
 
-pub check-other : (s : State) (a b : ℕ) → (a ≡ b → ⊥) → metOf Fails s ≡ stepped (require fails (eqb a b) (next s))
+pub check-other : (s : State) (a b : ℕ) → (a ≡ b → ⊥) → past ≡ stepped (require fails (eqb a b) (next s))
 unfolding metOf stepped require
 check-other s a b n = rw (ne-eqb a b n)
 
@@ -136,29 +145,29 @@ module _ (d t : List ℕ) (T : Tables d t) (p : ℕ) (h : p < length d) {e : ℕ
   pub part-term : take (e - p) (drop p d) ≡ termAt d p
   part-term = rw (f, T .ends p h) (term-part d p)
 
-module _ (d t : List ℕ) (h : ℕ) (l : List ℕ) (R : Ready d t h l) (m k : ℕ) where
-  pub compare-over-m : 64 ≤ m → metOf Stuck (stateOf h l) ≡ stepped (stepAt d (Compare m k) (stateOf h l) h)
+module _ (d t : List ℕ) (h : ℕ) (l : List ℕ) (R : Walkable d t h l) (m k : ℕ) where
+  pub compare-over-m : 64 ≤ m → bad ≡ stepped (stepAt d (Compare m k) (stateOf h l) h)
   unfolding stepAt metOf stepped require
   compare-over-m g = rw (le-ltb m 64 g)
 
   module _ (u : m < 64) where
-    pub compare-over-k : 64 ≤ k → metOf Stuck (stateOf h l) ≡ stepped (stepAt d (Compare m k) (stateOf h l) h)
+    pub compare-over-k : 64 ≤ k → bad ≡ stepped (stepAt d (Compare m k) (stateOf h l) h)
     unfolding stepAt metOf stepped require
     compare-over-k g = rw (lt-ltb m 64 u, le-ltb k 64 g)
 
     module _ (v : k < 64) where
-      compare-places : stepAt d (Compare m k) (stateOf h l) h ≡ compareTerms d (stateOf h l) (placeOf (getD l (8 + m) 0)) (placeOf (getD l (8 + k) 0))
+      compare-places : stepAt d (Compare m k) (stateOf h l) h ≡ compareTerms d (stateOf h l) (positionIn (getD l (8 + m) 0)) (positionIn (getD l (8 + k) 0))
       unfolding stepAt require
       compare-places =
           let s = R .size in
           rw (lt-ltb m 64 u, lt-ltb k 64 v, placed-get 8 l m u (omega arith), placed-get 8 l k v (omega arith))
 
-      pub compare-no-m : {p : ℕ} → p ≡ getD l (8 + m) 0 → p ≡ 255 → metOf Stuck (stateOf h l) ≡ stepped (stepAt d (Compare m k) (stateOf h l) h)
+      pub compare-no-m : {p : ℕ} → p ≡ getD l (8 + m) 0 → p ≡ 255 → bad ≡ stepped (stepAt d (Compare m k) (stateOf h l) h)
       unfolding metOf stepped compareTerms
       compare-no-m e f = rw (compare-places, place-none (sym e ∙ f))
 
       module _ {p : ℕ} (e : p ≡ getD l (8 + m) 0) (n : p ≡ 255 → ⊥) where
-        pub compare-no-k : {q : ℕ} → q ≡ getD l (8 + k) 0 → q ≡ 255 → metOf Stuck (stateOf h l) ≡ stepped (stepAt d (Compare m k) (stateOf h l) h)
+        pub compare-no-k : {q : ℕ} → q ≡ getD l (8 + k) 0 → q ≡ 255 → bad ≡ stepped (stepAt d (Compare m k) (stateOf h l) h)
         unfolding metOf stepped compareTerms
         compare-no-k f g = rw (compare-places, ← e, place-some n, place-none (sym f ∙ g))
 
@@ -177,13 +186,13 @@ module _ (d t : List ℕ) (h : ℕ) (l : List ℕ) (R : Ready d t h l) (m k : �
           unfolding metOf stepped require
           compare-same g = rw (compare-both, g)
 
-          pub compare-other : sameTerms d p q ≡ false → metOf Fails (stateOf h l) ≡ stepped (stepAt d (Compare m k) (stateOf h l) h)
+          pub compare-other : sameTerms d p q ≡ false → past ≡ stepped (stepAt d (Compare m k) (stateOf h l) h)
           unfolding metOf stepped require
           compare-other g = rw (compare-both, g)
 
 -- a head that stands in the query
-module _ (d t : List ℕ) (h : ℕ) (l : List ℕ) (R : Ready d t h l) where
-  pub head-some : h < length d → placeOf h ≡ some h
+module _ (d t : List ℕ) (h : ℕ) (l : List ℕ) (R : Walkable d t h l) where
+  pub head-some : h < length d → positionIn h ≡ some h
   head-some g = let w = few-words R in place-some {x = h} (λ z. omega arith)
 
   pub chosen-length : length (take (getD l 136 0) l) ≡ getD l 136 0
@@ -265,8 +274,8 @@ module _ (d : List ℕ) (w room : ℕ) (s : State) where
   -- a word with an extent in the row: a Success still has to have one word
 
   module _ (some-room : 1 ≤ room) {n : ℕ} (e : n ≡ extentOf w) (some-words : n ≡ 0 → ⊥) (inside : n ≤ room) where
-    pub met-sized : {op x : ℕ} → op ≡ w / 2 ^ 60 → x ≡ w / 2 ^ 28 % 2 ^ 32 → meeting d w room s ≡ sized op n (metAs d (instruction op x) s)
-    unfolding sized
+    pub met-sized : {op x : ℕ} → op ≡ w / 2 ^ 60 → x ≡ w / 2 ^ 28 % 2 ^ 32 → meeting d w room s ≡ withWords op n (metAs d (instruction op x) s)
+    unfolding withWords
     met-sized {op} {x} f g = go (ℕ-discrete op 0) (ℕ-discrete n 1)
       where
         go : Dec (op ≡ 0) → Dec (n ≡ 1) → meeting d w room s ≡ cond (eqb op 0) (cond (eqb n 1) (metAs d (instruction op x) s) bad) (metAs d (instruction op x) s)
@@ -283,26 +292,26 @@ met-early d w room s {op} e n h = go (extends w (room - 1)) refl
     go true f = met-word d w room s f e refl ∙ early d op (w / 2 ^ 28 % 2 ^ 32) s h n
 
 -- a First in the row
-pub met-tries : (d t : List ℕ) (h : ℕ) (l : List ℕ) → Ready d t h l → (w room : ℕ) → extends w (room - 1) ≡ true → {op : ℕ} → op ≡ w / 2 ^ 60 → op ≡ 1
+pub met-tries : (d t : List ℕ) (h : ℕ) (l : List ℕ) → Walkable d t h l → (w room : ℕ) → extends w (room - 1) ≡ true → {op : ℕ} → op ≡ w / 2 ^ 60 → op ≡ 1
     → meeting d w room (stateOf h l) ≡ cond (ltb (getD l 136 0) 8) (firsts (stateOf h l)) bad
 unfolding meeting metAs instruction
 met-tries d t h l R w room ok e f = rw (ok, instrOf-word w, sym e ∙ f, chosen-length d t h l R)
 
 -- only a Success has to have one word
-pub sized-other : (op n : ℕ) {m k : Met} → (op ≡ 0 → ⊥) → m ≡ k → sized op n m ≡ k
-unfolding sized
+pub sized-other : (op n : ℕ) {m k : Met} → (op ≡ 0 → ⊥) → m ≡ k → withWords op n m ≡ k
+unfolding withWords
 sized-other op n z e = rw (ne-eqb op 0 z) e
 
-pub act-success : (d t : List ℕ) (h : ℕ) (l : List ℕ) → Ready d t h l → h < length d → (x : ℕ) → metAs d (instruction 0 x) (stateOf h l) ≡ hit (stateOf h l)
+pub act-success : (d t : List ℕ) (h : ℕ) (l : List ℕ) → Walkable d t h l → h < length d → (x : ℕ) → metAs d (instruction 0 x) (stateOf h l) ≡ hit (stateOf h l)
 unfolding instruction
 act-success d t h l R inside x = success-met d (stateOf h l) h (head-some d t h l R inside) x
 
-pub act-first : (d t : List ℕ) (h : ℕ) (l : List ℕ) → Ready d t h l → (op x : ℕ) → op ≡ 1 → metAs d (instruction op x) (stateOf h l) ≡ cond (ltb (getD l 136 0) 8) (firsts (stateOf h l)) bad
+pub act-first : (d t : List ℕ) (h : ℕ) (l : List ℕ) → Walkable d t h l → (op x : ℕ) → op ≡ 1 → metAs d (instruction op x) (stateOf h l) ≡ cond (ltb (getD l 136 0) 8) (firsts (stateOf h l)) bad
 unfolding metAs instruction
 act-first d t h l R op x e = rw (e, chosen-length d t h l R)
 
 -- the operations at a head
-module _ (d t : List ℕ) (h : ℕ) (l : List ℕ) (R : Ready d t h l) (inside : h < length d) (op x : ℕ) where
+module _ (d t : List ℕ) (h : ℕ) (l : List ℕ) (R : Walkable d t h l) (inside : h < length d) (op x : ℕ) where
   at-step : (y : Step) → instruction op x ≡ some (Do y) → metAs d (instruction op x) (stateOf h l) ≡ stepped (stepAt d y (stateOf h l) h)
   at-step y e = rw e (do-met d (stateOf h l) h (head-some d t h l R inside) y)
 
@@ -334,6 +343,6 @@ module _ (d t : List ℕ) (h : ℕ) (l : List ℕ) (R : Ready d t h l) (inside :
   unfolding instruction
   act-compare e = at-step (Compare (x / 2 ^ 16) (x % 2 ^ 16)) (rw e)
 
-  pub act-over : 9 ≤ op → metOf Stuck (stateOf h l) ≡ metAs d (instruction op x) (stateOf h l)
+  pub act-over : 9 ≤ op → bad ≡ metAs d (instruction op x) (stateOf h l)
   unfolding metAs metOf
   act-over g = rw (nothing-over op x g)

@@ -3,9 +3,9 @@ mod row;
 mod state;
 mod step;
 
-pub use row::extent;
+use clause::Clause;
 pub use row::operand;
-pub use row::pass;
+pub use row::skip;
 pub use row::wanted;
 pub use state::begin;
 pub use state::is_none;
@@ -23,14 +23,17 @@ pub use step::meet_top;
 pub struct Path {}
 
 impl Path {
+    // How many positions may be put, and how many pushed.
+    pub const SLOTS: usize = 64;
+
     // Where the positions put begin.
-    pub const PUTS: usize = 8;
+    pub const PUTS: usize = Clause::LITERALS;
 
     // Where the positions pushed begin.
-    pub const PUSHES: usize = 72;
+    pub const PUSHES: usize = Path::PUTS + Path::SLOTS;
 
     // The cell with the number of candidates.
-    pub const CHOSEN: usize = 136;
+    pub const CHOSEN: usize = Path::PUSHES + Path::SLOTS;
 
     // How many cells there are: any byte is the index of one.
     pub const CELLS: usize = 256;
@@ -39,7 +42,7 @@ impl Path {
     pub const NONE: usize = 255;
 
     // A trail below this has room for one more mark.
-    pub const TRAIL: u64 = 281474976710656;
+    pub const TRAIL: u64 = 0x1_0000_0000_0000;
 }
 
 // What a node asks for: to go on past it, nothing more (it is broken), to end with its number, to try the candidates, to go on below it, to go on
@@ -58,4 +61,20 @@ pub struct Visit {
     pub go: Go,
     pub head: usize,
     pub mark: u64,
+}
+
+impl Visit {
+    // A broken node.
+    pub const STUCK: Visit = Visit {
+        go: Go::Stuck,
+        head: Path::NONE,
+        mark: 0,
+    };
+
+    // A node that fails.
+    pub const FAILS: Visit = Visit {
+        go: Go::Fails,
+        head: Path::NONE,
+        mark: 0,
+    };
 }

@@ -1,30 +1,23 @@
 // The words of a row: their fields, and the Checks that fail among them.
+use tree::extent;
 ghost use mathlib.Core.Path.{_≡_};
 ghost use mathlib.Core.Bool.{true};
 ghost use Prim.Native.Nat.{_-_, _≤_, _<_, _/_, _%_, _^_};
 ghost use lib.ListN.{length};
-ghost use Rattle.tree.specs.Laid.{extentOf};
-ghost use Rattle.cells.specs.inner.Cells.{wantedAt, Passed};
-
-// How many words a node has, with all below it.
-pub fn extent(w: u64) -> usize
-    ensures { λ r. ⌜ r ≡ extentOf w ⌝ }
-{
-    (w % 268435456) as usize
-}
+ghost use Rattle.cells.specs.inner.Cells.{wantedAt, Skipped};
 
 // The operation of a word.
 pub fn operation(w: u64) -> u64
     ensures { λ r. ⌜ r ≡ w / 2 ^ 60 ⌝ }
 {
-    w / 1152921504606846976
+    w / 0x1000_0000_0000_0000
 }
 
 // The operand of a word.
 pub fn operand(w: u64) -> u32
     ensures { λ r. ⌜ r ≡ w / 2 ^ 28 % 2 ^ 32 ⌝ }
 {
-    (w / 268435456 % 4294967296) as u32
+    (w / 0x1000_0000 % 0x1_0000_0000) as u32
 }
 
 // The key of the Check that fits at the head.
@@ -32,7 +25,7 @@ pub fn wanted(query: &[u16], head: usize) -> u64
     requires { ⌜ head < length (now query) ⌝ }
     ensures { λ r. ⌜ (r ≡ wantedAt (now (query .entry)) head) × (r / 2 ^ 32 ≡ 7) ⌝ }
 {
-    30064771072 + query[head] as u64
+    0x7_0000_0000 + query[head] as u64
 }
 
 // Whether a word is a Check with another key than this Check's: the operations are the same, the operands are not.
@@ -40,13 +33,13 @@ fn fails(w: u64, key: u64) -> bool
     requires { ⌜ key / 2 ^ 32 ≡ 7 ⌝ }
     ensures { λ r. ⌜ (r ≡ true → (w / 2 ^ 60 ≡ 7) × (w / 2 ^ 28 ≡ key → ⊥)) ⌝ }
 {
-    std::num::wrapping_sub_u64(w ^ (key * 268435456), 268435456) < 1152921504338411520
+    std::num::wrapping_sub_u64(w ^ (key * 0x1000_0000), 0x1000_0000) < 0xfff_ffff_f000_0000
 }
 
 // How many words of the row are left, from its next word on that is not a Check that fails.
-pub fn pass(words: &[u64], at: usize, key: u64) -> usize
+pub fn skip(words: &[u64], at: usize, key: u64) -> usize
     requires { ⌜ (at ≤ length (now words)) × (key / 2 ^ 32 ≡ 7) ⌝ }
-    ensures { λ r. ⌜ (r ≤ length (now (words .entry))) × Passed (now (words .entry)) at key (length (now (words .entry)) - r) ⌝ }
+    ensures { λ r. ⌜ (r ≤ length (now (words .entry))) × Skipped (now (words .entry)) at key (length (now (words .entry)) - r) ⌝ }
 {
     let mut i = at;
     let mut to = at;

@@ -1,5 +1,4 @@
-// The state of a path in lent cells: 0 to 7 the candidates, from 8 on the positions put, from 72 on the positions pushed, and at 136 how many candidates there are.
-// There are 256 of them, so that any byte is the index of a cell.
+// The state of a path in lent cells, laid out as `Path` says.
 use crate::Path;
 use clause::Clause;
 ghost use mathlib.Core.Path.{_≡_};
@@ -8,7 +7,8 @@ ghost use Prim.Native.Nat.{_+_, _*_, _≤_, _<_, _^_};
 ghost use lib.Dec.{eqb};
 ghost use lib.ListN.{length, getD};
 ghost use Rattle.clause.specs.Clause.{Accepted, literals};
-ghost use Rattle.cells.specs.inner.Cells.{restored, unwound, reserved, candidate, released, keptIn, headAt, passesOf, Tables};
+ghost use Rattle.cells.specs.inner.Cells.{cellCount, noPosition, literalsAt, HasPlace, HasCandidate, Tables};
+ghost use Rattle.cells.specs.inner.Cells.{restored, unwound, reserved, candidate, released, keptIn, headAt, passesOf};
 
 // A cell as a position.
 pub fn wide(x: u8) -> usize
@@ -19,14 +19,14 @@ pub fn wide(x: u8) -> usize
 
 // Whether a position is none.
 pub fn is_none(x: usize) -> bool
-    ensures { λ r. ⌜ r ≡ eqb x 255 ⌝ }
+    ensures { λ r. ⌜ r ≡ eqb x noPosition ⌝ }
 {
     x == Path::NONE
 }
 
 // Stores back what a visit stored over, by the lowest 16 bits of a mark.
 pub fn restore(cells: &mut [u8; Path::CELLS], mark: u64)
-    requires { ⌜ length (now cells) ≡ 256 ⌝ }
+    requires { ⌜ length (now cells) ≡ cellCount ⌝ }
     ensures { λ _. ⌜ now (cells .exit) ≡ restored mark (now (cells .entry)) ⌝ }
 {
     if mark == 0 {
@@ -41,24 +41,24 @@ pub fn trace(trail: u64, mark: u64) -> u64
     requires { ⌜ (trail < 2 ^ 48) × (mark < 2 ^ 16) ⌝ }
     ensures { λ r. ⌜ r ≡ trail * 2 ^ 16 + mark ⌝ }
 {
-    trail * 65536 + mark
+    trail * 0x1_0000 + mark
 }
 
 // Stores back what the visits on a trail stored over, the latest first.
 pub fn unwind(cells: &mut [u8; Path::CELLS], trail: u64)
-    requires { ⌜ length (now cells) ≡ 256 ⌝ }
+    requires { ⌜ length (now cells) ≡ cellCount ⌝ }
     ensures { λ _. ⌜ now (cells .exit) ≡ unwound trail (now (cells .entry)) ⌝ }
 {
     let mut left = trail;
     while left > 0 {
         restore(cells, left);
-        left /= 65536;
+        left /= 0x1_0000;
     }
 }
 
 // Makes place for the candidates of a First: what stood there.
 pub fn reserve(cells: &mut [u8; Path::CELLS], first: bool) -> u8
-    requires { ⌜ (length (now cells) ≡ 256) × (first ≡ true → getD (now cells) 136 0 < 8) ⌝ }
+    requires { ⌜ (length (now cells) ≡ cellCount) × (first ≡ true → HasPlace (now cells)) ⌝ }
     ensures { λ r. ⌜ (r ≡ keptIn first (now (cells .entry))) × (now (cells .exit) ≡ reserved first (now (cells .entry))) ⌝ }
 {
     if first {
@@ -80,8 +80,8 @@ pub fn begin(
     head: usize,
     j: usize,
 ) -> usize
-    requires { ⌜ Accepted (now query) × Tables (now query) (now tables) × (length (now cells) ≡ 256)
-        × (first ≡ true → (1 ≤ getD (now cells) 136 0) × (getD (now cells) 136 0 ≤ 8) × (j < length (literals (now query)))) ⌝ }
+    requires { ⌜ Accepted (now query) × Tables (now query) (now tables) × (length (now cells) ≡ cellCount)
+        × (first ≡ true → HasCandidate (now cells) × (j < length (literals (now query)))) ⌝ }
     ensures { λ r. ⌜ (r ≡ headAt (now (query .entry)) first head j) × (now (cells .exit) ≡ candidate first j (now (cells .entry))) ⌝ }
 {
     if first {
@@ -95,7 +95,7 @@ pub fn begin(
 
 // Takes the place of the candidates away again.
 pub fn release(cells: &mut [u8; Path::CELLS], first: bool, kept: u8)
-    requires { ⌜ (length (now cells) ≡ 256) × (first ≡ true → (1 ≤ getD (now cells) 136 0) × (getD (now cells) 136 0 ≤ 8)) ⌝ }
+    requires { ⌜ (length (now cells) ≡ cellCount) × (first ≡ true → HasCandidate (now cells)) ⌝ }
     ensures { λ _. ⌜ now (cells .exit) ≡ released first kept (now (cells .entry)) ⌝ }
 {
     if first {
@@ -108,7 +108,7 @@ pub fn release(cells: &mut [u8; Path::CELLS], first: bool, kept: u8)
 
 // How many passes a node takes: one for each literal of a First's query, else one.
 pub fn passes(tables: &[u8; Clause::TABLES], first: bool) -> usize
-    ensures { λ r. ⌜ r ≡ passesOf first (getD (now (tables .entry)) 136 0) ⌝ }
+    ensures { λ r. ⌜ r ≡ passesOf first (getD (now (tables .entry)) literalsAt 0) ⌝ }
 {
     if first {
         wide(tables[Clause::COUNT])

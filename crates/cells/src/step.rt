@@ -5,31 +5,28 @@ use crate::Visit;
 use crate::row;
 use crate::state::wide;
 use clause::Clause;
+use tree::extent;
 ghost use mathlib.Core.Path.{_≡_};
 ghost use mathlib.Core.List.{List};
-ghost use mathlib.Core.Option.{none};
 ghost use mathlib.Core.Logic.{_⊎_};
-ghost use mathlib.Core.Bool.{cond};
 ghost use Prim.Native.Nat.{ℕ, _+_, _*_, _≤_, _<_, _/_, _%_, _^_};
-ghost use lib.Dec.{eqb, ltb};
 ghost use lib.ListN.{length, getD, set};
-ghost use Rattle.machine.specs.Instr.{Compare, instruction};
-ghost use Rattle.machine.specs.Machine.{fails, next, given, headed, putting, pushing, require, within, sameTerms, stepAt};
+ghost use Rattle.clause.specs.Clause.{maxWords, maxLiterals};
+ghost use Rattle.machine.specs.Instr.{instruction};
+ghost use Rattle.machine.specs.Machine.{sameTerms};
 ghost use Rattle.machine.specs.Machine as m;
 ghost use Rattle.cells.specs.declared.Go.the-variants.{Stuck, Tries, Stored};
-ghost use Rattle.cells.specs.inner.Cells.{placeOf, stateOf, hit, firsts, bad, stepped, sized, metAs, meeting, Tables, Ready, Visited};
+ghost use Rattle.cells.specs.inner.Cells.{countAt, cellCount, noPosition, countIn, positionIn, stateOf, Tables, Walkable, Visited};
+ghost use Rattle.cells.specs.inner.Cells.{metSuccess, metFirst, metDown, metRight, metMoved, metPut, metPush, metPop, metCheck, metCompare};
+ghost use Rattle.cells.specs.inner.Cells.{withWords, metAs, meeting};
 
 // To the first argument, if there is one.
 fn down(query: &[u16], head: usize) -> Visit
-    requires { ⌜ (head < length (now query)) × (length (now query) ≤ 64) ⌝ }
-    ensures { λ r. ⌜ ((l : List ℕ) → Visited (stepped (given (m.down (now (query .entry)) head) (headed (stateOf head l)))) l l r) ⌝ }
+    requires { ⌜ (head < length (now query)) × (length (now query) ≤ maxWords) ⌝ }
+    ensures { λ r. ⌜ ((l : List ℕ) → Visited (metDown (now (query .entry)) head l) l l r) ⌝ }
 {
     if query[head] / 2048 % 8 == 0 {
-        Visit {
-            go: Go::Stuck,
-            head: head,
-            mark: 0,
-        }
+        Visit::STUCK
     } else {
         let to = head + 1;
         Visit {
@@ -40,15 +37,15 @@ fn down(query: &[u16], head: usize) -> Visit
     }
 }
 
-// The right sibling: 255 where there is none.
+// The right sibling, if there is one.
 fn right(
     query: &[u16],
     tables: &[u8; Clause::TABLES],
     cells: &[u8; Path::CELLS],
     head: usize,
 ) -> usize
-    requires { ⌜ Ready (now query) (now tables) head (now cells) × (head < length (now query)) ⌝ }
-    ensures { λ r. ⌜ (placeOf r ≡ m.right (now (query .entry)) head) × (r < 256) ⌝ }
+    requires { ⌜ Walkable (now query) (now tables) head (now cells) × (head < length (now query)) ⌝ }
+    ensures { λ r. ⌜ (positionIn r ≡ m.right (now (query .entry)) head) × (r < 256) ⌝ }
 {
     let siblings = Clause::SIBLINGS + head;
     let end = Clause::ENDS + head;
@@ -66,17 +63,13 @@ fn sibling(
     cells: &[u8; Path::CELLS],
     head: usize,
 ) -> Visit
-    requires { ⌜ Ready (now query) (now tables) head (now cells) × (head < length (now query)) ⌝ }
-    ensures { λ r. ⌜ Visited (stepped (given (m.right (now (query .entry)) head) (headed (stateOf head (now (cells .entry)))))) (now (cells .entry)) (now (cells .entry)) r ⌝ }
+    requires { ⌜ Walkable (now query) (now tables) head (now cells) × (head < length (now query)) ⌝ }
+    ensures { λ r. ⌜ Visited (metRight (now (query .entry)) head (now (cells .entry))) (now (cells .entry)) (now (cells .entry)) r ⌝ }
 {
     let siblings = Clause::SIBLINGS + head;
     let end = Clause::ENDS + head;
     if tables[siblings] == 0 {
-        Visit {
-            go: Go::Stuck,
-            head: head,
-            mark: 0,
-        }
+        Visit::STUCK
     } else {
         Visit {
             go: Go::Below,
@@ -88,14 +81,10 @@ fn sibling(
 
 // Goes on with another head, if there is one.
 fn moved(head: usize, to: usize) -> Visit
-    ensures { λ r. ⌜ ((l : List ℕ) → Visited (stepped (given (placeOf to) (headed (stateOf head l)))) l l r) ⌝ }
+    ensures { λ r. ⌜ ((l : List ℕ) → Visited (metMoved to head l) l l r) ⌝ }
 {
     if to == Path::NONE {
-        Visit {
-            go: Go::Stuck,
-            head: head,
-            mark: 0,
-        }
+        Visit::STUCK
     } else {
         Visit {
             go: Go::Below,
@@ -107,7 +96,7 @@ fn moved(head: usize, to: usize) -> Visit
 
 // Stores a position in a cell.
 fn store(cells: &mut [u8; Path::CELLS], head: usize, slot: usize, position: usize) -> Visit
-    requires { ⌜ (slot < 136) × (position < 256) ⌝ }
+    requires { ⌜ (slot < countAt) × (position < 256) ⌝ }
     ensures { λ r. ⌜ (r ≡ record { go = Stored; head = head; mark = slot * 256 + getD (now (cells .entry)) slot 0 })
         × (now (cells .exit) ≡ set (now (cells .entry)) slot position) × (getD (now (cells .entry)) slot 0 < 256) ⌝ }
 {
@@ -116,21 +105,17 @@ fn store(cells: &mut [u8; Path::CELLS], head: usize, slot: usize, position: usiz
     Visit {
         go: Go::Stored,
         head: head,
-        mark: (slot * 256 + old) as u64,
+        mark: (slot * 0x100 + old) as u64,
     }
 }
 
 // Put k stores the head.
 fn put(cells: &mut [u8; Path::CELLS], head: usize, k: u32) -> Visit
-    requires { ⌜ (getD (now cells) 136 0 ≤ 8) × (head < 64) ⌝ }
-    ensures { λ r. ⌜ Visited (stepped (within k (next (putting (stateOf head (now (cells .entry))) k head)))) (now (cells .entry)) (now (cells .exit)) r ⌝ }
+    requires { ⌜ (countIn (now cells) ≤ maxLiterals) × (head < maxWords) ⌝ }
+    ensures { λ r. ⌜ Visited (metPut k head (now (cells .entry))) (now (cells .entry)) (now (cells .exit)) r ⌝ }
 {
-    if k >= 64 {
-        return Visit {
-            go: Go::Stuck,
-            head: head,
-            mark: 0,
-        };
+    if k as usize >= Path::SLOTS {
+        return Visit::STUCK;
     }
     let slot = Path::PUTS + k as usize;
     store(cells, head, slot, head)
@@ -138,22 +123,14 @@ fn put(cells: &mut [u8; Path::CELLS], head: usize, k: u32) -> Visit
 
 // Push n stores the position to the right.
 fn push(cells: &mut [u8; Path::CELLS], head: usize, n: u32, to: usize) -> Visit
-    requires { ⌜ (getD (now cells) 136 0 ≤ 8) × (to < 256) ⌝ }
-    ensures { λ r. ⌜ Visited (stepped (within n (given (placeOf to) (pushing (stateOf head (now (cells .entry))) n)))) (now (cells .entry)) (now (cells .exit)) r ⌝ }
+    requires { ⌜ (countIn (now cells) ≤ maxLiterals) × (to < 256) ⌝ }
+    ensures { λ r. ⌜ Visited (metPush n to head (now (cells .entry))) (now (cells .entry)) (now (cells .exit)) r ⌝ }
 {
-    if n >= 64 {
-        return Visit {
-            go: Go::Stuck,
-            head: head,
-            mark: 0,
-        };
+    if n as usize >= Path::SLOTS {
+        return Visit::STUCK;
     }
     if to == Path::NONE {
-        return Visit {
-            go: Go::Stuck,
-            head: head,
-            mark: 0,
-        };
+        return Visit::STUCK;
     }
     let slot = Path::PUSHES + n as usize;
     store(cells, head, slot, to)
@@ -161,15 +138,11 @@ fn push(cells: &mut [u8; Path::CELLS], head: usize, n: u32, to: usize) -> Visit
 
 // Pop n puts the head at the position pushed under n.
 fn pop(cells: &[u8; Path::CELLS], head: usize, n: u32) -> Visit
-    requires { ⌜ length (now cells) ≡ 256 ⌝ }
-    ensures { λ r. ⌜ Visited (stepped (within n (given (getD (stateOf head (now (cells .entry)) .pushes) n none) (headed (stateOf head (now (cells .entry))))))) (now (cells .entry)) (now (cells .entry)) r ⌝ }
+    requires { ⌜ length (now cells) ≡ cellCount ⌝ }
+    ensures { λ r. ⌜ Visited (metPop n head (now (cells .entry))) (now (cells .entry)) (now (cells .entry)) r ⌝ }
 {
-    if n >= 64 {
-        return Visit {
-            go: Go::Stuck,
-            head: head,
-            mark: 0,
-        };
+    if n as usize >= Path::SLOTS {
+        return Visit::STUCK;
     }
     let slot = Path::PUSHES + n as usize;
     moved(head, wide(cells[slot]))
@@ -185,7 +158,7 @@ fn word(w: u16) -> u32
 // Check fails on another word.
 fn check(query: &[u16], head: usize, x: u32) -> Visit
     requires { ⌜ head < length (now query) ⌝ }
-    ensures { λ r. ⌜ ((l : List ℕ) → Visited (stepped (require fails (eqb (getD (now (query .entry)) head 0) x) (next (stateOf head l)))) l l r) ⌝ }
+    ensures { λ r. ⌜ ((l : List ℕ) → Visited (metCheck (now (query .entry)) x head l) l l r) ⌝ }
 {
     if word(query[head]) == x {
         Visit {
@@ -194,17 +167,13 @@ fn check(query: &[u16], head: usize, x: u32) -> Visit
             mark: 0,
         }
     } else {
-        Visit {
-            go: Go::Fails,
-            head: head,
-            mark: 0,
-        }
+        Visit::FAILS
     }
 }
 
 // Whether the whole terms at two positions are equal, each handed on as a part of the query.
 fn same_terms(query: &[u16], tables: &[u8; Clause::TABLES], p: usize, q: usize) -> bool
-    requires { ⌜ (length (now query) ≤ 64) × Tables (now query) (now tables) × (p < length (now query)) × (q < length (now query)) ⌝ }
+    requires { ⌜ (length (now query) ≤ maxWords) × Tables (now query) (now tables) × (p < length (now query)) × (q < length (now query)) ⌝ }
     ensures { λ r. ⌜ r ≡ sameTerms (now (query .entry)) p q ⌝ }
 {
     let p_cell = Clause::ENDS + p;
@@ -216,7 +185,7 @@ fn same_terms(query: &[u16], tables: &[u8; Clause::TABLES], p: usize, q: usize) 
 
 // A Success ends the walk; it has one word.
 fn success(words: usize, head: usize) -> Visit
-    ensures { λ r. ⌜ ((l : List ℕ) → Visited (sized 0 words (hit (stateOf head l))) l l r) ⌝ }
+    ensures { λ r. ⌜ ((l : List ℕ) → Visited (metSuccess words head l) l l r) ⌝ }
 {
     if words == 1 {
         Visit {
@@ -225,32 +194,24 @@ fn success(words: usize, head: usize) -> Visit
             mark: 0,
         }
     } else {
-        Visit {
-            go: Go::Stuck,
-            head: head,
-            mark: 0,
-        }
+        Visit::STUCK
     }
 }
 
-// A First tries the literals of the query, at most as its eighth.
+// A First tries the literals of the query, where there is a place for one candidate more.
 fn tries(cells: &[u8; Path::CELLS], head: usize) -> Visit
-    requires { ⌜ length (now cells) ≡ 256 ⌝ }
-    ensures { λ r. ⌜ Visited (cond (ltb (getD (now (cells .entry)) 136 0) 8) (firsts (stateOf head (now (cells .entry)))) bad) (now (cells .entry)) (now (cells .entry)) r
+    requires { ⌜ length (now cells) ≡ cellCount ⌝ }
+    ensures { λ r. ⌜ Visited (metFirst head (now (cells .entry))) (now (cells .entry)) (now (cells .entry)) r
         × ((r .go ≡ Tries) ⊎ (r .go ≡ Stuck)) ⌝ }
 {
-    if cells[Path::CHOSEN] < 8 {
+    if wide(cells[Path::CHOSEN]) < Clause::LITERALS {
         Visit {
             go: Go::Tries,
             head: head,
             mark: 0,
         }
     } else {
-        Visit {
-            go: Go::Stuck,
-            head: head,
-            mark: 0,
-        }
+        Visit::STUCK
     }
 }
 
@@ -262,31 +223,26 @@ fn compare(
     head: usize,
     x: u32,
 ) -> Visit
-    requires { ⌜ Ready (now query) (now tables) head (now cells) ⌝ }
-    ensures { λ r. ⌜ Visited (stepped (stepAt (now (query .entry)) (Compare (x / 2 ^ 16) (x % 2 ^ 16)) (stateOf head (now (cells .entry))) head)) (now (cells .entry)) (now (cells .entry)) r ⌝ }
+    requires { ⌜ Walkable (now query) (now tables) head (now cells) ⌝ }
+    ensures { λ r. ⌜ Visited (metCompare (now (query .entry)) (x / 2 ^ 16) (x % 2 ^ 16) head (now (cells .entry))) (now (cells .entry)) (now (cells .entry)) r ⌝ }
 {
-    let m = (x / 65536) as usize;
-    let k = (x % 65536) as usize;
-    let stuck = Visit {
-        go: Go::Stuck,
-        head: head,
-        mark: 0,
-    };
-    if m >= 64 {
-        return stuck;
+    let m = (x / 0x1_0000) as usize;
+    let k = (x % 0x1_0000) as usize;
+    if m >= Path::SLOTS {
+        return Visit::STUCK;
     }
-    if k >= 64 {
-        return stuck;
+    if k >= Path::SLOTS {
+        return Visit::STUCK;
     }
     let m_cell = Path::PUTS + m;
     let k_cell = Path::PUTS + k;
     let p = wide(cells[m_cell]);
     let q = wide(cells[k_cell]);
     if p == Path::NONE {
-        return stuck;
+        return Visit::STUCK;
     }
     if q == Path::NONE {
-        return stuck;
+        return Visit::STUCK;
     }
     if same_terms(query, tables, p, q) {
         Visit {
@@ -295,11 +251,7 @@ fn compare(
             mark: 0,
         }
     } else {
-        Visit {
-            go: Go::Fails,
-            head: head,
-            mark: 0,
-        }
+        Visit::FAILS
     }
 }
 
@@ -313,8 +265,9 @@ fn act(
     cells: &mut [u8; Path::CELLS],
     head: usize,
 ) -> Visit
-    requires { ⌜ Ready (now query) (now tables) head (now cells) × (head < length (now query)) ⌝ }
-    ensures { λ r. ⌜ Visited (sized op words (metAs (now (query .entry)) (instruction op x) (stateOf head (now (cells .entry))))) (now (cells .entry)) (now (cells .exit)) r ⌝ }
+    requires { ⌜ Walkable (now query) (now tables) head (now cells) × (head < length (now query)) ⌝ }
+    ensures { λ r. ⌜ Visited (withWords op words (metAs (now (query .entry)) (instruction op x) (stateOf head (now (cells .entry)))))
+        (now (cells .entry)) (now (cells .exit)) r ⌝ }
 {
     match op {
         0 => success(words, head),
@@ -329,11 +282,7 @@ fn act(
         6 => pop(cells, head, x),
         7 => check(query, head, x),
         8 => compare(query, tables, cells, head, x),
-        _ => Visit {
-            go: Go::Stuck,
-            head: head,
-            mark: 0,
-        },
+        _ => Visit::STUCK,
     }
 }
 
@@ -346,20 +295,15 @@ pub fn meet(
     cells: &mut [u8; Path::CELLS],
     head: usize,
 ) -> Visit
-    requires { ⌜ Ready (now query) (now tables) head (now cells) × (1 ≤ room) × (head < length (now query)) ⌝ }
+    requires { ⌜ Walkable (now query) (now tables) head (now cells) × (1 ≤ room) × (head < length (now query)) ⌝ }
     ensures { λ r. ⌜ Visited (meeting (now (query .entry)) w room (stateOf head (now (cells .entry)))) (now (cells .entry)) (now (cells .exit)) r ⌝ }
 {
-    let stuck = Visit {
-        go: Go::Stuck,
-        head: head,
-        mark: 0,
-    };
-    let words = row::extent(w);
+    let words = extent(w);
     if words == 0 {
-        return stuck;
+        return Visit::STUCK;
     }
     if words > room {
-        return stuck;
+        return Visit::STUCK;
     }
     act(
         row::operation(w),
@@ -380,24 +324,19 @@ pub fn meet_top(
     tables: &[u8; Clause::TABLES],
     cells: &[u8; Path::CELLS],
 ) -> Visit
-    requires { ⌜ Ready (now query) (now tables) 255 (now cells) × (1 ≤ room) ⌝ }
-    ensures { λ r. ⌜ Visited (meeting (now (query .entry)) w room (stateOf 255 (now (cells .entry)))) (now (cells .entry)) (now (cells .entry)) r
+    requires { ⌜ Walkable (now query) (now tables) noPosition (now cells) × (1 ≤ room) ⌝ }
+    ensures { λ r. ⌜ Visited (meeting (now (query .entry)) w room (stateOf noPosition (now (cells .entry)))) (now (cells .entry)) (now (cells .entry)) r
         × ((r .go ≡ Tries) ⊎ (r .go ≡ Stuck)) ⌝ }
 {
-    let stuck = Visit {
-        go: Go::Stuck,
-        head: Path::NONE,
-        mark: 0,
-    };
-    let words = row::extent(w);
+    let words = extent(w);
     if words == 0 {
-        return stuck;
+        return Visit::STUCK;
     }
     if words > room {
-        return stuck;
+        return Visit::STUCK;
     }
     if row::operation(w) != 1 {
-        return stuck;
+        return Visit::STUCK;
     }
     tries(cells, Path::NONE)
 }

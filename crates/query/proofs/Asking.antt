@@ -1,11 +1,14 @@
 -- The query by the tests of the code, and its walk from the state before the first candidate.
 use Prim.Native.Nat.{ℕ, _+_, _-_, _≤_, _<_}
 use mathlib.Core.Path.{_≡_, refl, sym, _∙_}
+use mathlib.Core.Bool.{Bool, true, false}
 use mathlib.Core.List.{List, [], _∷_}
 use native.Mathlib.Omega.{arith}
+use lib.Dec.{T, leb→le}
 use lib.ListN.{length, getD, take, drop, set, replicate}
-use borrow.Author.Tests.{le-leb, lt-leb, lt-ltb, le-ltb}
+use borrow.Author.Tests.{lt-ltb, le-ltb}
 use Rattle.clause.specs.Clause.{Accepted, shape}
+use Rattle.clause.proofs.Tests.{and-l, and-r}
 use Rattle.clause.specs.declared.Fault.{Fault}
 use Rattle.clause.specs.declared.Shape.{Shape}
 use Rattle.clause.specs.declared.Shape.the-variants.{Faulty, Whole}
@@ -13,11 +16,11 @@ use Rattle.machine.specs.Machine.{State, initial, unfilled}
 use Rattle.machine.proofs.Safe.{initial-safe}
 use Rattle.tree.specs.declared.Refusal.{Refusal}
 use Rattle.tree.specs.declared.Refusal.the-variants.{BadSlice, Broken, ShortWitness}
-use Rattle.tree.specs.Laid.{usedOf, region}
+use Rattle.tree.specs.Laid.{usedOf, region, sized}
 use Rattle.walk.specs.Walk.{Answer, covered, notCovered, spent, broken, upTo}
 use Rattle.walk.specs.Words.{walkWords}
-use Rattle.walk.specs.Query.{machine, unanswered, told, walkSlice, queryAs, query}
-use Rattle.cells.specs.inner.Cells.{placeOf, placed, stateOf, Tables, Ready}
+use Rattle.walk.specs.Query.{witnessWords, machine, unanswered, told, walkSlice, queryAs, query}
+use Rattle.cells.specs.inner.Cells.{positionIn, placed, stateOf, Tables, Walkable}
 use Rattle.query.specs.inner.Findings.{seen, toldOut, refusalOf}
 
 -- the cells before the first candidate
@@ -25,10 +28,10 @@ abbrev pub fresh : List ℕ
 fresh = set (replicate 256 255) 136 0
 
 fresh-state : stateOf 255 fresh ≡ initial
-unfolding placeOf placed unfilled
+unfolding positionIn placed unfilled
 fresh-state = refl
 
-pub fresh-ready : {d t : List ℕ} → Accepted d → Tables d t → Ready d t 255 fresh
+pub fresh-ready : {d t : List ℕ} → Accepted d → Tables d t → Walkable d t 255 fresh
 fresh-ready {d} A T = record { whole = A; tables = T; safe = rw fresh-state (initial-safe d); size = refl; few = omega arith }
 
 -- what is told of an answer is told of what is seen of it
@@ -49,32 +52,30 @@ pub searched : (T d : List ℕ) (b : ℕ) (W : List ℕ) → 1 ≤ length T → 
 searched T d b W h f = rw (used-part T h f, fresh-state) (told-seen b W (walkSlice T d b))
 
 -- the tests one after another
-module _ (T d : List ℕ) (b : ℕ) (W : List ℕ) where
-  pub query-short : length T < 2 → unanswered BadSlice W ≡ query T d b W
+module _ (S d : List ℕ) (b : ℕ) (W : List ℕ) where
+  pub query-unsized : {f : Bool} → f ≡ sized S → f ≡ false → unanswered BadSlice W ≡ query S d b W
   unfolding query
-  query-short h = rw (lt-leb 2 (length T) h)
+  query-unsized e n = rw (sym e ∙ n)
 
-  module _ (low : 2 ≤ length T) where
-    pub query-long : 65536 < length T → unanswered BadSlice W ≡ query T d b W
+  module _ {f : Bool} (size : f ≡ sized S) (good : f ≡ true) where
+    query-sized : query S d b W ≡ queryAs (shape d) S d b W
     unfolding query
-    query-long h = rw (le-leb 2 (length T) low, lt-leb (length T) 65536 h)
+    query-sized = rw (sym size ∙ good)
 
-    module _ (high : length T ≤ 65536) where
-      query-sized : query T d b W ≡ queryAs (shape d) T d b W
-      unfolding query
-      query-sized = rw (le-leb 2 (length T) low, le-leb (length T) 65536 high)
+    pub some-words : 2 ≤ length S
+    some-words = let t : T (sized S) = rw (sym size ∙ good) tt in leb→le 2 (length S) (search (and-l, and-r))
 
-      pub query-fault : {s : Shape} {f : Fault} {r : Refusal} → s ≡ Faulty f → s ≡ shape d → r ≡ refusalOf s → unanswered r W ≡ query T d b W
-      unfolding refusalOf
-      query-fault g h e = rw (query-sized, e, sym h ∙ g, g)
+    pub query-fault : {s : Shape} {f : Fault} {r : Refusal} → s ≡ Faulty f → s ≡ shape d → r ≡ refusalOf s → unanswered r W ≡ query S d b W
+    unfolding refusalOf
+    query-fault g h e = rw (query-sized, e, sym h ∙ g, g)
 
-      module _ {n : ℕ} (whole : shape d ≡ Whole n) where
-        pub query-witness : length W < 72 → unanswered ShortWitness W ≡ query T d b W
-        query-witness h = rw (query-sized, whole, lt-ltb (length W) 72 h)
+    module _ {n : ℕ} (whole : shape d ≡ Whole n) where
+      pub query-witness : length W < witnessWords → unanswered ShortWitness W ≡ query S d b W
+      query-witness h = rw (query-sized, whole, lt-ltb (length W) witnessWords h)
 
-        module _ (room : 72 ≤ length W) where
-          pub query-header : length T - 1 < usedOf (getD T 0 0) → unanswered Broken W ≡ query T d b W
-          query-header h = rw (query-sized, whole, le-ltb (length W) 72 room, lt-ltb (length T - 1) (usedOf (getD T 0 0)) h)
+      module _ (room : witnessWords ≤ length W) where
+        pub query-header : {u : ℕ} → u ≡ usedOf (getD S 0 0) → length S - 1 < u → unanswered Broken W ≡ query S d b W
+        query-header e h = rw (query-sized, whole, le-ltb (length W) witnessWords room, lt-ltb (length S - 1) (usedOf (getD S 0 0)) (omega arith))
 
-          pub query-walk : usedOf (getD T 0 0) ≤ length T - 1 → told b W (walkSlice T d b) ≡ query T d b W
-          query-walk h = rw (query-sized, whole, le-ltb (length W) 72 room, le-ltb (length T - 1) (usedOf (getD T 0 0)) h)
+        pub query-walk : {u : ℕ} → u ≡ usedOf (getD S 0 0) → u ≤ length S - 1 → told b W (walkSlice S d b) ≡ query S d b W
+        query-walk e h = rw (query-sized, whole, le-ltb (length W) witnessWords room, le-ltb (length S - 1) (usedOf (getD S 0 0)) (omega arith))

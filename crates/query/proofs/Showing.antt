@@ -12,7 +12,7 @@ use borrow.Author.Tests.{lt-ltb, le-ltb}
 use lib.ListN.{length, getD, take, set, length-take, length-append, length-map}
 use lib.Seq.{getD-take, take-all}
 use Rattle.walk.specs.Query.{shown, written}
-use Rattle.cells.specs.inner.Cells.{placeOf, placed, stateOf}
+use Rattle.cells.specs.inner.Cells.{positionIn, placed, stateOf}
 use Rattle.walk.proofs.Witnessed.{shown-front, shown-none, shown-position}
 use Rattle.cells.proofs.Places.{placed-get}
 
@@ -47,7 +47,7 @@ module _ (l : List ℕ) (size : length l ≡ 256) (i : ℕ) where
   pub shows-no-literal : i < 8 → getD l 136 0 ≤ i → getD (shown (stateOf 255 l)) i none ≡ none
   shows-no-literal h g = shown-none (stateOf 255 l) i (simp length-take (omega arith)) h
 
-  pub shows-position : 8 ≤ i → i < 72 → getD (shown (stateOf 255 l)) i none ≡ placeOf (getD l i 0)
+  pub shows-position : 8 ≤ i → i < 72 → getD (shown (stateOf 255 l)) i none ≡ positionIn (getD l i 0)
   shows-position h g =
       let e : 8 + (i - 8) ≡ i = omega arith in
       ap (λ (k : ℕ). getD (shown (stateOf 255 l)) k none) (sym e) ∙ shown-position (stateOf 255 l) (i - 8) ∙ placed-get 8 l (i - 8) (omega arith) (omega arith) ∙ rw e
@@ -61,9 +61,9 @@ module _ (l : List ℕ) (size : length l ≡ 256) (i : ℕ) where
       go (yes g) = shows-literal l size i h (omega arith) ∙ rw (lt-ltb i n g)
       go (no g) = shows-no-literal l size i h (omega arith) ∙ rw (le-ltb i n (omega arith))
 
-  pub shows-back : 8 ≤ i → i < 72 → getD (shown (stateOf 255 l)) i none ≡ cond (not (eqb (getD l i 0) 255)) (some (getD l i 0)) none
-  unfolding placeOf
-  shows-back h g = shows-position l size i h g ∙ go (eqb (getD l i 0) 255)
+  pub shows-back : 8 ≤ i → i < 72 → {x : ℕ} → x ≡ getD l i 0 → getD (shown (stateOf 255 l)) i none ≡ cond (not (eqb x 255)) (some (getD l i 0)) none
+  unfolding positionIn
+  shows-back h g e = rw e (shows-position l size i h g ∙ go (eqb (getD l i 0) 255))
     where
       go : (b : Bool) → cond b none (some (getD l i 0)) ≡ cond (not b) (some (getD l i 0)) none
       go true = refl

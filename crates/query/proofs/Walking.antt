@@ -21,7 +21,7 @@ use Rattle.tree.specs.Laid.{keyOf, extentOf}
 use Rattle.walk.specs.Walk.{Answer, covered, notCovered, spent, broken, Part, andThen, attempt, tries, upTo}
 use Rattle.walk.specs.Words.{extends, walkWords}
 use Rattle.walk.specs.Query.{machine}
-use Rattle.cells.specs.inner.Cells.{entered, placeOf, stateOf, Ready, Met, past, bad, firsts, below, stepped, reached, metAs, meeting, metOf, stores, Marked, plain, store, Visited, unwound, restored, wantedAt, Passed, headAt, startAt, passesOf}
+use Rattle.cells.specs.inner.Cells.{entered, positionIn, stateOf, Walkable, Met, past, bad, firsts, below, stepped, reached, metAs, meeting, metOf, stores, Marked, plain, store, Visited, unwound, restored, wantedAt, Skipped, headAt, startAt, passesOf}
 use Rattle.query.specs.inner.Findings.{Walked}
 use Rattle.cells.specs.declared.Go.{Go}
 use Rattle.cells.specs.declared.Go.the-variants.{Fails, Stuck, Hit, Tries, Below, Stored}
@@ -151,34 +151,34 @@ unfolding metOf
 lower-met s l = ⊎-elim (λ e. rw e) (λ e. rw e) l
 
 -- the visit of a word by a ready state
-module _ (d t : List ℕ) (h : ℕ) (l : List ℕ) (R : Ready d t h l) (w room : ℕ) (some-room : 1 ≤ room) (m : List ℕ) (v : Visit) (met : Visited (meeting d w room (stateOf h l)) l m v) where
+module _ (d t : List ℕ) (h : ℕ) (l : List ℕ) (R : Walkable d t h l) (w room : ℕ) (some-room : 1 ≤ room) (m : List ℕ) (v : Visit) (met : Visited (meeting d w room (stateOf h l)) l m v) where
   met-fits : (v .go ≡ Stuck → ⊥) → (extends w (room - 1) ≡ true) × (metAs d (instrOf (keyOf w)) (stateOf h l) ≡ metOf (v .go) (stateOf (v .head) m))
   met-fits n = fits-met d w room (stateOf h l) (sym (met .comes)) (λ e. n (bad-stuck (v .go) (stateOf (v .head) m) e))
 
   visit-fits : (v .go ≡ Stuck → ⊥) → (1 ≤ extentOf w) × (extentOf w ≤ room)
   visit-fits n = let e = met-fits n .0 in let b = extends-within w (room - 1) e in (b .0, omega arith)
 
-  ready-as : Safe d (stateOf (v .head) m) → Ready d t (v .head) m
+  ready-as : Safe d (stateOf (v .head) m) → Walkable d t (v .head) m
   ready-as S = record { whole = R .whole; tables = R .tables; safe = S; size = marked-size (met .marked) ∙ R .size; few = rw (marked-count (met .marked)) (R .few) }
 
   below-met : Lower (v .go) → below (stateOf (v .head) m) ≡ metAs d (instrOf (keyOf w)) (stateOf h l)
   below-met g = sym (met-fits (lower≢stuck g) .1 ∙ lower-met (stateOf (v .head) m) g)
 
-  pub visit-below : Lower (v .go) → Ready d t (v .head) m
+  pub visit-below : Lower (v .go) → Walkable d t (v .head) m
   visit-below g =
       ready-as (below-by d (stateOf h l) (stateOf (v .head) m) (instrOf (keyOf w)) (λ x e. step-safe d (accepted d (R .whole)) (stateOf h l) (R .safe) x e) (below-met g))
 
   -- the head stands in the query
   pub visit-inside : Lower (v .go) → v .head < length d
   visit-inside g =
-      let (q, e) = below-by d (stateOf h l) (stateOf (v .head) m) {P = (q : ℕ) × (placeOf (v .head) ≡ some q)} (instrOf (keyOf w)) (λ x f. step-headed d (stateOf h l) x f) (below-met g) in
+      let (q, e) = below-by d (stateOf h l) (stateOf (v .head) m) {P = (q : ℕ) × (positionIn (v .head) ≡ some q)} (instrOf (keyOf w)) (λ x f. step-headed d (stateOf h l) x f) (below-met g) in
       go q e (ℕ-discrete (v .head) 255)
     where
-      go : (q : ℕ) → placeOf (v .head) ≡ some q → Dec (v .head ≡ 255) → v .head < length d
+      go : (q : ℕ) → positionIn (v .head) ≡ some q → Dec (v .head ≡ 255) → v .head < length d
       go q e (yes z) = absurd (Option·none-ne-some q (sym (place-none z) ∙ e))
       go q e (no n) = visit-below g .safe .head (v .head) (place-some n)
 
-  pub visit-tries : v .go ≡ Tries → Ready d t (v .head) m × (getD m 136 0 < 8)
+  pub visit-tries : v .go ≡ Tries → Walkable d t (v .head) m × (getD m 136 0 < 8)
   unfolding metOf
   visit-tries e =
       let f = met-fits (λ z. tries≢stuck (sym e ∙ z)) .1 in
@@ -187,7 +187,7 @@ module _ (d t : List ℕ) (h : ℕ) (l : List ℕ) (R : Ready d t h l) (w room :
       (ready-as (rw (g .0) (R .safe)), rw (marked-count (met .marked)) few)
 
 -- without a head the state is as ready
-headless : (d t : List ℕ) (h : ℕ) (l : List ℕ) → Ready d t h l → Ready d t 255 l
+headless : (d t : List ℕ) (h : ℕ) (l : List ℕ) → Walkable d t h l → Walkable d t 255 l
 headless d t h l R =
     record {
       whole = R .whole;
@@ -214,7 +214,7 @@ tries-head d b k h l (suc m) j n =
     then-alike (attempt (upTo b) (enter d j (stateOf 255 l)) k n) (tries (machine d) (upTo b) k (stateOf h l) m (suc j)) (tries (machine d) (upTo b) k (stateOf 255 l) m (suc j)) (tries-head d b k h l m (suc j))
 
 -- past the Checks that fail
-pub passing : (d t : List ℕ) (b h : ℕ) (l : List ℕ) → Ready d t h l → h < length d → (words : List ℕ) (at wanted n : ℕ) → wanted ≡ wantedAt d h → {r : ℕ} → Passed words at wanted r
+pub passing : (d t : List ℕ) (b h : ℕ) (l : List ℕ) → Walkable d t h l → h < length d → (words : List ℕ) (at wanted n : ℕ) → wanted ≡ wantedAt d h → {r : ℕ} → Skipped words at wanted r
     → walkWords (machine d) (upTo b) (drop at words) (stateOf h l) n ≡ walkWords (machine d) (upTo b) (drop r words) (stateOf h l) n
 unfolding wantedAt
 passing d t b h l R g words at wanted n e {r} P = P .same d (upTo b) (stateOf h l) h n (head-some d t h l R g) e
@@ -236,56 +236,16 @@ tail-le a l h = simp (length-take, length-drop) (omega arith)
 -- and that the walk of the row from its beginning is the walk from here on
 pub record Walking (d t words : List ℕ) (b : ℕ) (s : State) (n₀ : ℕ) (cells₀ cells : List ℕ) (n here trail : ℕ) (rest : List ℕ) : Type 0 where
   pub shorter : length rest ≤ length words
-  pub ready : Ready d t here cells
+  pub ready : Walkable d t here cells
   pub undo : unwound trail cells ≡ cells₀
   pub same : walkWords (machine d) (upTo b) words s n₀ ≡ walkWords (machine d) (upTo b) rest (stateOf here cells) n
 
--- the literal of a pass
-pub pass-literal : {first : Bool} {last q j : ℕ} → first ≡ true → last ≡ passesOf first q → {n : ℕ} → q ≡ n → j < last → j < n
-unfolding passesOf
-pass-literal {last = last} {q} {j} e f g h = let z : last ≡ q = f ∙ rw e in omega arith
-
--- the next pass
-pub turn :
-    (d : List ℕ) (b : ℕ) (k : State → Part State) (first : Bool) (s : State) → (first ≡ true → length (s .chosen) < 8)
-    → (last j n n′ : ℕ) → j < last → ((first ≡ true) × (n < b) × (n′ ≡ n + 1)) ⊎ ((first ≡ false) × (n′ ≡ n)) → {u : State} → u ≡ startAt d first j s
-    → runs d b first k s (last - j) j n ≡ andThen (k u n′) (runs d b first k s (last - (j + 1)) (j + 1))
-turn d b k first s few last j n n′ more kind e =
-    rw e (⊎-elim
-    (λ w. rw (w .2) (runs-first d b k s (few (w .0)) (w .0) last j n more (w .1)))
-    (λ w. rw (w .1) (runs-plain d b k s (w .0) last j n more))
-    kind)
-
--- a pass begins
-module _ (d t : List ℕ) (h : ℕ) (l : List ℕ) (R : Ready d t h l) (first : Bool) (j : ℕ) (more : first ≡ true → (getD l 136 0 < 8) × (j < length (literals d))) where
-  pub begun-ready : Ready d t (headAt d first h j) (waiting first j l)
-  unfolding startAt
-  begun-ready =
-      record {
-        whole = R .whole;
-        tables = R .tables;
-        safe = rw (waiting-state d t h l R j first more) (go first refl);
-        size = waiting-size first l (R .size) (λ e. more e .0) j ∙ R .size;
-        few = waiting-few first l (R .size) (λ e. more e .0) (R .few) j .0;
-      }
-    where
-      go : (b : Bool) → first ≡ b → Safe d (startAt d b j (stateOf h l))
-      go false e = R .safe
-      go true e = starting-safe d (accepted d (R .whole)) (stateOf h l) (R .safe) j (more e .1)
-
-  pub begun-inside : (first ≡ false → h < length d) → headAt d first h j < length d
-  unfolding headAt
-  begun-inside g = go first refl
-    where
-      go : (b : Bool) → first ≡ b → headAt d b h j < length d
-      go false e = g e
-      go true e = start-in d (accepted d (R .whole)) j (more e .1)
-
-pub walking-start : (d t words : List ℕ) (b h : ℕ) (l : List ℕ) → Ready d t h l → h < length d → (n wanted : ℕ) → wanted ≡ wantedAt d h → {r : ℕ} → Passed words 0 wanted r
+pub walking-start : {d t words : List ℕ} {b h : ℕ} {l : List ℕ} → Walkable d t h l → h < length d → {n wanted : ℕ} → wanted ≡ wantedAt d h → {r : ℕ} → Skipped words 0 wanted r
     → Walking d t words b (stateOf h l) n l l n h 0 (tail r words)
-walking-start d t words b h l R g n wanted e {r} P = record { shorter = tail-le r words (omega arith); ready = R; undo = unwound-none l; same = passing d t b h l R g words 0 wanted n e P ∙ rw (tail-drop r words) }
+walking-start {d} {t} {words} {b} {h} {l} R g {n} {wanted} e {r} P =
+    record { shorter = tail-le r words (omega arith); ready = R; undo = unwound-none l; same = passing d t b h l R g words 0 wanted n e P ∙ rw (tail-drop r words) }
 
-pub walking-whole : (d t words : List ℕ) (b h : ℕ) (l : List ℕ) → Ready d t h l → (n : ℕ) → Walking d t words b (stateOf h l) n l l n h 0 words
+pub walking-whole : (d t words : List ℕ) (b h : ℕ) (l : List ℕ) → Walkable d t h l → (n : ℕ) → Walking d t words b (stateOf h l) n l l n h 0 words
 walking-whole d t words b h l R n = record { shorter = omega arith; ready = R; undo = unwound-none l; same = refl }
 
 -- the end of a row
@@ -374,12 +334,18 @@ module _ {d t words : List ℕ} {b : ℕ} {s : State} {n₀ : ℕ} {cells₀ cel
   pub mark-small : v .mark < 2 ^ 16
   mark-small = marked-small (met .marked)
 
+  pub met-size : length m ≡ 256
+  met-size = marked-size (met .marked) ∙ W .ready .size
+
+  pub met-back : {a : Answer State} {out : List ℕ} {r : Finding} → Walked a m out r → r .end ≡ Missed → length out ≡ 256
+  met-back w e = ap (λ (l : List ℕ). length l) (w .back e) ∙ met-size
+
   pub node-inside : Lower (v .go) → v .head < length d
   node-inside = visit-inside d t here cells (W .ready) (getD rest 0 0) (length rest) h m v met
 
   -- a call on the words below: the candidates of a First, which hands on no head, or below any other word
-  module _ (to : ℕ) (kind : ((v .go ≡ Tries) × (to ≡ 255)) ⊎ (Lower (v .go) × (to ≡ v .head))) where
-    pub call-ready : Ready d t to m × (to ≡ 255 → getD m 136 0 < 8)
+  module _ {to : ℕ} (kind : ((v .go ≡ Tries) × (to ≡ 255)) ⊎ (Lower (v .go) × (to ≡ v .head))) where
+    pub call-ready : Walkable d t to m × (to ≡ 255 → getD m 136 0 < 8)
     call-ready =
         ⊎-elim
         (λ k. let f = visit-tries d t here cells (W .ready) (getD rest 0 0) (length rest) h m v met (k .0) in (rw (k .1) (headless d t (v .head) m (f .0)), λ _. f .1))
@@ -397,7 +363,7 @@ module _ {d t words : List ℕ} {b : ℕ} {s : State} {n₀ : ℕ} {cells₀ cel
         (λ k. rw (lower-met (stateOf (v .head) m) (k .0), k .1, ne-eqb (v .head) 255 (λ z. omega (arith, node-inside (k .0), few-words (W .ready)))))
         kind
 
-    module _ (out : List ℕ) (r : Finding) (walked : Walked (entered d b (eqb to 255) part (stateOf to m) n) m out r) where
+    module _ {out : List ℕ} {r : Finding} (walked : Walked (entered d b (eqb to 255) part (stateOf to m) n) m out r) where
       node-call : walkWords (machine d) (upTo b) words s n₀ ≡ andThen (entered d b (eqb to 255) part (stateOf to m) n) after
       node-call = node ∙ ap (λ (a : Answer State). andThen a after) called-as
 
@@ -415,9 +381,9 @@ module _ {d t words : List ℕ} {b : ℕ} {s : State} {n₀ : ℕ} {cells₀ cel
           rw (f ∙ node-back e) (record { shorter = tail-le x rest (W .shorter); ready = W .ready; undo = W .undo; same = g ∙ rw (tail-drop x rest) })
 
       -- and past the Checks that fail there
-      pub node-missed : r .end ≡ Missed → here < length d → (key : ℕ) → key ≡ wantedAt d here → {p : ℕ} → Passed rest x key p → {l : List ℕ} → l ≡ restored (v .mark) out
+      pub node-missed : r .end ≡ Missed → here < length d → {key : ℕ} → key ≡ wantedAt d here → {p : ℕ} → Skipped rest x key p → {l : List ℕ} → l ≡ restored (v .mark) out
           → Walking d t words b s n₀ cells₀ l (r .count) here trail (tail p rest)
-      node-missed e i key k {p} P {l} f =
+      node-missed e i {key} k {p} P {l} f =
           let N = node-next e f in
           let g : walkWords (machine d) (upTo b) (tail x rest) (stateOf here l) (r .count) ≡ walkWords (machine d) (upTo b) (tail p rest) (stateOf here l) (r .count) =
           rw (tail-drop x rest, tail-drop p rest) (passing d t b here l (N .ready) i rest x key (r .count) k P) in

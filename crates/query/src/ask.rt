@@ -17,9 +17,10 @@ ghost use Prim.Native.Nat.{_+_, _-_, _≤_, _<_};
 ghost use lib.ListN.{length, getD};
 ghost use Rattle.clause.specs.Clause.{Accepted};
 ghost use Rattle.tree.specs.Laid.{usedOf};
-ghost use Rattle.cells.specs.inner.Cells.{stateOf};
+ghost use Rattle.cells.specs.inner.Cells.{cellCount, noPosition, stateOf};
 ghost use Rattle.query.specs.inner.Findings.{outBy, refusalOf, toldOut};
 ghost use Rattle.walk.specs.Query as q;
+ghost use Rattle.walk.specs.Query.{witnessWords};
 
 // A cell as a witness word.
 fn word(x: u8) -> u16
@@ -30,20 +31,20 @@ fn word(x: u8) -> u16
 
 // Whether the cells have a witness word to show at a place.
 fn shows(cells: &[u8; Path::CELLS], i: usize) -> bool
-    requires { ⌜ (length (now cells) ≡ 256) × (i < 72) ⌝ }
-    ensures { λ r. ⌜ getD (q.shown (stateOf 255 (now (cells .entry)))) i none ≡ cond r (some (getD (now (cells .entry)) i 0)) none ⌝ }
+    requires { ⌜ (length (now cells) ≡ cellCount) × (i < witnessWords) ⌝ }
+    ensures { λ r. ⌜ getD (q.shown (stateOf noPosition (now (cells .entry)))) i none ≡ cond r (some (getD (now (cells .entry)) i 0)) none ⌝ }
 {
     if i < Clause::LITERALS {
         i < wide(cells[Path::CHOSEN])
     } else {
-        cells[i] != 255
+        wide(cells[i]) != Path::NONE
     }
 }
 
 // Writes the candidates and the positions put into the witness, its other words untouched.
 fn show(cells: &[u8; Path::CELLS], witness: &mut [u16])
-    requires { ⌜ (length (now cells) ≡ 256) × (72 ≤ length (now witness)) ⌝ }
-    ensures { λ _. ⌜ now (witness .exit) ≡ q.written (q.shown (stateOf 255 (now (cells .entry)))) (now (witness .entry)) ⌝ }
+    requires { ⌜ (length (now cells) ≡ cellCount) × (witnessWords ≤ length (now witness)) ⌝ }
+    ensures { λ _. ⌜ now (witness .exit) ≡ q.written (q.shown (stateOf noPosition (now (cells .entry)))) (now (witness .entry)) ⌝ }
 {
     let mut i: usize = 0;
     while i < Witness::WORDS {
@@ -71,7 +72,7 @@ fn answer(
     cells: &[u8; Path::CELLS],
     witness: &mut [u16],
 ) -> QueryAnswer
-    requires { ⌜ (length (now cells) ≡ 256) × (72 ≤ length (now witness)) ⌝ }
+    requires { ⌜ (length (now cells) ≡ cellCount) × (witnessWords ≤ length (now witness)) ⌝ }
     ensures { λ r. ⌜ record { answer = r; witness = now (witness .exit) }
         ≡ toldOut budget (now (witness .entry)) (outBy (finding .end) (finding .count) (now (cells .entry))) ⌝ }
 {
@@ -90,7 +91,8 @@ fn answer(
 
 // Walks the used words of a slice from the state before the first candidate, and answers.
 fn search(tree: &[u64], words: &[u16], budget: u64, witness: &mut [u16]) -> QueryAnswer
-    requires { ⌜ Accepted (now words) × (1 ≤ length (now tree)) × (usedOf (getD (now tree) 0 0) ≤ length (now tree) - 1) × (72 ≤ length (now witness)) ⌝ }
+    requires { ⌜ Accepted (now words) × (1 ≤ length (now tree)) × (usedOf (getD (now tree) 0 0) ≤ length (now tree) - 1)
+        × (witnessWords ≤ length (now witness)) ⌝ }
     ensures { λ r. ⌜ record { answer = r; witness = now (witness .exit) }
         ≡ q.told budget (now (witness .entry)) (q.walkSlice (now (tree .entry)) (now (words .entry)) budget) ⌝ }
 {
@@ -98,8 +100,8 @@ fn search(tree: &[u64], words: &[u16], budget: u64, witness: &mut [u16]) -> Quer
     let tables = clause.tables;
     let mut cells = [255u8; Path::CELLS];
     cells[Path::CHOSEN] = 0;
-    let used = (tree[0] / 4294967296) as usize;
-    let end = used + 1;
+    let header = Tree::header(tree[0]);
+    let end = header.used + 1;
     let finding = walk_top(&tree[1..end], words, &tables, &mut cells, budget);
     answer(finding, budget, &cells, witness)
 }
@@ -109,10 +111,7 @@ pub fn query(tree: &[u64], words: &[u16], budget: u64, witness: &mut [u16]) -> Q
     ensures { λ r. ⌜ record { answer = r; witness = now (witness .exit) }
         ≡ q.query (now (tree .entry)) (now (words .entry)) budget (now (witness .entry)) ⌝ }
 {
-    if tree.len() < Tree::LEAST {
-        return QueryAnswer::Unanswered(Refusal::BadSlice);
-    }
-    if tree.len() > Tree::WORDS {
+    if !Tree::sized(tree.len()) {
         return QueryAnswer::Unanswered(Refusal::BadSlice);
     }
     let shape = clause::read(words);
@@ -122,7 +121,8 @@ pub fn query(tree: &[u64], words: &[u16], budget: u64, witness: &mut [u16]) -> Q
     if witness.len() < Witness::WORDS {
         return QueryAnswer::Unanswered(Refusal::ShortWitness);
     }
-    if (tree[0] / 4294967296) as usize > tree.len() - 1 {
+    let header = Tree::header(tree[0]);
+    if header.used > tree.len() - 1 {
         return QueryAnswer::Unanswered(Refusal::Broken);
     }
     search(tree, words, budget, witness)

@@ -4,29 +4,23 @@ use crate::Finding;
 use cells::Go;
 use cells::Path;
 use cells::begin;
-use cells::extent;
 use cells::is_none;
 use cells::meet;
 use cells::meet_top;
 use cells::operand;
-use cells::pass;
 use cells::passes;
 use cells::release;
 use cells::reserve;
 use cells::restore;
+use cells::skip;
 use cells::trace;
 use cells::unwind;
 use cells::wanted;
 use clause::Clause;
+use tree::extent;
 ghost use mathlib.Core.Path.{_≡_};
-ghost use Prim.Native.Nat.{_<_};
-ghost use lib.Dec.{eqb};
-ghost use lib.ListN.{getD};
-ghost use Rattle.walk.specs.Walk.{upTo};
-ghost use Rattle.walk.specs.Words.{walkWords};
-ghost use Rattle.walk.specs.Query.{machine};
-ghost use Rattle.cells.specs.inner.Cells.{entered, stateOf, Ready};
-ghost use Rattle.query.specs.inner.Findings.{Walked};
+ghost use Rattle.cells.specs.inner.Cells.{noPosition, HasPlace, Walkable};
+ghost use Rattle.query.specs.inner.Findings.{walkBelow, walkTop, Walked};
 
 // Walks the words below a node: from each candidate of a First, which hands on no head, or once, siblings in order. After a miss the cells are as before.
 // The last word of a row needs no call: what stands below it is the row from there on, and the trail brings its cell back.
@@ -39,8 +33,8 @@ pub fn walk(
     count: u64,
     budget: u64,
 ) -> Finding
-    requires { ⌜ Ready (now query) (now tables) head (now cells) × (head ≡ 255 → getD (now cells) 136 0 < 8) ⌝ }
-    ensures { λ r. ⌜ Walked (entered (now (query .entry)) budget (eqb head 255) (walkWords (machine (now (query .entry))) (upTo budget) (now (words .entry))) (stateOf head (now (cells .entry))) count)
+    requires { ⌜ Walkable (now query) (now tables) head (now cells) × (head ≡ noPosition → HasPlace (now cells)) ⌝ }
+    ensures { λ r. ⌜ Walked (walkBelow (now (query .entry)) (now (words .entry)) budget head (now (cells .entry)) count)
         (now (cells .entry)) (now (cells .exit)) r ⌝ }
 {
     let first = is_none(head);
@@ -67,7 +61,7 @@ pub fn walk(
         }
         let mut here = begin(query, tables, cells, first, head, j);
         let mut trail: u64 = 0;
-        let left = pass(words, 0, wanted(query, here));
+        let left = skip(words, 0, wanted(query, here));
         let start = words.len() - left;
         let mut rest = &words[start..];
         while rest.len() > 0 {
@@ -116,7 +110,7 @@ pub fn walk(
             };
             restore(cells, v.mark);
             n = finding.count;
-            let more = pass(rest, size, wanted(query, here));
+            let more = skip(rest, size, wanted(query, here));
             let next = rest.len() - more;
             rest = &rest[next..];
         }
@@ -133,8 +127,8 @@ pub fn walk_top(
     cells: &mut [u8; Path::CELLS],
     budget: u64,
 ) -> Finding
-    requires { ⌜ Ready (now query) (now tables) 255 (now cells) ⌝ }
-    ensures { λ r. ⌜ Walked (walkWords (machine (now (query .entry))) (upTo budget) (now (words .entry)) (stateOf 255 (now (cells .entry))) 0)
+    requires { ⌜ Walkable (now query) (now tables) noPosition (now cells) ⌝ }
+    ensures { λ r. ⌜ Walked (walkTop (now (query .entry)) (now (words .entry)) budget (now (cells .entry)))
         (now (cells .entry)) (now (cells .exit)) r ⌝ }
 {
     let mut count: u64 = 0;

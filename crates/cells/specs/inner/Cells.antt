@@ -6,10 +6,10 @@ use mathlib.Core.List.{List, map}
 use Prim.Native.Nat.{ℕ, _+_, _-_, _*_, _/_, _%_, _^_, _≤_, _<_}
 use lib.Dec.{ltb, eqb}
 use lib.ListN.{length, getD, take, drop, set}
-use Rattle.clause.specs.Clause.{Accepted, literals, startOf, maxLiterals}
+use Rattle.clause.specs.Clause.{Accepted, literals, startOf, maxWords, maxLiterals}
 use Rattle.clause.specs.Positions.{jump, rights}
-use Rattle.machine.specs.Instr.{Instr, First, Do, Success, instrOf}
-use Rattle.machine.specs.Machine.{slots, State, Outcome, next, fails, stuck, step, finish, starting}
+use Rattle.machine.specs.Instr.{Instr, First, Do, Success, Compare, instrOf}
+use Rattle.machine.specs.Machine.{slots, State, Outcome, next, fails, stuck, step, finish, starting, down, right, given, headed, putting, pushing, require, within, stepAt}
 use Rattle.machine.specs.inner.Safe.{Safe}
 use Rattle.tree.specs.Laid.{keyOf}
 use Rattle.walk.specs.Walk.{Part, tries, upTo}
@@ -19,32 +19,72 @@ use Rattle.cells.specs.declared.Go.{Go}
 use Rattle.cells.specs.declared.Go.the-variants.{Fails, Stuck, Hit, Tries, Below, Stored}
 use Rattle.cells.specs.declared.Visit.{Visit}
 
--- the position that a cell holds; 255 stands for none
-unfoldable pub placeOf : ℕ → Option ℕ
-placeOf x = cond (eqb x 255) none (some x)
+-- Where a state stands in the cells: the candidates from 0 on, then the positions put, the positions pushed, and how many candidates there are.
+abbrev pub putsAt : ℕ
+putsAt = maxLiterals
 
--- the positions in the 64 cells from one on
+abbrev pub pushesAt : ℕ
+pushesAt = putsAt + slots
+
+abbrev pub countAt : ℕ
+countAt = pushesAt + slots
+
+-- how many cells there are: any byte is the index of one
+abbrev pub cellCount : ℕ
+cellCount = 256
+
+-- what stands for no position
+abbrev pub noPosition : ℕ
+noPosition = 255
+
+-- how many candidates the cells hold
+abbrev pub countIn : List ℕ → ℕ
+countIn l = getD l countAt 0
+
+-- whether there is a place for one more, and whether there is one
+abbrev pub HasPlace : List ℕ → Type 0
+HasPlace l = countIn l < maxLiterals
+
+abbrev pub HasCandidate : List ℕ → Type 0
+HasCandidate l = (1 ≤ countIn l) × (countIn l ≤ maxLiterals)
+
+-- the position that a cell holds
+unfoldable pub positionIn : ℕ → Option ℕ
+positionIn x = cond (eqb x noPosition) none (some x)
+
+-- the positions in as many cells as a state has slots, from one on
 unfoldable pub placed : ℕ → List ℕ → List (Option ℕ)
-placed a l = map placeOf (take slots (drop a l))
+placed a l = map positionIn (take slots (drop a l))
 
--- the state in a head and 256 cells: 8 candidates, 64 positions put, 64 positions pushed, how many candidates there are, and cells that no state uses
+-- the state in a head and the cells; some cells no state uses
 abbrev pub stateOf : (head : ℕ) (cells : List ℕ) → State
-stateOf h l = record { chosen = take (getD l 136 0) l; head = placeOf h; puts = placed 8 l; pushes = placed 72 l }
+stateOf h l = record { chosen = take (countIn l) l; head = positionIn h; puts = placed putsAt l; pushes = placed pushesAt l }
 
--- the tables of a query: where its literals begin, where the terms at its positions end, their right siblings, how many literals it has
+-- Where a query's tables stand, one after another: where its literals begin, from 0 on, where the terms at its positions end, their right siblings,
+-- how many literals it has.
+abbrev pub endsAt : ℕ
+endsAt = maxLiterals
+
+abbrev pub rightsAt : ℕ
+rightsAt = endsAt + maxWords
+
+abbrev pub literalsAt : ℕ
+literalsAt = rightsAt + maxWords
+
+-- the tables of a query
 pub record Tables (d l : List ℕ) : Type 0 where
   pub starts : (j : ℕ) → j < length (literals d) → getD l j 0 ≡ startOf d j
-  pub ends : (p : ℕ) → p < length d → getD l (8 + p) 0 ≡ jump d 1 p
-  pub rights : (p : ℕ) → p < length d → getD l (72 + p) 0 ≡ rights d p
-  pub count : getD l 136 0 ≡ length (literals d)
+  pub ends : (p : ℕ) → p < length d → getD l (endsAt + p) 0 ≡ jump d 1 p
+  pub rights : (p : ℕ) → p < length d → getD l (rightsAt + p) 0 ≡ rights d p
+  pub count : getD l literalsAt 0 ≡ length (literals d)
 
 -- an accepted query with its tables, and a state whose positions lie in it
-pub record Ready (d t : List ℕ) (head : ℕ) (cells : List ℕ) : Type 0 where
+pub record Walkable (d t : List ℕ) (head : ℕ) (cells : List ℕ) : Type 0 where
   pub whole : Accepted d
   pub tables : Tables d t
   pub safe : Safe d (stateOf head cells)
-  pub size : length cells ≡ 256
-  pub few : getD cells 136 0 ≤ maxLiterals
+  pub size : length cells ≡ cellCount
+  pub few : countIn cells ≤ maxLiterals
 
 -- what a word comes to: past it, broken, the end, the candidates of a First, or the words below it
 pub data Met : Type 0 where
@@ -84,8 +124,39 @@ metOf Below s = below s
 metOf Stored s = below s
 
 -- an operation with so many words: a Success has one
-unfoldable pub sized : (op words : ℕ) → Met → Met
-sized op n m = cond (eqb op 0) (cond (eqb n 1) m bad) m
+unfoldable pub withWords : (op words : ℕ) → Met → Met
+withWords op n m = cond (eqb op 0) (cond (eqb n 1) m bad) m
+
+-- What each operation comes to at a head, by its operand, as the code takes them one by one.
+abbrev pub metSuccess : (words head : ℕ) → List ℕ → Met
+metSuccess n h l = withWords 0 n (hit (stateOf h l))
+
+abbrev pub metFirst : (head : ℕ) → List ℕ → Met
+metFirst h l = cond (ltb (countIn l) maxLiterals) (firsts (stateOf h l)) bad
+
+abbrev pub metDown : List ℕ → (head : ℕ) → List ℕ → Met
+metDown d h l = stepped (given (down d h) (headed (stateOf h l)))
+
+abbrev pub metRight : List ℕ → (head : ℕ) → List ℕ → Met
+metRight d h l = stepped (given (right d h) (headed (stateOf h l)))
+
+abbrev pub metMoved : (to head : ℕ) → List ℕ → Met
+metMoved x h l = stepped (given (positionIn x) (headed (stateOf h l)))
+
+abbrev pub metPut : (k head : ℕ) → List ℕ → Met
+metPut k h l = stepped (within k (next (putting (stateOf h l) k h)))
+
+abbrev pub metPush : (n to head : ℕ) → List ℕ → Met
+metPush n x h l = stepped (within n (given (positionIn x) (pushing (stateOf h l) n)))
+
+abbrev pub metPop : (n head : ℕ) → List ℕ → Met
+metPop n h l = stepped (within n (given (getD (placed pushesAt l) n none) (headed (stateOf h l))))
+
+abbrev pub metCheck : List ℕ → (x head : ℕ) → List ℕ → Met
+metCheck d x h l = stepped (require fails (eqb (getD d h 0) x) (next (stateOf h l)))
+
+abbrev pub metCompare : List ℕ → (m k head : ℕ) → List ℕ → Met
+metCompare d m k h l = stepped (stepAt d (Compare m k) (stateOf h l) h)
 
 -- the cells with one of them stored back: its index and what it held, in the lowest 16 bits of a number; 0 stands for none
 unfoldable pub restored : ℕ → List ℕ → List ℕ
@@ -103,7 +174,7 @@ stores Stored = true
 -- what a visit does to the cells: one position is stored, and a number brings back what stood there, or they stay as they are
 pub data Marked (l : List ℕ) : Go → ℕ → List ℕ → Type 0 where
   plain : (g : Go) → stores g ≡ false → Marked l g 0 l
-  store : (i x : ℕ) → 8 ≤ i → i < 136 → getD l i 0 < 256 → Marked l Stored (i * 256 + getD l i 0) (set l i x)
+  store : (i x : ℕ) → putsAt ≤ i → i < countAt → getD l i 0 < 256 → Marked l Stored (i * 256 + getD l i 0) (set l i x)
 
 -- a visit: what the word comes to, and what was stored
 pub record Visited (m : Met) (before after : List ℕ) (r : Visit) : Type 0 where
@@ -119,7 +190,7 @@ unfoldable pub wantedAt : List ℕ → ℕ → ℕ
 wantedAt d h = 7 * 2 ^ 32 + getD d h 0
 
 -- only Checks that fail there stand between two places of a row
-pub record Passed (words : List ℕ) (at wanted : ℕ) (r : ℕ) : Type 0 where
+pub record Skipped (words : List ℕ) (at wanted : ℕ) (r : ℕ) : Type 0 where
   pub inside : r ≤ length words
   pub further : at ≤ r
   pub same : (d : List ℕ) (allow : ℕ → Bool) (s : State) (p c : ℕ) → s .head ≡ some p → wanted ≡ 7 * 2 ^ 32 + getD d p 0
@@ -127,22 +198,22 @@ pub record Passed (words : List ℕ) (at wanted : ℕ) (r : ℕ) : Type 0 where
 
 -- the cells with one candidate more, whatever it is
 unfoldable pub reserved : Bool → List ℕ → List ℕ
-reserved true l = set l 136 (getD l 136 0 + 1)
+reserved true l = set l countAt (countIn l + 1)
 reserved false l = l
 
 -- the cells with literal j as the latest candidate
 unfoldable pub candidate : Bool → ℕ → List ℕ → List ℕ
-candidate true j l = set l (getD l 136 0 - 1) j
+candidate true j l = set l (countIn l - 1) j
 candidate false j l = l
 
 -- the cells without the latest candidate, where `kept` stood before
 unfoldable pub released : Bool → ℕ → List ℕ → List ℕ
-released true kept l = set (set l (getD l 136 0 - 1) kept) 136 (getD l 136 0 - 1)
+released true kept l = set (set l (countIn l - 1) kept) countAt (countIn l - 1)
 released false kept l = l
 
 -- what stands where the next candidate of a First is to be stored
 unfoldable pub keptIn : Bool → List ℕ → ℕ
-keptIn true l = getD l (getD l 136 0) 0
+keptIn true l = getD l (countIn l) 0
 keptIn false l = 0
 
 -- the head at the beginning of a pass

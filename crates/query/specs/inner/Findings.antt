@@ -3,11 +3,13 @@ use mathlib.Core.Path.{_≡_}
 use mathlib.Core.Option.{Option}
 use mathlib.Core.List.{List}
 use Prim.Native.Nat.{ℕ}
+use lib.Dec.{eqb}
 use lib.ListN.{length}
 use Rattle.machine.specs.Machine.{State}
-use Rattle.walk.specs.Walk.{Answer, covered, notCovered, spent, broken}
-use Rattle.walk.specs.Query.{shown, Asked, unanswered, written}
-use Rattle.cells.specs.inner.Cells.{stateOf}
+use Rattle.walk.specs.Walk.{Answer, covered, notCovered, spent, broken, Part, upTo}
+use Rattle.walk.specs.Words.{walkWords}
+use Rattle.walk.specs.Query.{machine, shown, Asked, unanswered, written}
+use Rattle.cells.specs.inner.Cells.{noPosition, stateOf, entered}
 use Rattle.clause.specs.declared.Shape.{Shape}
 use Rattle.clause.specs.declared.Shape.the-variants.{Faulty, Whole}
 use Rattle.tree.specs.declared.Refusal.{Refusal}
@@ -16,6 +18,14 @@ use Rattle.walk.specs.declared.QueryAnswer.the-variants.{Covered, NotCovered}
 use Rattle.query.specs.declared.End.{End}
 use Rattle.query.specs.declared.End.the-variants.{Missed, Found, Broken, Spent}
 use Rattle.query.specs.declared.Finding.{Finding}
+
+-- the walk below a node, by the head that it hands on and the cells: from each candidate of a First, which hands on none, or from the state itself
+abbrev pub walkBelow : (query words : List ℕ) (budget head : ℕ) (cells : List ℕ) → Part State
+walkBelow d ws b h l = entered d b (eqb h noPosition) (walkWords (machine d) (upTo b) ws) (stateOf h l)
+
+-- the walk of the topmost row, before the first candidate
+abbrev pub walkTop : (query words : List ℕ) (budget : ℕ) (cells : List ℕ) → Answer State
+walkTop d ws b l = walkWords (machine d) (upTo b) ws (stateOf noPosition l) 0
 
 -- a walk's answer, with the witness words in place of the state
 pub data Out : Type 0 where
@@ -33,7 +43,7 @@ seen broken = damaged
 -- the same, as a finding and the cells tell it
 unfoldable pub outBy : End → ℕ → List ℕ → Out
 outBy Missed c l = missed c
-outBy (Found n) c l = found n (shown (stateOf 255 l)) c
+outBy (Found n) c l = found n (shown (stateOf noPosition l)) c
 outBy Broken c l = damaged
 outBy Spent c l = exhausted
 

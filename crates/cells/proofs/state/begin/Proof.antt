@@ -33,7 +33,11 @@ wide-requires c κs = search needs
 
 returns : tie.Need-returns
 unfolding candidate headAt
-returns c = (rw (c .before .before .before .if1 .taken) (c .wide .ensures .0 ∙ c .before .before .before .before .before .pre .1 .starts _ (c .before .before .before .before .before .pre .3 (c .before .before .before .if1 .taken) .2)), rw (c .before .before .before .if1 .taken))
+returns c =
+    let f = c .before .before .before in
+    let p = f .before .before .pre in
+    let e = f .if1 .taken in
+    (rw e (c .wide .ensures .0 ∙ p .1 .starts _ (p .3 e .1)), rw e)
 
 returns-2 : tie.Need-returns-2
 unfolding candidate headAt

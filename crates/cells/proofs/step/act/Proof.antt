@@ -2,7 +2,7 @@
 use mathlib.Core.Path.{refl, sym}
 use native.Mathlib.Omega.{arith}
 use Rattle.cells.proofs.Places.{few-words}
-use Rattle.cells.proofs.Visits.{stays, sized-other, act-success, act-first, act-down, act-right, act-put, act-push, act-pop, act-check, act-compare, act-over, rest-over}
+use Rattle.cells.proofs.Visits.{sticks, sized-other, act-success, act-first, act-down, act-right, act-put, act-push, act-pop, act-check, act-compare, act-over, rest-over}
 use borrow.Author.Needs.{needs}
 use Rattle.cells.proofs.step.act.Statement.{statement}
 use Rattle.cells.proofs.step.act.Tie as tie
@@ -87,7 +87,7 @@ returns-10 c =
     let s = c .before .before in
     let r = c .match .rest in
     let o = rest-over (s .args .op) (r .0 .0 .0 .0 .0 .0 .0 .0 .1) (r .0 .0 .0 .0 .0 .0 .0 .1) (r .0 .0 .0 .0 .0 .0 .1) (r .0 .0 .0 .0 .0 .1) (r .0 .0 .0 .0 .1) (r .0 .0 .0 .1) (r .0 .0 .1) (r .0 .1) (r .1) in
-    stays _ _ _ refl (sym (sized-other (s .args .op) (s .args .words) (λ z. omega (arith, z, o)) (sym (act-over (s .args .query .now) (s .args .tables .now) (s .args .head) (s .args .cells .now) (s .pre .0) (s .pre .1) (s .args .op) (s .args .x) o))))
+    sticks _ (sym (sized-other (s .args .op) (s .args .words) (λ z. omega (arith, z, o)) (sym (act-over (s .args .query .now) (s .args .tables .now) (s .args .head) (s .args .cells .now) (s .pre .0) (s .pre .1) (s .args .op) (s .args .x) o))))
 
 pub act-spec : {M : Type 1} → statement M
 act-spec =

@@ -1,7 +1,7 @@
 -- `compare` meets its contract.
 use mathlib.Core.Path.{refl, sym, _∙_}
 use Rattle.cells.proofs.Places.{few-words}
-use Rattle.cells.proofs.Visits.{stays, compare-over-m, compare-over-k, compare-no-m, compare-no-k, compare-same, compare-other, put-inside-m, put-inside-k}
+use Rattle.cells.proofs.Visits.{stays, sticks, misses, compare-over-m, compare-over-k, compare-no-m, compare-no-k, compare-same, compare-other, put-inside-m, put-inside-k}
 use borrow.Author.Needs.{needs}
 use Rattle.cells.proofs.step.compare.Statement.{statement}
 use Rattle.cells.proofs.step.compare.Tie as tie
@@ -13,10 +13,10 @@ cast-k : tie.Need-cast-k
 cast-k c = search needs
 
 returns : tie.Need-returns
-returns c = stays _ _ _ refl (compare-over-m _ _ _ _ (c .before .before .pre) _ _ (c .if1 .taken))
+returns c = sticks _ (compare-over-m _ _ _ _ (c .before .before .pre) _ _ (c .if1 .taken))
 
 returns-2 : tie.Need-returns-2
-returns-2 c = stays _ _ _ refl (compare-over-k _ _ _ _ (c .before .before .before .pre) _ _ (c .before .if1 .left) (c .if2 .taken))
+returns-2 c = sticks _ (compare-over-k _ _ _ _ (c .before .before .before .pre) _ _ (c .before .if1 .left) (c .if2 .taken))
 
 add-m-cell : tie.Need-add-m-cell
 add-m-cell c = search needs
@@ -42,7 +42,7 @@ returns-3 c =
     let c5 = c3 .before .before in
     let c6 = c5 .before in
     let c8 = c6 .before .before in
-    stays _ _ _ refl (compare-no-m _ _ _ _ (c8 .pre) _ _ (c6 .if1 .left) (c5 .if2 .left) (c3 .wide .ensures .0) (c .if3 .taken))
+    sticks _ (compare-no-m _ _ _ _ (c8 .pre) _ _ (c6 .if1 .left) (c5 .if2 .left) (c3 .wide .ensures .0) (c .if3 .taken))
 
 returns-4 : tie.Need-returns-4
 returns-4 c =
@@ -50,7 +50,7 @@ returns-4 c =
     let c6 = c4 .before .before in
     let c7 = c6 .before in
     let c9 = c7 .before .before in
-    stays _ _ _ refl (compare-no-k _ _ _ _ (c9 .pre) _ _ (c7 .if1 .left) (c6 .if2 .left) (c4 .wide .ensures .0) (c .before .if3 .left) (c .before .before .wide2 .ensures .0) (c .if4 .taken))
+    sticks _ (compare-no-k _ _ _ _ (c9 .pre) _ _ (c7 .if1 .left) (c6 .if2 .left) (c4 .wide .ensures .0) (c .before .if3 .left) (c .before .before .wide2 .ensures .0) (c .if4 .taken))
 
 same-terms-requires : tie.Need-same-terms-requires
 same-terms-requires c κs =
@@ -85,7 +85,7 @@ returns-6 c =
     let c8 = c6 .before .before in
     let c9 = c8 .before in
     let c11 = c9 .before .before in
-    stays _ _ _ refl (compare-other _ _ _ _ (c11 .pre) _ _ (c9 .if1 .left) (c8 .if2 .left) (c6 .wide .ensures .0) (c3 .if3 .left) (c4 .wide2 .ensures .0) (c .before .before .if4 .left) (sym (c .before .same-terms .ensures) ∙ c .if5 .left))
+    misses _ (compare-other _ _ _ _ (c11 .pre) _ _ (c9 .if1 .left) (c8 .if2 .left) (c6 .wide .ensures .0) (c3 .if3 .left) (c4 .wide2 .ensures .0) (c .before .before .if4 .left) (sym (c .before .same-terms .ensures) ∙ c .if5 .left))
 
 pub compare-spec : {M : Type 1} → statement M
 compare-spec =

@@ -1,7 +1,7 @@
 -- `down` meets its contract.
 use mathlib.Core.Path.{refl}
 use Rattle.clause.specs.Word.{arity}
-use Rattle.cells.proofs.Visits.{stays, down-stuck, down-below}
+use Rattle.cells.proofs.Visits.{stays, sticks, down-stuck, down-below}
 use borrow.Author.Needs.{needs}
 use Rattle.cells.proofs.step.down.Statement.{statement}
 use Rattle.cells.proofs.step.down.Tie as tie
@@ -17,7 +17,7 @@ add-to c = search needs
 
 returns : tie.Need-returns
 unfolding arity
-returns c = λ l. stays _ _ l refl (down-stuck _ _ l (c .if1 .taken))
+returns c = λ l. sticks l (down-stuck _ _ l (c .if1 .taken))
 
 returns-2 : tie.Need-returns-2
 unfolding arity

@@ -3,16 +3,10 @@ use mathlib.Core.Path.{refl, sym, _∙_}
 use native.Mathlib.Omega.{arith}
 use Rattle.cells.specs.inner.Cells.{metOf}
 use Rattle.cells.proofs.Rows.{extends-zero, extends-long}
-use Rattle.cells.proofs.Visits.{stays, met-unfit, met-sized}
+use Rattle.cells.proofs.Visits.{sticks, met-unfit, met-sized}
 use borrow.Author.Needs.{needs}
 use Rattle.cells.proofs.step.meet.Statement.{statement}
 use Rattle.cells.proofs.step.meet.Tie as tie
-use Rattle.cells.proofs.step.meet.Reads as reads
-use Rattle.cells.proofs.step.meet.Lts as lts
-use Rattle.cells.proofs.row.extent.Reads as extent-reads
-use Rattle.cells.proofs.row.operand.Reads as operand-reads
-use Rattle.cells.proofs.row.operation.Reads as operation-reads
-use Rattle.cells.proofs.step.act.Reads as act-reads
 
 extent-requires : tie.Need-extent-requires
 extent-requires c κs = search needs
@@ -21,14 +15,14 @@ returns : tie.Need-returns
 unfolding metOf
 returns c =
     let a = c .before .before .before .args in
-    stays _ _ _ refl (sym (met-unfit _ (a .w) (a .room) _ (extends-zero (a .w) (a .room) (c .before .before .before .pre .1) (sym (c .before .extent .ensures) ∙ c .if1 .taken))))
+    sticks _ (sym (met-unfit _ (a .w) (a .room) _ (extends-zero (a .w) (a .room) (c .before .before .before .pre .1) (sym (c .before .extent .ensures) ∙ c .if1 .taken))))
 
 returns-2 : tie.Need-returns-2
 unfolding metOf
 returns-2 c =
     let a = c .before .before .before .before .args in
     let e = c .before .before .extent .ensures in
-    stays _ _ _ refl (sym (met-unfit _ (a .w) (a .room) _ (extends-long (a .w) (a .room) (c .before .before .before .before .pre .1) (omega (arith, e, c .before .if1 .left)) (omega (arith, e, c .if2 .taken)))))
+    sticks _ (sym (met-unfit _ (a .w) (a .room) _ (extends-long (a .w) (a .room) (c .before .before .before .before .pre .1) (omega (arith, e, c .before .if1 .left)) (omega (arith, e, c .if2 .taken)))))
 
 operation-requires : tie.Need-operation-requires
 operation-requires c κs = search needs

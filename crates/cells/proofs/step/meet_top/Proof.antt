@@ -5,15 +5,10 @@ use native.Mathlib.Omega.{arith}
 use Rattle.cells.specs.inner.Cells.{metOf}
 use Rattle.cells.proofs.Places.{place-none}
 use Rattle.cells.proofs.Rows.{extends-zero, extends-long, extends-in}
-use Rattle.cells.proofs.Visits.{stays, met-unfit, met-early, met-tries}
+use Rattle.cells.proofs.Visits.{sticks, met-unfit, met-early, met-tries}
 use borrow.Author.Needs.{needs}
 use Rattle.cells.proofs.step.meet_top.Statement.{statement}
 use Rattle.cells.proofs.step.meet_top.Tie as tie
-use Rattle.cells.proofs.step.meet_top.Reads as reads
-use Rattle.cells.proofs.step.meet_top.Lts as lts
-use Rattle.cells.proofs.row.extent.Reads as extent-reads
-use Rattle.cells.proofs.row.operation.Reads as operation-reads
-use Rattle.cells.proofs.step.tries.Reads as tries-reads
 
 extent-requires : tie.Need-extent-requires
 extent-requires c κs = search needs
@@ -22,14 +17,14 @@ returns : tie.Need-returns
 unfolding metOf
 returns c =
     let a = c .before .before .before .args in
-    (stays _ _ _ refl (sym (met-unfit _ (a .w) (a .room) _ (extends-zero (a .w) (a .room) (c .before .before .before .pre .1) (sym (c .before .extent .ensures) ∙ c .if1 .taken)))), inr refl)
+    (sticks _ (sym (met-unfit _ (a .w) (a .room) _ (extends-zero (a .w) (a .room) (c .before .before .before .pre .1) (sym (c .before .extent .ensures) ∙ c .if1 .taken)))), inr refl)
 
 returns-2 : tie.Need-returns-2
 unfolding metOf
 returns-2 c =
     let a = c .before .before .before .before .args in
     let e = c .before .before .extent .ensures in
-    (stays _ _ _ refl (sym (met-unfit _ (a .w) (a .room) _ (extends-long (a .w) (a .room) (c .before .before .before .before .pre .1) (omega (arith, e, c .before .if1 .left)) (omega (arith, e, c .if2 .taken))))), inr refl)
+    (sticks _ (sym (met-unfit _ (a .w) (a .room) _ (extends-long (a .w) (a .room) (c .before .before .before .before .pre .1) (omega (arith, e, c .before .if1 .left)) (omega (arith, e, c .if2 .taken))))), inr refl)
 
 operation-requires : tie.Need-operation-requires
 operation-requires c κs = search needs
@@ -38,7 +33,7 @@ returns-3 : tie.Need-returns-3
 unfolding metOf
 returns-3 c =
     let a = c .before .before .before .before .before .before .args in
-    (stays _ _ _ refl (sym (met-early _ (a .w) (a .room) _ (c .before .operation .ensures) (c .if3 .taken) (place-none refl))), inr refl)
+    (sticks _ (sym (met-early _ (a .w) (a .room) _ (c .before .operation .ensures) (c .if3 .taken) (place-none refl))), inr refl)
 
 tries-requires : tie.Need-tries-requires
 tries-requires c κs = search needs

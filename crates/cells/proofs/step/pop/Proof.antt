@@ -1,12 +1,12 @@
 -- `pop` meets its contract.
 use mathlib.Core.Path.{refl}
-use Rattle.cells.proofs.Visits.{stays, over, pop-visit}
+use Rattle.cells.proofs.Visits.{sticks, over, pop-visit}
 use borrow.Author.Needs.{needs}
 use Rattle.cells.proofs.step.pop.Statement.{statement}
 use Rattle.cells.proofs.step.pop.Tie as tie
 
 returns : tie.Need-returns
-returns c = stays _ _ _ refl (over _ _ _ (c .if1 .taken))
+returns c = sticks _ (over _ _ (c .if1 .taken))
 
 add-slot : tie.Need-add-slot
 add-slot c = search needs

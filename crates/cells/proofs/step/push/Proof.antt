@@ -1,15 +1,16 @@
 -- `push` meets its contract.
 use mathlib.Core.Path.{refl}
-use Rattle.cells.proofs.Visits.{stays, over, push-none, push-visit}
+use Rattle.cells.specs.inner.Cells.{stateOf}
+use Rattle.cells.proofs.Visits.{sticks, over, push-none, push-visit}
 use borrow.Author.Needs.{needs}
 use Rattle.cells.proofs.step.push.Statement.{statement}
 use Rattle.cells.proofs.step.push.Tie as tie
 
 returns : tie.Need-returns
-returns c = stays _ _ _ refl (over _ _ _ (c .if1 .taken))
+returns c = sticks _ (over _ _ (c .if1 .taken))
 
 returns-2 : tie.Need-returns-2
-returns-2 c = stays _ _ _ refl (push-none _ _ (c .if2 .taken) (c .before .if1 .left))
+returns-2 c = let a = c .before .before .args in sticks _ (push-none (a .n) (stateOf (a .head) (a .cells .now)) (c .if2 .taken) (c .before .if1 .left))
 
 add-slot : tie.Need-add-slot
 add-slot c = search needs

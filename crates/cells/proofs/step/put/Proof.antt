@@ -1,12 +1,12 @@
 -- `put` meets its contract.
 use mathlib.Core.Path.{refl}
-use Rattle.cells.proofs.Visits.{stays, over, put-visit}
+use Rattle.cells.proofs.Visits.{sticks, over, put-visit}
 use borrow.Author.Needs.{needs}
 use Rattle.cells.proofs.step.put.Statement.{statement}
 use Rattle.cells.proofs.step.put.Tie as tie
 
 returns : tie.Need-returns
-returns c = stays _ _ _ refl (over _ _ _ (c .if1 .taken))
+returns c = sticks _ (over _ _ (c .if1 .taken))
 
 add-slot : tie.Need-add-slot
 add-slot c = search needs

@@ -2,7 +2,7 @@
 use mathlib.Core.Path.{refl}
 use native.Mathlib.Omega.{arith}
 use Rattle.cells.proofs.Places.{few-words}
-use Rattle.cells.proofs.Visits.{stays, right-stuck, right-below}
+use Rattle.cells.proofs.Visits.{stays, sticks, right-stuck, right-below}
 use borrow.Author.Needs.{needs}
 use Rattle.cells.proofs.step.sibling.Statement.{statement}
 use Rattle.cells.proofs.step.sibling.Tie as tie
@@ -23,7 +23,7 @@ wide-requires : tie.Need-wide-requires
 wide-requires c κs = search needs
 
 returns : tie.Need-returns
-returns c = stays _ _ _ refl (right-stuck _ _ _ _ (c .before .before .before .pre .0) (c .before .before .before .pre .1) (c .if1 .taken))
+returns c = sticks _ (right-stuck _ _ _ _ (c .before .before .before .pre .0) (c .before .before .before .pre .1) (c .if1 .taken))
 
 returns-2 : tie.Need-returns-2
 returns-2 c = let p = c .before .before .before .before .before .pre in stays _ _ _ refl (right-below _ _ _ _ (p .0) (p .1) (c .before .before .if1 .left) (c .wide .ensures .0))

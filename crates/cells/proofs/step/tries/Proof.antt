@@ -1,25 +1,27 @@
 -- `tries` meets its contract.
 use mathlib.Core.Path.{refl}
 use mathlib.Core.Logic.{inl, inr}
+use native.Mathlib.Omega.{arith}
 use borrow.Author.Tests.{lt-ltb, le-ltb}
-use Rattle.cells.specs.inner.Cells.{metOf}
-use Rattle.cells.proofs.Visits.{stays}
+use Rattle.clause.specs.Clause.{maxLiterals}
+use Rattle.cells.specs.inner.Cells.{metOf, countIn}
+use Rattle.cells.proofs.Visits.{stays, sticks}
 use borrow.Author.Needs.{needs}
 use Rattle.cells.proofs.step.tries.Statement.{statement}
 use Rattle.cells.proofs.step.tries.Tie as tie
-use Rattle.cells.proofs.step.tries.Reads as reads
-use Rattle.cells.proofs.step.tries.Lts as lts
 
-element-copy-out-if1 : tie.Need-element-copy-out-if1
-element-copy-out-if1 c = search needs
+element-copy-out-wide : tie.Need-element-copy-out-wide
+element-copy-out-wide c = search needs
+
+wide-requires : tie.Need-wide-requires
+wide-requires c κs = search needs
 
 returns : tie.Need-returns
 unfolding metOf
-returns c = (stays _ _ _ refl (rw (lt-ltb _ 8 (c .if1 .taken))), inl refl)
+returns c = let a = c .before .before .before .args in (stays _ _ _ refl (rw (lt-ltb (countIn (a .cells .now)) maxLiterals (omega (arith, c .before .wide .ensures .0, c .if1 .taken)))), inl refl)
 
 returns-2 : tie.Need-returns-2
-unfolding metOf
-returns-2 c = (stays _ _ _ refl (rw (le-ltb _ 8 (c .if1 .left))), inr refl)
+returns-2 c = let a = c .before .before .before .args in (sticks _ (rw (le-ltb (countIn (a .cells .now)) maxLiterals (omega (arith, c .before .wide .ensures .0, c .if1 .left)))), inr refl)
 
 pub tries-spec : {M : Type 1} → statement M
-tries-spec = tie.close (tie.spec element-copy-out-if1 returns returns-2)
+tries-spec = tie.close (tie.spec element-copy-out-wide wide-requires returns returns-2)

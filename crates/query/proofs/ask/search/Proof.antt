@@ -1,5 +1,6 @@
 -- `search` meets its contract.
-use mathlib.Core.Path.{refl, ap, _∙_}
+use mathlib.Core.Path.{ap, _∙_}
+use Prim.Native.Nat.{ℕ, _+_}
 use Rattle.query.specs.inner.Findings.{toldOut}
 use Rattle.query.proofs.Asking.{fresh-ready, searched}
 use Rattle.query.proofs.Packed.{clause-read}
@@ -13,8 +14,11 @@ of-requires c κs = search needs
 array-write-cells : tie.Need-array-write-cells
 array-write-cells c = search needs
 
-shared-slice-read-used : tie.Need-shared-slice-read-used
-shared-slice-read-used c = search needs
+shared-slice-read-header : tie.Need-shared-slice-read-header
+shared-slice-read-header c = search needs
+
+header-requires : tie.Need-header-requires
+header-requires c κs = search needs
 
 add-end : tie.Need-add-end
 add-end c = search needs
@@ -30,9 +34,9 @@ part-walk-top-end c = search needs
 
 walk-top-requires : tie.Need-walk-top-requires
 walk-top-requires c κs =
-    let c5 = c .before .before .before .before .before in
-    let a = c5 .before .before .before .before in
-    fresh-ready (a .pre .0) (clause-read (a .args .words .now) (a .pre .0) _ (c5 .of .ensures))
+    let o = c .before .before .before .before .before .before .before in
+    let s = o .before .before .before .before in
+    fresh-ready (s .pre .0) (clause-read (s .args .words .now) (s .pre .0) _ (o .of .ensures))
 
 answer-requires : tie.Need-answer-requires
 answer-requires c κs = search needs
@@ -42,11 +46,12 @@ same-length c = search needs
 
 returns : tie.Need-returns
 returns c =
-    let c5 = c .before .before .before .before .before in
-    let s = c5 .before .before .before .before .before .before .before .before .before .before in
+    let w = c .before .before .before .before .before in
+    let h = w .before .before .before .before .before in
+    let s = h .before .before .before .before .before .before .before in
     let a = s .args in
-    c .before .before .answer .ensures ∙ ap (toldOut (a .budget) (a .witness .now)) (c5 .walk-top .ensures .comes)
-    ∙ searched (a .tree .now) (a .words .now) (a .budget) (a .witness .now) (s .pre .1) refl
+    c .before .before .answer .ensures ∙ ap (toldOut (a .budget) (a .witness .now)) (w .walk-top .ensures .comes)
+    ∙ searched (a .tree .now) (a .words .now) (a .budget) (a .witness .now) (s .pre .1) (ap (λ (u : ℕ). u + 1) (h .header .ensures .0))
 
 pub search-spec : {M : Type 1} → statement M
 search-spec =
@@ -54,7 +59,8 @@ search-spec =
     (tie.spec
     of-requires
     array-write-cells
-    shared-slice-read-used
+    shared-slice-read-header
+    header-requires
     add-end
     sub-walk-top
     part-walk-top-start

@@ -10,14 +10,19 @@ element-copy-out-wide c = search needs
 wide-requires : tie.Need-wide-requires
 wide-requires c κs = search needs
 
-element-copy-out-result : tie.Need-element-copy-out-result
-element-copy-out-result c = search needs
+element-copy-out-wide-2 : tie.Need-element-copy-out-wide-2
+element-copy-out-wide-2 c = search needs
+
+wide-requires-2 : tie.Need-wide-requires-2
+wide-requires-2 c κs = search needs
 
 returns : tie.Need-returns
 returns c = let a = c .before .before .before .args in shows-front (a .cells .now) (c .before .before .before .pre .0) (a .i) (c .before .before .if1 .taken) (c .wide .ensures .0)
 
 returns-2 : tie.Need-returns-2
-returns-2 c = let a = c .before .before .args in shows-back (a .cells .now) (c .before .before .pre .0) (a .i) (c .before .if1 .left) (c .before .before .pre .1)
+returns-2 c =
+    let s = c .before .before .before in
+    shows-back (s .args .cells .now) (s .pre .0) (s .args .i) (c .before .before .if1 .left) (s .pre .1) (c .wide2 .ensures .0)
 
 pub shows-spec : {M : Type 1} → statement M
-shows-spec = tie.close (tie.spec element-copy-out-wide wide-requires element-copy-out-result returns returns-2)
+shows-spec = tie.close (tie.spec element-copy-out-wide wide-requires element-copy-out-wide-2 wide-requires-2 returns returns-2)

@@ -1,29 +1,21 @@
--- `walk` meets its contract. Along a row the invariant is `Walking`; over the passes: a place for the candidate, and the walk is the passes that are left.
-use mathlib.Core.Path.{_≡_, sym, ap, _∙_}
+-- `walk` meets its contract. Over the passes the invariant is `Between`, along a row `Walking`.
+use mathlib.Core.Path.{_≡_, _∙_}
 use mathlib.Core.Logic.{_⊎_, inl, inr, ⊎-elim}
-use mathlib.Core.Bool.{Bool, true, false}
 use mathlib.Core.List.{List, [], _∷_}
-use Prim.Native.Nat.{ℕ, _+_, _-_, _≤_, _<_}
+use Prim.Native.Nat.{ℕ, _-_, _≤_, _<_}
 use native.Mathlib.Omega.{arith}
 use types.Run.{miss}
-use lib.ListN.{length, getD, take, length-take, length-drop}
-use lib.Dec.{eqb}
+use lib.ListN.{length, length-take, length-drop}
 use borrow.Author.Needs.{needs}
-use borrow.Author.Tests.{eqb-true, eqb-false}
-use borrow.Fn.Kinds.{In}
+use borrow.Fn.Kinds.{In, Out}
 use borrow.Fn.PlainCycle.{Measures, is, falls, and}
-use Rattle.clause.specs.Clause.{literals}
-use Rattle.machine.specs.Machine.{State}
-use Rattle.walk.specs.Walk.{Part, andThen, upTo}
-use Rattle.walk.specs.Words.{walkWords}
-use Rattle.walk.specs.Query.{machine}
-use Rattle.cells.specs.inner.Cells.{entered, stateOf, passesOf, candidate, released, keptIn, startAt, Ready}
+use Rattle.cells.specs.inner.Cells.{stateOf}
 use Rattle.query.specs.declared.End.the-variants.{Missed}
 use Rattle.cells.specs.declared.Go.the-variants.{Tries}
-use Rattle.query.proofs.Passes.{runs, runs-whole, runs-end, runs-spent, then-on, then-broken, then-covered, then-found, walked-missed, walked-spent, walked-broken, walked-found, walked-same}
-use Rattle.cells.proofs.Places.{place-some, waiting, waiting-reserve, waiting-next, waiting-release, waiting-size, waiting-few, waiting-state}
-use Rattle.cells.proofs.Visits.{chosen-length}
-use Rattle.query.proofs.Walking.{Walking, Meeting, Lower, tail-less, walking-start, walking-end, begun-ready, begun-inside, pass-literal, turn, marked-size, node-stuck, node-hit, node-ends, fits-fails, call-fits, call-ready, node-fails, node-plain, node-last, node-inside, mark-small, node-missed}
+use Rattle.query.proofs.Walking.{Walking, Meeting, Lower, tail-less, walking-start, walking-end, met-size, met-back, mark-small}
+use Rattle.query.proofs.Walking.{node-stuck, node-hit, node-fails, node-plain, node-last, node-inside, node-ends, node-missed, fits-fails, call-fits, call-ready}
+use Rattle.query.proofs.Turns.{Entry, Between, Begun, first-few, entry-start, between-size, between-room, between-literal, between-ends, between-spent}
+use Rattle.query.proofs.Turns.{begun-ready, pass-missed, pass-broken, pass-found, pass-ends}
 use Rattle.query.proofs.below.walk.Reads as walk
 use Rattle.query.proofs.below.walk.Kinds as walk-kinds
 use Rattle.query.proofs.below.+walk.Lts-walk as walk-lts
@@ -33,11 +25,11 @@ use Rattle.cells.proofs.passes.Reads as passes-reads
 use Rattle.cells.proofs.release.Reads as release-reads
 use Rattle.cells.proofs.reserve.Reads as reserve-reads
 use Rattle.cells.proofs.restore.Reads as restore-reads
+use Rattle.cells.proofs.skip.Reads as skip-reads
 use Rattle.cells.proofs.trace.Reads as trace-reads
 use Rattle.cells.proofs.unwind.Reads as unwind-reads
-use Rattle.cells.proofs.extent.Reads as extent-reads
+use Rattle.tree.proofs.extent.Reads as extent-reads
 use Rattle.cells.proofs.operand.Reads as operand-reads
-use Rattle.cells.proofs.pass.Reads as pass-reads
 use Rattle.cells.proofs.wanted.Reads as wanted-reads
 use Rattle.cells.proofs.meet.Reads as meet-reads
 use Rattle.query.proofs.below.+walk.{statement}
@@ -67,8 +59,8 @@ rs t = (
   begin-reads.Learnt,
   wanted-reads.Asked,
   wanted-reads.Learnt,
-  pass-reads.Asked,
-  pass-reads.Learnt,
+  skip-reads.Asked,
+  skip-reads.Learnt,
   meet-reads.Asked,
   meet-reads.Learnt,
   extent-reads.Asked,
@@ -85,6 +77,7 @@ rs t = (
   unwind-reads.Learnt,
 )
 
+-- along a row
 abbrev walk-Inv-loop : walk-lts.InvT-loop
 walk-Inv-loop words query tables cells₀ head count budget first last kept n₀ j here₀ trail₀ left start rest₀ cells n here trail rest =
     Walking query tables words budget (stateOf here₀ cells₀) n₀ cells₀ cells n here trail rest × (here < length query)
@@ -92,416 +85,354 @@ walk-Inv-loop words query tables cells₀ head count budget first last kept n₀
 abbrev walk-μ-loop : walk-lts.MeasureT-loop
 walk-μ-loop words query tables cells₀ head count budget first last kept n₀ j here₀ trail₀ left start rest₀ cells n here trail rest = length rest
 
--- without the place for a candidate the cells are those at the entry
+-- over the passes
 abbrev walk-Inv-tries : walk-lts.InvT-tries
-walk-Inv-tries words query tables cells₀ head count budget first last kept n₀ j₀ cells n j =
-    (j ≤ last) × ((x : ℕ) × (cells ≡ candidate first x cells₀))
-    × (entered query budget first (walkWords (machine query) (upTo budget) words) (stateOf head (released first kept cells₀)) n₀
-    ≡ runs query budget first (walkWords (machine query) (upTo budget) words) (stateOf head (released first kept cells₀)) (last - j) j n)
+walk-Inv-tries words query tables cells₀ head count budget first last kept n₀ j₀ cells n j = Between query words budget head n₀ first last kept cells₀ cells n j
 
 abbrev walk-μ-tries : walk-lts.MeasureT-tries
 walk-μ-tries words query tables cells₀ head count budget first last kept n₀ j₀ cells n j = last - j
 
--- a First, which hands on no head, finds fewer than eight candidates
-few : (t : ℕ) (c : walk-lts.After-is-none (rs t) (walk-at t) walk.Post walk-Inv-loop walk-μ-loop walk-Inv-tries walk-μ-tries)
-    → c .is-none .result ≡ true → getD (c .before .before .before .args .cells .now) 136 0 < 8
-few t c = λ e. c .before .before .before .pre .1 .1 (eqb-true _ _ (sym (c .is-none .ensures) ∙ e))
-
--- any other head stands in the query
-inside : (t : ℕ) (c : walk-lts.After-is-none (rs t) (walk-at t) walk.Post walk-Inv-loop walk-μ-loop walk-Inv-tries walk-μ-tries)
-    → c .is-none .result ≡ false → c .before .before .before .args .head < length (c .before .before .before .args .query .now)
-inside t c = λ e. c .before .before .before .pre .1 .0 .safe .head (c .before .before .before .args .head) (place-some (eqb-false _ _ (sym (c .is-none .ensures) ∙ e)))
-
--- the walk is entered by the head
-asked : (t : ℕ) (c : walk-lts.After-is-none (rs t) (walk-at t) walk.Post walk-Inv-loop walk-μ-loop walk-Inv-tries walk-μ-tries)
-    → (k : State → Part State) (s : State) (n : ℕ) → entered (c .before .before .before .args .query .now) (c .before .before .before .args .budget) (eqb (c .before .before .before .args .head) 255) k s n ≡ entered (c .before .before .before .args .query .now) (c .before .before .before .args .budget) (c .is-none .result) k s n
-asked t c = λ k s n. ap (λ (f : Bool). entered (c .before .before .before .args .query .now) (c .before .before .before .args .budget) f k s n) (sym (c .is-none .ensures))
-
--- the cells at the entry
-base : (t : ℕ) (c : walk-lts.After-reserve (rs t) (walk-at t) walk.Post walk-Inv-loop walk-μ-loop walk-Inv-tries walk-μ-tries)
-    → released (c .before .before .before .is-none .result) (c .reserve .result) (c .reserve .last .0) ≡ c .before .before .before .before .before .before .args .cells .now
-base t c =
-    let s = c .before .before .before .before .before .before in
-    let b = s .args .cells .now in
-    rw (c .reserve .ensures .0, c .reserve .ensures .1 ∙ waiting-reserve (c .before .before .before .is-none .result) b (s .pre .1 .0 .size) (few t (c .before .before .before))) (waiting-release (c .before .before .before .is-none .result) b (s .pre .1 .0 .size) (few t (c .before .before .before)) (keptIn (c .before .before .before .is-none .result) b))
-
--- between two passes the cells have a place for a candidate
-placed : (t : ℕ) (c : walk-lts.At-tries (rs t) (walk-at t) walk.Post walk-Inv-loop walk-μ-loop walk-Inv-tries walk-μ-tries)
-    → (x : ℕ) × (c .tries .cells ≡ waiting (c .before .before .before .before .is-none .result) x (c .before .before .before .before .before .before .before .args .cells .now))
-placed t c = (c .tries .inv .1 .0, c .tries .inv .1 .1 ∙ ap (candidate (c .before .before .before .before .is-none .result) (c .tries .inv .1 .0)) (c .before .reserve .ensures .1))
-
--- the walk is the passes that are left
-left : (t : ℕ) (c : walk-lts.At-tries (rs t) (walk-at t) walk.Post walk-Inv-loop walk-μ-loop walk-Inv-tries walk-μ-tries)
-    → entered (c .before .before .before .before .before .before .before .args .query .now) (c .before .before .before .before .before .before .before .args .budget) (c .before .before .before .before .is-none .result) (walkWords (machine (c .before .before .before .before .before .before .before .args .query .now)) (upTo (c .before .before .before .before .before .before .before .args .budget)) (c .before .before .before .before .before .before .before .args .words .now)) (stateOf (c .before .before .before .before .before .before .before .args .head) (c .before .before .before .before .before .before .before .args .cells .now)) (c .before .before .before .before .before .before .before .args .count)
-    ≡ runs (c .before .before .before .before .before .before .before .args .query .now) (c .before .before .before .before .before .before .before .args .budget) (c .before .before .before .before .is-none .result) (walkWords (machine (c .before .before .before .before .before .before .before .args .query .now)) (upTo (c .before .before .before .before .before .before .before .args .budget)) (c .before .before .before .before .before .before .before .args .words .now)) (stateOf (c .before .before .before .before .before .before .before .args .head) (c .before .before .before .before .before .before .before .args .cells .now)) (c .before .before .before .passes .result - c .tries .j) (c .tries .j) (c .tries .n)
-left t c = rw (base t (c .before)) at (c .tries .inv .2)
-
--- a First finds fewer than eight candidates, and its passes are the literals
-more : (t : ℕ) (c : walk-lts.Else1 (rs t) (walk-at t) walk.Post walk-Inv-loop walk-μ-loop walk-Inv-tries walk-μ-tries)
-    → c .before .before .before .before .before .is-none .result ≡ true → (getD (c .before .before .before .before .before .before .before .before .args .cells .now) 136 0 < 8) × (c .before .tries .j < length (literals (c .before .before .before .before .before .before .before .before .args .query .now)))
-more t c = λ e. let p = c .before .before .before .before .before .before .before .before .pre .1 in (few t (c .before .before .before .before .before) e, pass-literal e (c .before .before .before .before .passes .ensures) (p .0 .tables .count) (c .if1 .left))
-
--- the cells at the beginning of a pass
-begun : (t : ℕ) (c : walk-lts.After-begin (rs t) (walk-at t) walk.Post walk-Inv-loop walk-μ-loop walk-Inv-tries walk-μ-tries)
-    → c .begin .last .1 .1 .0 ≡ waiting (c .before .before .before .before .before .before .before .before .is-none .result) (c .before .before .before .before .tries .j) (c .before .before .before .before .before .before .before .before .before .before .before .args .cells .now)
-begun t c = let s = c .before .before .before .before .before .before .before .before .before .before .before in let w = placed t (c .before .before .before .before) in c .begin .ensures .1 ∙ rw (w .1) (waiting-next (c .before .before .before .before .before .before .before .before .is-none .result) (s .args .cells .now) (s .pre .1 .0 .size) (few t (c .before .before .before .before .before .before .before .before)) (w .0) (c .before .before .before .before .tries .j))
-
--- its state
-begun-state : (t : ℕ) (c : walk-lts.After-begin (rs t) (walk-at t) walk.Post walk-Inv-loop walk-μ-loop walk-Inv-tries walk-μ-tries)
-    → stateOf (c .begin .result) (c .begin .last .1 .1 .0) ≡ startAt (c .before .before .before .before .before .before .before .before .before .before .before .args .query .now) (c .before .before .before .before .before .before .before .before .is-none .result) (c .before .before .before .before .tries .j) (stateOf (c .before .before .before .before .before .before .before .before .before .before .before .args .head) (c .before .before .before .before .before .before .before .before .before .before .before .args .cells .now))
-begun-state t c = let s = c .before .before .before .before .before .before .before .before .before .before .before in rw (c .begin .ensures .0, begun t c) (waiting-state (s .args .query .now) (s .args .tables .now) (s .args .head) (s .args .cells .now) (s .pre .1 .0) (c .before .before .before .before .tries .j) (c .before .before .before .before .before .before .before .before .is-none .result) (more t (c .before .before .before)))
-
--- its state is ready, and its head stands in the query
-pass-ready : (t : ℕ) (c : walk-lts.After-begin (rs t) (walk-at t) walk.Post walk-Inv-loop walk-μ-loop walk-Inv-tries walk-μ-tries)
-    → Ready (c .before .before .before .before .before .before .before .before .before .before .before .args .query .now) (c .before .before .before .before .before .before .before .before .before .before .before .args .tables .now) (c .begin .result) (c .begin .last .1 .1 .0) × (c .begin .result < length (c .before .before .before .before .before .before .before .before .before .before .before .args .query .now))
-pass-ready t c =
-    let s = c .before .before .before .before .before .before .before .before .before .before .before in
-    let a = s .args in
-    let m = more t (c .before .before .before) in
-    let j = c .before .before .before .before .tries .j in (
-      rw (c .begin .ensures .0, begun t c) (begun-ready (a .query .now) (a .tables .now) (a .head) (a .cells .now) (s .pre .1 .0) (c .before .before .before .before .before .before .before .before .is-none .result) j m),
-      rw (c .begin .ensures .0) (begun-inside (a .query .now) (a .tables .now) (a .head) (a .cells .now) (s .pre .1 .0) (c .before .before .before .before .before .before .before .before .is-none .result) j m (inside t (c .before .before .before .before .before .before .before .before))),
-    )
-
--- the walk from this pass on
-next-turn : (t : ℕ) (c : walk-lts.After-begin (rs t) (walk-at t) walk.Post walk-Inv-loop walk-μ-loop walk-Inv-tries walk-μ-tries)
-    → let a = c .before .before .before .before .before .before .before .before .before .before .before .args in
-    let k = walkWords (machine (a .query .now)) (upTo (a .budget)) (a .words .now) in
-    let s = stateOf (a .head) (a .cells .now) in
-    let j = c .before .before .before .before .tries .j in
-    entered (a .query .now) (a .budget) (c .before .before .before .before .before .before .before .before .is-none .result) k s (a .count)
-    ≡ andThen (k (stateOf (c .begin .result) (c .begin .last .1 .1 .0)) (c .before .before .if2 .n))
-    (runs (a .query .now) (a .budget) (c .before .before .before .before .before .before .before .before .is-none .result) k s (c .before .before .before .before .before .before .before .passes .result - (j + 1)) (j + 1))
-next-turn t c =
-    let s = c .before .before .before .before .before .before .before .before .before .before .before in
-    let a = s .args in
-    left t (c .before .before .before .before)
-    ∙ turn (a .query .now) (a .budget) _ (c .before .before .before .before .before .before .before .before .is-none .result) (stateOf (a .head) (a .cells .now)) (λ e. rw (chosen-length _ _ _ _ (s .pre .1 .0)) (few t (c .before .before .before .before .before .before .before .before) e)) _ _ _ _ (c .before .before .before .if1 .left)
-    (⊎-elim (λ w. inl (w .0 .taken, w .1 .left, w .2)) (λ w. inr (w .0 .left, w .1)) (c .before .before .if2 .came)) (begun-state t c)
-
--- the word that is met
-word : (t : ℕ) (c : walk-lts.After-extent (rs t) (walk-at t) walk.Post walk-Inv-loop walk-μ-loop walk-Inv-tries walk-μ-tries)
-    → Meeting (c .before .before .before .before .before .before .before .before .before .before .before .before .before .before .before .before .before .before .before .before .args .query .now) (c .before .before .before .before .before .before .before .before .before .before .before .before .before .before .before .before .before .before .before .before .args .tables .now) (c .before .before .before .before .before .before .before .before .before .before .before .before .before .before .before .before .before .before .before .before .args .words .now) (c .before .before .before .before .before .before .before .before .before .before .before .before .before .before .before .before .before .before .before .before .args .budget) (stateOf (c .before .before .before .before .before .before .before .before .before .begin .result) (c .before .before .before .before .before .before .before .before .before .begin .last .1 .1 .0)) (c .before .before .before .before .before .before .before .before .before .before .before .if2 .n) (c .before .before .before .before .before .before .before .before .before .begin .last .1 .1 .0) (c .before .before .before .before .before .loop .cells) (c .before .before .before .before .before .loop .n) (c .before .before .before .before .before .loop .here) (c .before .before .before .before .before .loop .trail) (c .before .before .before .before .before .loop .rest .now) (c .extent .result) (c .before .meet .last .1 .1 .1 .1 .0) (c .before .meet .result)
-word t c = record { walking = c .before .before .before .before .before .loop .inv .0; some-words = c .before .before .before .before .loop-test .taken; extent = c .extent .ensures; visited = c .before .meet .ensures }
-
-walk-is-none-requires : (t : ℕ) → walk-lts.Need-is-none-requires (rs t) (walk-at t) walk.Post walk-Inv-loop walk-μ-loop walk-Inv-tries walk-μ-tries
-walk-is-none-requires t c κs = search needs
-
-walk-passes-requires : (t : ℕ) → walk-lts.Need-passes-requires (rs t) (walk-at t) walk.Post walk-Inv-loop walk-μ-loop walk-Inv-tries walk-μ-tries
-walk-passes-requires t c κs = search needs
-
-walk-reserve-requires : (t : ℕ) → walk-lts.Need-reserve-requires (rs t) (walk-at t) walk.Post walk-Inv-loop walk-μ-loop walk-Inv-tries walk-μ-tries
-walk-reserve-requires t c κs = (c .before .before .before .before .before .pre .1 .0 .size, few t (c .before .before))
-
-walk-tries-holds : (t : ℕ) → walk-lts.Need-tries-holds (rs t) (walk-at t) walk.Post walk-Inv-loop walk-μ-loop walk-Inv-tries walk-μ-tries
-walk-tries-holds t c =
-    let s = c .before .before .before .before .before .before in
-    let a = s .args in
-    let b = a .cells .now in (
-      search needs,
-      (keptIn (c .before .before .before .is-none .result) b, c .reserve .ensures .1 ∙ waiting-reserve (c .before .before .before .is-none .result) b (s .pre .1 .0 .size) (few t (c .before .before .before)) ∙ ap (candidate (c .before .before .before .is-none .result) (keptIn (c .before .before .before .is-none .result) b)) (sym (c .reserve .ensures .1))),
-      sym (runs-whole (a .query .now) (a .budget) _ _ (c .before .before .before .is-none .result) (c .before .before .passes .ensures ∙ ap (passesOf (c .before .before .before .is-none .result)) (s .pre .1 .0 .tables .count)) (a .count)),
-    )
-
-walk-release-requires : (t : ℕ) → walk-lts.Need-release-requires (rs t) (walk-at t) walk.Post walk-Inv-loop walk-μ-loop walk-Inv-tries walk-μ-tries
-walk-release-requires t c κs =
-    let s = c .before .before .before .before .before .before .before .before .before in
-    let w = placed t (c .before .before) in
-    let f = waiting-few (c .before .before .before .before .before .before .is-none .result) (s .args .cells .now) (s .pre .1 .0 .size) (few t (c .before .before .before .before .before .before)) (s .pre .1 .0 .few) (w .0) in
-    rw (w .1) (waiting-size (c .before .before .before .before .before .before .is-none .result) (s .args .cells .now) (s .pre .1 .0 .size) (few t (c .before .before .before .before .before .before)) (w .0) ∙ s .pre .1 .0 .size, λ e. (f .1 e, f .0))
+module _ (t : ℕ) where
+  -- a place of the walk, or what is needed there
+  abbrev At :
+      (walk-lts.Claims → In 4 walk-kinds.ps → Out 4 walk-kinds.ps walk-kinds.r → walk-lts.InvT-loop → walk-lts.MeasureT-loop → walk-lts.InvT-tries → walk-lts.MeasureT-tries → Type 0)
+      → Type 0
+  At place = place (rs t) (walk-at t) walk.Post walk-Inv-loop walk-μ-loop walk-Inv-tries walk-μ-tries
+
+  -- The places by name, each from a later one: the walk's beginning, the passes, a pass, its row, a word of it, the call on the words below, the way back from it.
+  abbrev start : At walk-lts.After-reserve → At walk-lts.Start
+  start c = c .before .before .before .before .before .before
+
+  abbrev passes : At walk-lts.After-begin → At walk-lts.At-tries
+  passes c = c .before .before .before .before
+
+  abbrev pass : At walk-lts.At-loop → At walk-lts.After-begin
+  pass c = c .before .before .before .before
+
+  abbrev row : At walk-lts.After-extent → At walk-lts.At-loop
+  row c = c .before .before .before .before .before
+
+  abbrev call : At walk-lts.After-walk → At walk-lts.At-match-came
+  call c = c .before .before .before
+
+  abbrev missed : At walk-lts.After-restore → At walk-lts.After-enum-told7
+  missed c = c .before .before
+
+  abbrev back : At walk-lts.After-restore → At walk-lts.After-walk
+  back c = missed c .before .before
+
+  abbrev onward : At walk-lts.After-skip2 → At walk-lts.After-restore
+  onward c = c .before .before
+
+  -- the node is entered
+  entry : (c : At walk-lts.After-reserve)
+      → let a = start c .args in
+      Entry (a .query .now) (a .tables .now) (a .words .now) (a .budget) (a .head) (a .cells .now) (a .count)
+      (c .before .before .before .is-none .result) (c .before .before .passes .result) (c .reserve .result) (c .reserve .last .0)
+  entry c =
+      let p = start c .pre .1 in
+      record {
+        ready = p .0;
+        room = p .1;
+        by-head = c .before .before .before .is-none .ensures;
+        times = c .before .before .passes .ensures;
+        keeps = c .reserve .ensures .0;
+        reserves = c .reserve .ensures .1;
+      }
+
+  -- a pass begins
+  begun : (c : At walk-lts.After-begin)
+      → let p = passes c in
+      let e = p .before in
+      let a = start e .args in
+      Begun (a .query .now) (a .tables .now) (a .words .now) (a .budget) (a .head) (a .cells .now) (a .count)
+      (e .before .before .before .is-none .result) (e .before .before .passes .result) (e .reserve .result) (e .reserve .last .0)
+      (p .tries .cells) (p .tries .n) (p .tries .j) (c .before .before .if2 .n) (c .begin .result) (c .begin .last .1 .1 .0)
+  begun c =
+      record {
+        entry = entry (passes c .before);
+        between = passes c .tries .inv;
+        more = c .before .before .before .if1 .left;
+        counted = ⊎-elim (λ w. inl (w .0 .taken, w .1 .left, w .2)) (λ w. inr (w .0 .left, w .1)) (c .before .before .if2 .came);
+        head = c .begin .ensures .0;
+        stored = c .begin .ensures .1;
+      }
+
+  -- a word is met
+  word : (c : At walk-lts.After-extent)
+      → let r = row c in
+      let p = pass r in
+      let a = start (passes p .before) .args in
+      Meeting (a .query .now) (a .tables .now) (a .words .now) (a .budget)
+      (stateOf (p .begin .result) (p .begin .last .1 .1 .0)) (p .before .before .if2 .n) (p .begin .last .1 .1 .0)
+      (r .loop .cells) (r .loop .n) (r .loop .here) (r .loop .trail) (r .loop .rest .now)
+      (c .extent .result) (c .before .meet .last .1 .1 .1 .1 .0) (c .before .meet .result)
+  word c =
+      record {
+        walking = row c .loop .inv .0;
+        some-words = c .before .before .before .before .loop-test .taken;
+        extent = c .extent .ensures;
+        visited = c .before .meet .ensures;
+      }
+
+  -- what is called: the candidates of a First, or the words below any other word
+  kind : (c : At walk-lts.At-match-came)
+      → let v = c .before .before .meet .result in
+      ((v .go ≡ Tries) × (c .match .to ≡ 255)) ⊎ (Lower (v .go) × (c .match .to ≡ v .head))
+  kind c =
+      ⊎-elim
+      (λ w. inl (w .1 .given .1, w .2))
+      (⊎-elim
+      (λ w. inr (inl (w .1 .given .1), w .3))
+      (⊎-elim (λ w. inr (inr (w .1 .given .1), w .4)) (λ w. inr (inr (w .1 .given .1), w .3))))
+      (c .match .came)
+
+  -- its words lie in the row
+  called : (c : At walk-lts.At-match-came)
+      → (1 ≤ c .before .extent .result) × (c .before .extent .result ≤ length (row (c .before) .loop .rest .now))
+  called c = call-fits (word (c .before)) (kind c)
+
+  walk-is-none-requires : At walk-lts.Need-is-none-requires
+  walk-is-none-requires c κs = search needs
 
-walk-add-n : (t : ℕ) → walk-lts.Need-add-n (rs t) (walk-at t) walk.Post walk-Inv-loop walk-μ-loop walk-Inv-tries walk-μ-tries
-walk-add-n t c = search needs
+  walk-passes-requires : At walk-lts.Need-passes-requires
+  walk-passes-requires c κs = search needs
 
-walk-begin-requires : (t : ℕ) → walk-lts.Need-begin-requires (rs t) (walk-at t) walk.Post walk-Inv-loop walk-μ-loop walk-Inv-tries walk-μ-tries
-walk-begin-requires t c κs =
-    let s = c .before .before .before .before .before .before .before .before .before .before in
-    let w = placed t (c .before .before .before) in
-    let f = waiting-few (c .before .before .before .before .before .before .before .is-none .result) (s .args .cells .now) (s .pre .1 .0 .size) (few t (c .before .before .before .before .before .before .before)) (s .pre .1 .0 .few) (w .0) in
-    rw (w .1) (s .pre .1 .0 .whole, s .pre .1 .0 .tables, waiting-size (c .before .before .before .before .before .before .before .is-none .result) (s .args .cells .now) (s .pre .1 .0 .size) (few t (c .before .before .before .before .before .before .before)) (w .0) ∙ s .pre .1 .0 .size, λ e. (f .1 e, f .0, more t (c .before .before) e .1))
+  walk-reserve-requires : At walk-lts.Need-reserve-requires
+  walk-reserve-requires c κs =
+      let s = c .before .before .before .before .before in
+      (s .pre .1 .0 .size, first-few (s .args .head) (s .args .cells .now) (s .pre .1 .1) (c .before .before .is-none .ensures))
 
-walk-wanted-requires : (t : ℕ) → walk-lts.Need-wanted-requires (rs t) (walk-at t) walk.Post walk-Inv-loop walk-μ-loop walk-Inv-tries walk-μ-tries
-walk-wanted-requires t c κs = pass-ready t c .1
+  walk-tries-holds : At walk-lts.Need-tries-holds
+  walk-tries-holds c = entry-start (entry c)
 
-walk-pass-requires : (t : ℕ) → walk-lts.Need-pass-requires (rs t) (walk-at t) walk.Post walk-Inv-loop walk-μ-loop walk-Inv-tries walk-μ-tries
-walk-pass-requires t c κs = (omega arith, c .wanted .ensures .1)
+  walk-release-requires : At walk-lts.Need-release-requires
+  walk-release-requires c κs = let p = c .before .before in let e = entry (p .before) in (between-size e (p .tries .inv), between-room e (p .tries .inv))
 
-walk-sub-start : (t : ℕ) → walk-lts.Need-sub-start (rs t) (walk-at t) walk.Post walk-Inv-loop walk-μ-loop walk-Inv-tries walk-μ-tries
-walk-sub-start t c = c .pass .ensures .0
+  walk-add-n : At walk-lts.Need-add-n
+  walk-add-n c = search needs
 
-walk-mul-rest : (t : ℕ) → walk-lts.Need-mul-rest (rs t) (walk-at t) walk.Post walk-Inv-loop walk-μ-loop walk-Inv-tries walk-μ-tries
-walk-mul-rest t c = search needs
+  walk-begin-requires : At walk-lts.Need-begin-requires
+  walk-begin-requires c κs =
+      let p = c .before .before .before in
+      let e = entry (p .before) in
+      (e .ready .whole, e .ready .tables, between-size e (p .tries .inv), between-literal e (p .tries .inv) (c .before .before .if1 .left))
 
-walk-sub-rest : (t : ℕ) → walk-lts.Need-sub-rest (rs t) (walk-at t) walk.Post walk-Inv-loop walk-μ-loop walk-Inv-tries walk-μ-tries
-walk-sub-rest t c = c .pass .ensures .1 .inside
+  walk-wanted-requires : At walk-lts.Need-wanted-requires
+  walk-wanted-requires c κs = begun-ready (begun c) .1
 
-walk-part-rest-start : (t : ℕ) → walk-lts.Need-part-rest-start (rs t) (walk-at t) walk.Post walk-Inv-loop walk-μ-loop walk-Inv-tries walk-μ-tries
-walk-part-rest-start t c = c .pass .ensures .1 .inside
+  walk-skip-requires : At walk-lts.Need-skip-requires
+  walk-skip-requires c κs = (omega arith, c .wanted .ensures .1)
 
-walk-part-rest-end : (t : ℕ) → walk-lts.Need-part-rest-end (rs t) (walk-at t) walk.Post walk-Inv-loop walk-μ-loop walk-Inv-tries walk-μ-tries
-walk-part-rest-end t c = search needs
+  walk-sub-start : At walk-lts.Need-sub-start
+  walk-sub-start c = c .skip .ensures .0
 
-walk-loop-holds : (t : ℕ) → walk-lts.Need-loop-holds (rs t) (walk-at t) walk.Post walk-Inv-loop walk-μ-loop walk-Inv-tries walk-μ-tries
-walk-loop-holds t c =
-    let a = c .before .before .before .before .before .before .before .before .before .before .before .before .before .before .args in
-    let q = pass-ready t (c .before .before .before) in
-    (walking-start (a .query .now) (a .tables .now) (a .words .now) (a .budget) _ _ (q .0) (q .1) _ _ (c .before .before .wanted .ensures .0) (c .before .pass .ensures .1), q .1)
+  walk-mul-rest : At walk-lts.Need-mul-rest
+  walk-mul-rest c = search needs
 
-walk-shared-slice-read-w : (t : ℕ) → walk-lts.Need-shared-slice-read-w (rs t) (walk-at t) walk.Post walk-Inv-loop walk-μ-loop walk-Inv-tries walk-μ-tries
-walk-shared-slice-read-w t c = search needs
+  walk-sub-rest : At walk-lts.Need-sub-rest
+  walk-sub-rest c = c .skip .ensures .1 .inside
 
-walk-meet-requires : (t : ℕ) → walk-lts.Need-meet-requires (rs t) (walk-at t) walk.Post walk-Inv-loop walk-μ-loop walk-Inv-tries walk-μ-tries
-walk-meet-requires t c κs = (c .before .before .before .loop .inv .0 .ready, c .before .before .loop-test .taken, c .before .before .before .loop .inv .1)
+  walk-part-rest-start : At walk-lts.Need-part-rest-start
+  walk-part-rest-start c = c .skip .ensures .1 .inside
 
-walk-extent-requires : (t : ℕ) → walk-lts.Need-extent-requires (rs t) (walk-at t) walk.Post walk-Inv-loop walk-μ-loop walk-Inv-tries walk-μ-tries
-walk-extent-requires t c κs = search needs
+  walk-part-rest-end : At walk-lts.Need-part-rest-end
+  walk-part-rest-end c = search needs
 
-walk-enum-told : (t : ℕ) → walk-lts.Need-enum-told (rs t) (walk-at t) walk.Post walk-Inv-loop walk-μ-loop walk-Inv-tries walk-μ-tries
-walk-enum-told t c = search needs
+  walk-loop-holds : At walk-lts.Need-loop-holds
+  walk-loop-holds c = let r = begun-ready (begun (c .before .before .before)) in (walking-start (r .0) (r .1) (c .before .before .wanted .ensures .0) (c .before .skip .ensures .1), r .1)
 
-walk-enum-told-2 : (t : ℕ) → walk-lts.Need-enum-told-2 (rs t) (walk-at t) walk.Post walk-Inv-loop walk-μ-loop walk-Inv-tries walk-μ-tries
-walk-enum-told-2 t c = search needs
+  walk-shared-slice-read-w : At walk-lts.Need-shared-slice-read-w
+  walk-shared-slice-read-w c = search needs
 
-walk-operand-requires : (t : ℕ) → walk-lts.Need-operand-requires (rs t) (walk-at t) walk.Post walk-Inv-loop walk-μ-loop walk-Inv-tries walk-μ-tries
-walk-operand-requires t c κs = search needs
+  walk-meet-requires : At walk-lts.Need-meet-requires
+  walk-meet-requires c κs = let r = c .before .before .before in (r .loop .inv .0 .ready, c .before .before .loop-test .taken, r .loop .inv .1)
 
-walk-enum-told-3 : (t : ℕ) → walk-lts.Need-enum-told-3 (rs t) (walk-at t) walk.Post walk-Inv-loop walk-μ-loop walk-Inv-tries walk-μ-tries
-walk-enum-told-3 t c = search needs
+  walk-extent-requires : At walk-lts.Need-extent-requires
+  walk-extent-requires c κs = search needs
 
-walk-mul-rest-2 : (t : ℕ) → walk-lts.Need-mul-rest-2 (rs t) (walk-at t) walk.Post walk-Inv-loop walk-μ-loop walk-Inv-tries walk-μ-tries
-walk-mul-rest-2 t c = search needs
+  walk-enum-told : At walk-lts.Need-enum-told
+  walk-enum-told c = search needs
 
-walk-sub-rest-2 : (t : ℕ) → walk-lts.Need-sub-rest-2 (rs t) (walk-at t) walk.Post walk-Inv-loop walk-μ-loop walk-Inv-tries walk-μ-tries
-walk-sub-rest-2 t c = fits-fails (word t (c .before .before)) (c .enum-told3 .given .1) .1
+  walk-enum-told-2 : At walk-lts.Need-enum-told-2
+  walk-enum-told-2 c = search needs
 
-walk-part-rest-start-2 : (t : ℕ) → walk-lts.Need-part-rest-start-2 (rs t) (walk-at t) walk.Post walk-Inv-loop walk-μ-loop walk-Inv-tries walk-μ-tries
-walk-part-rest-start-2 t c = fits-fails (word t (c .before .before)) (c .enum-told3 .given .1) .1
+  walk-operand-requires : At walk-lts.Need-operand-requires
+  walk-operand-requires c κs = search needs
 
-walk-part-rest-end-2 : (t : ℕ) → walk-lts.Need-part-rest-end-2 (rs t) (walk-at t) walk.Post walk-Inv-loop walk-μ-loop walk-Inv-tries walk-μ-tries
-walk-part-rest-end-2 t c = search needs
+  walk-enum-told-3 : At walk-lts.Need-enum-told-3
+  walk-enum-told-3 c = search needs
 
-walk-loop-less : (t : ℕ) → walk-lts.Need-loop-less (rs t) (walk-at t) walk.Post walk-Inv-loop walk-μ-loop walk-Inv-tries walk-μ-tries
-walk-loop-less t c = let f = fits-fails (word t (c .before .before .before)) (c .before .enum-told3 .given .1) in tail-less _ (c .before .before .before .before .before .before .before .before .loop .rest .now) (f .0) (f .1)
+  walk-mul-rest-2 : At walk-lts.Need-mul-rest-2
+  walk-mul-rest-2 c = search needs
 
-walk-loop-again : (t : ℕ) → walk-lts.Need-loop-again (rs t) (walk-at t) walk.Post walk-Inv-loop walk-μ-loop walk-Inv-tries walk-μ-tries
-walk-loop-again t c = (node-fails (word t (c .before .before .before)) (c .before .enum-told3 .given .1), c .before .before .before .before .before .before .before .before .loop .inv .1)
+  walk-sub-rest-2 : At walk-lts.Need-sub-rest-2
+  walk-sub-rest-2 c = fits-fails (word (c .before .before)) (c .enum-told3 .given .1) .1
 
-walk-enum-told-4 : (t : ℕ) → walk-lts.Need-enum-told-4 (rs t) (walk-at t) walk.Post walk-Inv-loop walk-μ-loop walk-Inv-tries walk-μ-tries
-walk-enum-told-4 t c = search needs
+  walk-part-rest-start-2 : At walk-lts.Need-part-rest-start-2
+  walk-part-rest-start-2 c = fits-fails (word (c .before .before)) (c .enum-told3 .given .1) .1
 
-walk-enum-told-5 : (t : ℕ) → walk-lts.Need-enum-told-5 (rs t) (walk-at t) walk.Post walk-Inv-loop walk-μ-loop walk-Inv-tries walk-μ-tries
-walk-enum-told-5 t c = search needs
+  walk-part-rest-end-2 : At walk-lts.Need-part-rest-end-2
+  walk-part-rest-end-2 c = search needs
 
-walk-sub-rest-3 : (t : ℕ) → walk-lts.Need-sub-rest-3 (rs t) (walk-at t) walk.Post walk-Inv-loop walk-μ-loop walk-Inv-tries walk-μ-tries
-walk-sub-rest-3 t c = search needs
+  walk-loop-less : At walk-lts.Need-loop-less
+  walk-loop-less c = let w = c .before .before .before in let f = fits-fails (word w) (c .before .enum-told3 .given .1) in tail-less _ (row w .loop .rest .now) (f .0) (f .1)
 
-walk-part-rest-start-3 : (t : ℕ) → walk-lts.Need-part-rest-start-3 (rs t) (walk-at t) walk.Post walk-Inv-loop walk-μ-loop walk-Inv-tries walk-μ-tries
-walk-part-rest-start-3 t c = search needs
+  walk-loop-again : At walk-lts.Need-loop-again
+  walk-loop-again c = let w = c .before .before .before in (node-fails (word w) (c .before .enum-told3 .given .1), row w .loop .inv .1)
 
-walk-part-rest-end-3 : (t : ℕ) → walk-lts.Need-part-rest-end-3 (rs t) (walk-at t) walk.Post walk-Inv-loop walk-μ-loop walk-Inv-tries walk-μ-tries
-walk-part-rest-end-3 t c = search needs
+  walk-enum-told-4 : At walk-lts.Need-enum-told-4
+  walk-enum-told-4 c = search needs
 
-walk-loop-less-2 : (t : ℕ) → walk-lts.Need-loop-less-2 (rs t) (walk-at t) walk.Post walk-Inv-loop walk-μ-loop walk-Inv-tries walk-μ-tries
-walk-loop-less-2 t c = tail-less _ (c .before .before .before .before .before .before .before .before .before .loop .rest .now) (omega arith) (c .before .before .before .before .before .before .before .before .loop-test .taken)
+  walk-enum-told-5 : At walk-lts.Need-enum-told-5
+  walk-enum-told-5 c = search needs
 
-walk-loop-again-2 : (t : ℕ) → walk-lts.Need-loop-again-2 (rs t) (walk-at t) walk.Post walk-Inv-loop walk-μ-loop walk-Inv-tries walk-μ-tries
-walk-loop-again-2 t c = let w = word t (c .before .before .before .before) in let g = c .before .before .enum-told5 .given .1 in (node-plain w g (c .before .if4 .taken), node-inside w (inl g))
+  walk-sub-rest-3 : At walk-lts.Need-sub-rest-3
+  walk-sub-rest-3 c = search needs
 
-walk-enum-told-6 : (t : ℕ) → walk-lts.Need-enum-told-6 (rs t) (walk-at t) walk.Post walk-Inv-loop walk-μ-loop walk-Inv-tries walk-μ-tries
-walk-enum-told-6 t c = search needs
+  walk-part-rest-start-3 : At walk-lts.Need-part-rest-start-3
+  walk-part-rest-start-3 c = search needs
 
-walk-trace-requires : (t : ℕ) → walk-lts.Need-trace-requires (rs t) (walk-at t) walk.Post walk-Inv-loop walk-μ-loop walk-Inv-tries walk-μ-tries
-walk-trace-requires t c κs = (c .if6 .taken, mark-small (word t (c .before .before .before .before)))
+  walk-part-rest-end-3 : At walk-lts.Need-part-rest-end-3
+  walk-part-rest-end-3 c = search needs
 
-walk-sub-rest-4 : (t : ℕ) → walk-lts.Need-sub-rest-4 (rs t) (walk-at t) walk.Post walk-Inv-loop walk-μ-loop walk-Inv-tries walk-μ-tries
-walk-sub-rest-4 t c = search needs
+  walk-loop-less-2 : At walk-lts.Need-loop-less-2
+  walk-loop-less-2 c = let w = c .before .before .before .before in tail-less _ (row w .loop .rest .now) (omega arith) (word w .some-words)
 
-walk-part-rest-start-4 : (t : ℕ) → walk-lts.Need-part-rest-start-4 (rs t) (walk-at t) walk.Post walk-Inv-loop walk-μ-loop walk-Inv-tries walk-μ-tries
-walk-part-rest-start-4 t c = search needs
+  walk-loop-again-2 : At walk-lts.Need-loop-again-2
+  walk-loop-again-2 c = let w = word (c .before .before .before .before) in let g = c .before .before .enum-told5 .given .1 in (node-plain w g (c .before .if4 .taken), node-inside w (inl g))
 
-walk-part-rest-end-4 : (t : ℕ) → walk-lts.Need-part-rest-end-4 (rs t) (walk-at t) walk.Post walk-Inv-loop walk-μ-loop walk-Inv-tries walk-μ-tries
-walk-part-rest-end-4 t c = search needs
+  walk-enum-told-6 : At walk-lts.Need-enum-told-6
+  walk-enum-told-6 c = search needs
 
-walk-loop-less-3 : (t : ℕ) → walk-lts.Need-loop-less-3 (rs t) (walk-at t) walk.Post walk-Inv-loop walk-μ-loop walk-Inv-tries walk-μ-tries
-walk-loop-less-3 t c = tail-less _ (c .before .before .before .before .before .before .before .before .before .before .before .loop .rest .now) (omega arith) (c .before .before .before .before .before .before .before .before .before .before .loop-test .taken)
+  walk-trace-requires : At walk-lts.Need-trace-requires
+  walk-trace-requires c κs = (c .if6 .taken, mark-small (word (c .before .before .before .before)))
 
-walk-loop-again-3 : (t : ℕ) → walk-lts.Need-loop-again-3 (rs t) (walk-at t) walk.Post walk-Inv-loop walk-μ-loop walk-Inv-tries walk-μ-tries
-walk-loop-again-3 t c = let w = word t (c .before .before .before .before .before .before) in let g = c .before .before .before .before .enum-told6 .given .1 in (node-last w g (c .before .before .before .if5 .taken) (c .before .before .if6 .taken) (c .before .trace .ensures), node-inside w (inr g))
+  walk-sub-rest-4 : At walk-lts.Need-sub-rest-4
+  walk-sub-rest-4 c = search needs
 
--- the kind of a call: the candidates of a First, or below any other word
-kind : (t : ℕ) (c : walk-lts.At-match-came (rs t) (walk-at t) walk.Post walk-Inv-loop walk-μ-loop walk-Inv-tries walk-μ-tries)
-    → ((c .before .before .meet .result .go ≡ Tries) × (c .match .to ≡ 255)) ⊎ (Lower (c .before .before .meet .result .go) × (c .match .to ≡ c .before .before .meet .result .head))
-kind t c =
-    ⊎-elim (λ w. inl (w .1 .given .1, w .2)) (⊎-elim (λ w. inr (inl (w .1 .given .1), w .3)) (⊎-elim (λ w. inr (inr (w .1 .given .1), w .4)) (λ w. inr (inr (w .1 .given .1), w .3)))) (c .match .came)
+  walk-part-rest-start-4 : At walk-lts.Need-part-rest-start-4
+  walk-part-rest-start-4 c = search needs
 
--- its words lie in the row
-called : (t : ℕ) (c : walk-lts.At-match-came (rs t) (walk-at t) walk.Post walk-Inv-loop walk-μ-loop walk-Inv-tries walk-μ-tries)
-    → (1 ≤ c .before .extent .result) × (c .before .extent .result ≤ length (c .before .before .before .before .before .before .loop .rest .now))
-called t c = call-fits (word t (c .before)) _ (kind t c)
+  walk-part-rest-end-4 : At walk-lts.Need-part-rest-end-4
+  walk-part-rest-end-4 c = search needs
 
-walk-sub-walk : (t : ℕ) → walk-lts.Need-sub-walk (rs t) (walk-at t) walk.Post walk-Inv-loop walk-μ-loop walk-Inv-tries walk-μ-tries
-walk-sub-walk t c = called t c .0
+  walk-loop-less-3 : At walk-lts.Need-loop-less-3
+  walk-loop-less-3 c = let w = c .before .before .before .before .before .before in tail-less _ (row w .loop .rest .now) (omega arith) (word w .some-words)
 
-walk-part-walk-start : (t : ℕ) → walk-lts.Need-part-walk-start (rs t) (walk-at t) walk.Post walk-Inv-loop walk-μ-loop walk-Inv-tries walk-μ-tries
-walk-part-walk-start t c = called t c .0
+  walk-loop-again-3 : At walk-lts.Need-loop-again-3
+  walk-loop-again-3 c =
+      let f = c .before .before .before in
+      let w = word (f .before .before .before) in
+      let g = f .before .enum-told6 .given .1 in
+      (node-last w g (f .if5 .taken) (c .before .before .if6 .taken) (c .before .trace .ensures), node-inside w (inr g))
 
-walk-part-walk-end : (t : ℕ) → walk-lts.Need-part-walk-end (rs t) (walk-at t) walk.Post walk-Inv-loop walk-μ-loop walk-Inv-tries walk-μ-tries
-walk-part-walk-end t c = called t c .1
+  walk-sub-walk : At walk-lts.Need-sub-walk
+  walk-sub-walk c = called c .0
 
-walk-walk-requires : (t : ℕ) → walk-lts.Need-walk-requires (rs t) (walk-at t) walk.Post walk-Inv-loop walk-μ-loop walk-Inv-tries walk-μ-tries
-walk-walk-requires t c κs =
-    let f = called t (c .before .before) in
-    (simp (length-take, length-drop) (omega (arith, c .before .before .before .before .before .before .before .before .before .before .before .before .before .before .before .before .before .before .before .before .before .before .before .pre .0, c .before .before .before .before .before .before .before .before .loop .inv .0 .shorter, f)), call-ready (word t (c .before .before .before)) _ (kind t (c .before .before)))
+  walk-part-walk-start : At walk-lts.Need-part-walk-start
+  walk-part-walk-start c = called c .0
 
-walk-enum-told-7 : (t : ℕ) → walk-lts.Need-enum-told-7 (rs t) (walk-at t) walk.Post walk-Inv-loop walk-μ-loop walk-Inv-tries walk-μ-tries
-walk-enum-told-7 t c = search needs
+  walk-part-walk-end : At walk-lts.Need-part-walk-end
+  walk-part-walk-end c = called c .1
 
-walk-restore-requires : (t : ℕ) → walk-lts.Need-restore-requires (rs t) (walk-at t) walk.Post walk-Inv-loop walk-μ-loop walk-Inv-tries walk-μ-tries
-walk-restore-requires t c κs = ap (λ (l : List ℕ). length l) (c .before .before .before .walk .ensures .back (c .before .enum-told7 .given .1)) ∙ marked-size (c .before .before .before .before .before .before .before .before .meet .ensures .marked) ∙ c .before .before .before .before .before .before .before .before .before .before .before .before .loop .inv .0 .ready .size
+  walk-walk-requires : At walk-lts.Need-walk-requires
+  walk-walk-requires c κs =
+      let m = c .before .before in
+      let r = row (m .before) in
+      let s = start (passes (pass r) .before) in
+      let f = called m in
+      (simp (length-take, length-drop) (omega (arith, s .pre .0, r .loop .inv .0 .shorter, f)), call-ready (word (m .before)) (kind m))
 
-walk-wanted-requires-2 : (t : ℕ) → walk-lts.Need-wanted-requires-2 (rs t) (walk-at t) walk.Post walk-Inv-loop walk-μ-loop walk-Inv-tries walk-μ-tries
-walk-wanted-requires-2 t c κs = c .before .before .before .before .before .before .before .before .before .before .before .before .before .loop .inv .1
+  walk-enum-told-7 : At walk-lts.Need-enum-told-7
+  walk-enum-told-7 c = search needs
 
-walk-pass-requires-2 : (t : ℕ) → walk-lts.Need-pass-requires-2 (rs t) (walk-at t) walk.Post walk-Inv-loop walk-μ-loop walk-Inv-tries walk-μ-tries
-walk-pass-requires-2 t c κs = (called t (c .before .before .before .before .before .before .before .before) .1, c .wanted2 .ensures .1)
+  walk-restore-requires : At walk-lts.Need-restore-requires
+  walk-restore-requires c κs = let w = c .before .before .before in met-back (word (call w .before)) (w .walk .ensures) (c .before .enum-told7 .given .1)
 
-walk-sub-next : (t : ℕ) → walk-lts.Need-sub-next (rs t) (walk-at t) walk.Post walk-Inv-loop walk-μ-loop walk-Inv-tries walk-μ-tries
-walk-sub-next t c = c .pass2 .ensures .0
+  walk-wanted-requires-2 : At walk-lts.Need-wanted-requires-2
+  walk-wanted-requires-2 c κs = row (call (back c) .before) .loop .inv .1
 
-walk-mul-rest-3 : (t : ℕ) → walk-lts.Need-mul-rest-3 (rs t) (walk-at t) walk.Post walk-Inv-loop walk-μ-loop walk-Inv-tries walk-μ-tries
-walk-mul-rest-3 t c = record { fits = omega (arith, c .pass2 .ensures .1 .inside, c .before .before .before .before .before .before .before .before .before .before .before .before .before .before .before .loop .inv .0 .shorter, c .before .before .before .before .before .before .before .before .before .before .before .before .before .before .before .before .before .before .before .before .before .before .before .before .before .before .before .before .before .before .good .0) }
+  walk-skip-requires-2 : At walk-lts.Need-skip-requires-2
+  walk-skip-requires-2 c κs = (called (call (back (c .before))) .1, c .wanted2 .ensures .1)
 
-walk-sub-rest-5 : (t : ℕ) → walk-lts.Need-sub-rest-5 (rs t) (walk-at t) walk.Post walk-Inv-loop walk-μ-loop walk-Inv-tries walk-μ-tries
-walk-sub-rest-5 t c = c .pass2 .ensures .1 .inside
+  walk-sub-next : At walk-lts.Need-sub-next
+  walk-sub-next c = c .skip2 .ensures .0
 
-walk-part-rest-start-5 : (t : ℕ) → walk-lts.Need-part-rest-start-5 (rs t) (walk-at t) walk.Post walk-Inv-loop walk-μ-loop walk-Inv-tries walk-μ-tries
-walk-part-rest-start-5 t c = c .pass2 .ensures .1 .inside
+  walk-mul-rest-3 : At walk-lts.Need-mul-rest-3
+  walk-mul-rest-3 c =
+      let r = row (call (back (onward c)) .before) in
+      record { fits = omega (arith, c .skip2 .ensures .1 .inside, r .loop .inv .0 .shorter, start (passes (pass r) .before) .good .0) }
 
-walk-part-rest-end-5 : (t : ℕ) → walk-lts.Need-part-rest-end-5 (rs t) (walk-at t) walk.Post walk-Inv-loop walk-μ-loop walk-Inv-tries walk-μ-tries
-walk-part-rest-end-5 t c = search needs
+  walk-sub-rest-5 : At walk-lts.Need-sub-rest-5
+  walk-sub-rest-5 c = c .skip2 .ensures .1 .inside
 
-walk-loop-less-4 : (t : ℕ) → walk-lts.Need-loop-less-4 (rs t) (walk-at t) walk.Post walk-Inv-loop walk-μ-loop walk-Inv-tries walk-μ-tries
-walk-loop-less-4 t c = let f = called t (c .before .before .before .before .before .before .before .before .before .before) in let p = c .before .pass2 .ensures .1 in tail-less _ (c .before .before .before .before .before .before .before .before .before .before .before .before .before .before .before .before .loop .rest .now) (omega arith) (p .inside)
+  walk-part-rest-start-5 : At walk-lts.Need-part-rest-start-5
+  walk-part-rest-start-5 c = c .skip2 .ensures .1 .inside
 
-walk-loop-again-4 : (t : ℕ) → walk-lts.Need-loop-again-4 (rs t) (walk-at t) walk.Post walk-Inv-loop walk-μ-loop walk-Inv-tries walk-μ-tries
-walk-loop-again-4 t c = (node-missed (word t (c .before .before .before .before .before .before .before .before .before .before .before)) _ (kind t (c .before .before .before .before .before .before .before .before .before .before)) _ _ (c .before .before .before .before .before .before .before .walk .ensures) (c .before .before .before .before .before .enum-told7 .given .1) (c .before .before .before .before .before .before .before .before .before .before .before .before .before .before .before .before .loop .inv .1) _ (c .before .before .wanted2 .ensures .0) (c .before .pass2 .ensures .1) (c .before .before .before .restore .ensures), c .before .before .before .before .before .before .before .before .before .before .before .before .before .before .before .before .loop .inv .1)
+  walk-part-rest-end-5 : At walk-lts.Need-part-rest-end-5
+  walk-part-rest-end-5 c = search needs
 
-walk-unwind-requires : (t : ℕ) → walk-lts.Need-unwind-requires (rs t) (walk-at t) walk.Post walk-Inv-loop walk-μ-loop walk-Inv-tries walk-μ-tries
-walk-unwind-requires t c κs = c .before .before .loop .inv .0 .ready .size
+  walk-loop-less-4 : At walk-lts.Need-loop-less-4
+  walk-loop-less-4 c =
+      let m = call (back (onward (c .before))) in
+      let f = called m in
+      let p = c .before .skip2 .ensures .1 in
+      tail-less _ (row (m .before) .loop .rest .now) (omega arith) (p .inside)
 
-walk-add-j : (t : ℕ) → walk-lts.Need-add-j (rs t) (walk-at t) walk.Post walk-Inv-loop walk-μ-loop walk-Inv-tries walk-μ-tries
-walk-add-j t c = search needs
+  walk-loop-again-4 : At walk-lts.Need-loop-again-4
+  walk-loop-again-4 c =
+      let o = onward (c .before) in
+      let m = call (back o) in
+      let i = row (m .before) .loop .inv .1 in
+      let p = c .before in
+      (node-missed (word (m .before)) (kind m) (back o .walk .ensures) (missed o .enum-told7 .given .1) i (p .before .wanted2 .ensures .0) (p .skip2 .ensures .1) (o .restore .ensures), i)
 
-walk-tries-less : (t : ℕ) → walk-lts.Need-tries-less (rs t) (walk-at t) walk.Post walk-Inv-loop walk-μ-loop walk-Inv-tries walk-μ-tries
-walk-tries-less t c = search needs
+  walk-unwind-requires : At walk-lts.Need-unwind-requires
+  walk-unwind-requires c κs = c .before .before .loop .inv .0 .ready .size
 
-walk-tries-again : (t : ℕ) → walk-lts.Need-tries-again (rs t) (walk-at t) walk.Post walk-Inv-loop walk-μ-loop walk-Inv-tries walk-μ-tries
-walk-tries-again t c = (
-  omega arith,
-  (c .before .before .before .before .before .before .before .before .before .before .before .tries .j, c .unwind .ensures ∙ c .before .before .before .loop .inv .0 .undo ∙ begun t (c .before .before .before .before .before .before .before) ∙ ap (candidate (c .before .before .before .before .before .before .before .before .before .before .before .before .before .before .before .is-none .result) (c .before .before .before .before .before .before .before .before .before .before .before .tries .j)) (sym (c .before .before .before .before .before .before .before .before .before .before .before .before .reserve .ensures .1))),
-  rw (base t (c .before .before .before .before .before .before .before .before .before .before .before .before)) (next-turn t (c .before .before .before .before .before .before .before) ∙ then-on _ (walking-end (c .before .before .before .loop .inv .0) (c .before .before .loop-test .left))),
-)
+  walk-add-j : At walk-lts.Need-add-j
+  walk-add-j c = search needs
 
-walk-returns : (t : ℕ) → walk-lts.Need-returns (rs t) (walk-at t) walk.Post walk-Inv-loop walk-μ-loop walk-Inv-tries walk-μ-tries
-walk-returns t c =
-    let s = c .before .before .before .before .before .before .before .before .before .before in
-    let a = s .args in
-    let w = placed t (c .before .before .before) in
-    walked-missed (asked t (c .before .before .before .before .before .before .before) _ _ _ ∙ left t (c .before .before .before) ∙ runs-end (a .query .now) (a .budget) _ _ (c .before .before .before .before .before .before .before .is-none .result) _ _ _ (c .before .before .if1 .taken))
-    (c .release .ensures ∙ ap (λ (k : ℕ). released (c .before .before .before .before .before .before .before .is-none .result) k (c .before .before .before .tries .cells)) (c .before .before .before .before .reserve .ensures .0) ∙ ap (released (c .before .before .before .before .before .before .before .is-none .result) (keptIn (c .before .before .before .before .before .before .before .is-none .result) (a .cells .now))) (w .1) ∙ (waiting-release (c .before .before .before .before .before .before .before .is-none .result) (a .cells .now) (s .pre .1 .0 .size) (few t (c .before .before .before .before .before .before .before)) (w .0)))
+  walk-tries-less : At walk-lts.Need-tries-less
+  walk-tries-less c = search needs
 
-walk-returns-2 : (t : ℕ) → walk-lts.Need-returns-2 (rs t) (walk-at t) walk.Post walk-Inv-loop walk-μ-loop walk-Inv-tries walk-μ-tries
-walk-returns-2 t c =
-    let s = c .before .before .before .before .before .before .before .before .before .before in
-    let a = s .args in
-    let w = placed t (c .before .before .before) in
-    let less : length (take (getD (a .cells .now) 136 0) (a .cells .now)) < 8 = rw (chosen-length _ _ _ _ (s .pre .1 .0)) (few t (c .before .before .before .before .before .before .before) (c .before .if2 .taken)) in
-    walked-spent _ (asked t (c .before .before .before .before .before .before .before) _ _ _ ∙ left t (c .before .before .before) ∙ runs-spent (a .query .now) (a .budget) _ _ less (c .before .if2 .taken) _ _ _ (c .before .before .if1 .left) (c .if3 .taken))
-    (rw (w .1) (waiting-size (c .before .before .before .before .before .before .before .is-none .result) (a .cells .now) (s .pre .1 .0 .size) (few t (c .before .before .before .before .before .before .before)) (w .0)))
+  walk-tries-again : At walk-lts.Need-tries-again
+  walk-tries-again c =
+      let r = c .before .before .before in
+      let w = r .loop .inv .0 in
+      pass-missed (begun (pass r)) (walking-end w (c .before .before .loop-test .left)) (c .unwind .ensures ∙ w .undo)
 
-walk-returns-3 : (t : ℕ) → walk-lts.Need-returns-3 (rs t) (walk-at t) walk.Post walk-Inv-loop walk-μ-loop walk-Inv-tries walk-μ-tries
-walk-returns-3 t c = walked-broken _ (asked t (c .before .before .before .before .before .before .before .before .before .before .before .before .before .before .before .before .before .before .before) _ _ _ ∙ next-turn t (c .before .before .before .before .before .before .before .before .before .before .before) ∙ then-broken _ (node-stuck (word t (c .before .before)) (c .enum-told .given .1))) (marked-size (c .before .before .before .meet .ensures .marked) ∙ c .before .before .before .before .before .before .before .loop .inv .0 .ready .size ∙ sym (c .before .before .before .before .before .before .before .before .before .before .before .before .before .before .before .before .before .before .before .before .before .before .pre .1 .0 .size))
+  walk-returns : At walk-lts.Need-returns
+  walk-returns c = let p = c .before .before .before in between-ends (entry (p .before)) (p .tries .inv) (c .before .before .if1 .taken) (c .release .ensures)
 
-walk-returns-4 : (t : ℕ) → walk-lts.Need-returns-4 (rs t) (walk-at t) walk.Post walk-Inv-loop walk-μ-loop walk-Inv-tries walk-μ-tries
-walk-returns-4 t c = walked-found (c .before .before .before .before .meet .result .head) (c .operand .ensures) (asked t (c .before .before .before .before .before .before .before .before .before .before .before .before .before .before .before .before .before .before .before .before) _ _ _ ∙ next-turn t (c .before .before .before .before .before .before .before .before .before .before .before .before) ∙ then-covered _ (node-hit (word t (c .before .before .before)) (c .before .enum-told2 .given .1))) (marked-size (c .before .before .before .before .meet .ensures .marked) ∙ c .before .before .before .before .before .before .before .before .loop .inv .0 .ready .size ∙ sym (c .before .before .before .before .before .before .before .before .before .before .before .before .before .before .before .before .before .before .before .before .before .before .before .pre .1 .0 .size))
+  walk-returns-2 : At walk-lts.Need-returns-2
+  walk-returns-2 c = let p = c .before .before .before in between-spent (entry (p .before)) (p .tries .inv) (c .before .if2 .taken) (c .before .before .if1 .left) (c .if3 .taken)
 
-walk-returns-5 : (t : ℕ) → walk-lts.Need-returns-5 (rs t) (walk-at t) walk.Post walk-Inv-loop walk-μ-loop walk-Inv-tries walk-μ-tries
-walk-returns-5 t c =
-    let w = c .before .walk .ensures in
-    let nm : (c .before .walk .result .end ≡ Missed → ⊥) = λ m. let h = c .match2 .keys2 in miss (1 ∷ 2 ∷ 3 ∷ []) 0 tt (rw m at h) in
-    walked-same nm (asked t (c .before .before .before .before .before .before .before .before .before .before .before .before .before .before .before .before .before .before .before .before .before .before) _ _ _ ∙ next-turn t (c .before .before .before .before .before .before .before .before .before .before .before .before .before .before) ∙ then-found _ nm (node-ends (word t (c .before .before .before .before .before)) _ (kind t (c .before .before .before .before)) _ _ w nm) w) w (marked-size (c .before .before .before .before .before .before .meet .ensures .marked) ∙ c .before .before .before .before .before .before .before .before .before .before .loop .inv .0 .ready .size ∙ sym (c .before .before .before .before .before .before .before .before .before .before .before .before .before .before .before .before .before .before .before .before .before .before .before .before .before .pre .1 .0 .size))
+  walk-returns-3 : At walk-lts.Need-returns-3
+  walk-returns-3 c = let w = c .before .before in pass-broken (begun (pass (row w))) (met-size (word w)) _ (node-stuck (word w) (c .enum-told .given .1))
+
+  walk-returns-4 : At walk-lts.Need-returns-4
+  walk-returns-4 c = let w = c .before .before .before in pass-found (begun (pass (row w))) (met-size (word w)) _ (node-hit (word w) (c .before .enum-told2 .given .1)) (c .operand .ensures)
+
+  walk-returns-5 : At walk-lts.Need-returns-5
+  walk-returns-5 c =
+      let w = c .before .walk .ensures in
+      let m = call (c .before) in
+      let M = word (m .before) in
+      let nm : (c .before .walk .result .end ≡ Missed → ⊥) = λ e. let h = c .match2 .keys2 in miss (1 ∷ 2 ∷ 3 ∷ []) 0 tt (rw e at h) in
+      pass-ends (begun (pass (row (m .before)))) (met-size M) nm (node-ends M (kind m) w nm) w
 
 pub +walk-spec : {M : Type 1} → statement M
-+walk-spec = close μ-walk λ t. walk-lts.spec (rs t)
-    (walk-at t)
-    walk.Post
-    walk-Inv-loop
-    walk-μ-loop
-    walk-Inv-tries
-    walk-μ-tries
-    (walk-is-none-requires t)
-    (walk-passes-requires t)
-    (walk-reserve-requires t)
-    (walk-tries-holds t)
-    (walk-release-requires t)
-    (walk-add-n t)
-    (walk-begin-requires t)
-    (walk-wanted-requires t)
-    (walk-pass-requires t)
-    (walk-sub-start t)
-    (walk-mul-rest t)
-    (walk-sub-rest t)
-    (walk-part-rest-start t)
-    (walk-part-rest-end t)
-    (walk-loop-holds t)
-    (walk-shared-slice-read-w t)
-    (walk-meet-requires t)
-    (walk-extent-requires t)
-    (walk-enum-told t)
-    (walk-enum-told-2 t)
-    (walk-operand-requires t)
-    (walk-enum-told-3 t)
-    (walk-mul-rest-2 t)
-    (walk-sub-rest-2 t)
-    (walk-part-rest-start-2 t)
-    (walk-part-rest-end-2 t)
-    (walk-loop-less t)
-    (walk-loop-again t)
-    (walk-enum-told-4 t)
-    (walk-enum-told-5 t)
-    (walk-sub-rest-3 t)
-    (walk-part-rest-start-3 t)
-    (walk-part-rest-end-3 t)
-    (walk-loop-less-2 t)
-    (walk-loop-again-2 t)
-    (walk-enum-told-6 t)
-    (walk-trace-requires t)
-    (walk-sub-rest-4 t)
-    (walk-part-rest-start-4 t)
-    (walk-part-rest-end-4 t)
-    (walk-loop-less-3 t)
-    (walk-loop-again-3 t)
-    (walk-sub-walk t)
-    (walk-part-walk-start t)
-    (walk-part-walk-end t)
-    (walk-walk-requires t)
-    (walk-enum-told-7 t)
-    (walk-restore-requires t)
-    (walk-wanted-requires-2 t)
-    (walk-pass-requires-2 t)
-    (walk-sub-next t)
-    (walk-mul-rest-3 t)
-    (walk-sub-rest-5 t)
-    (walk-part-rest-start-5 t)
-    (walk-part-rest-end-5 t)
-    (walk-loop-less-4 t)
-    (walk-loop-again-4 t)
-    (walk-unwind-requires t)
-    (walk-add-j t)
-    (walk-tries-less t)
-    (walk-tries-again t)
-    (walk-returns t)
-    (walk-returns-2 t)
-    (walk-returns-3 t)
-    (walk-returns-4 t)
-    (walk-returns-5 t)
++walk-spec = close μ-walk λ t. walk-lts.spec (rs t) (walk-at t) walk.Post walk-Inv-loop walk-μ-loop walk-Inv-tries walk-μ-tries
+    (walk-is-none-requires t) (walk-passes-requires t) (walk-reserve-requires t) (walk-tries-holds t) (walk-release-requires t) (walk-add-n t)
+    (walk-begin-requires t) (walk-wanted-requires t) (walk-skip-requires t) (walk-sub-start t) (walk-mul-rest t) (walk-sub-rest t)
+    (walk-part-rest-start t) (walk-part-rest-end t) (walk-loop-holds t) (walk-shared-slice-read-w t) (walk-meet-requires t) (walk-extent-requires t)
+    (walk-enum-told t) (walk-enum-told-2 t) (walk-operand-requires t) (walk-enum-told-3 t) (walk-mul-rest-2 t) (walk-sub-rest-2 t)
+    (walk-part-rest-start-2 t) (walk-part-rest-end-2 t) (walk-loop-less t) (walk-loop-again t) (walk-enum-told-4 t) (walk-enum-told-5 t)
+    (walk-sub-rest-3 t) (walk-part-rest-start-3 t) (walk-part-rest-end-3 t) (walk-loop-less-2 t) (walk-loop-again-2 t) (walk-enum-told-6 t)
+    (walk-trace-requires t) (walk-sub-rest-4 t) (walk-part-rest-start-4 t) (walk-part-rest-end-4 t) (walk-loop-less-3 t) (walk-loop-again-3 t)
+    (walk-sub-walk t) (walk-part-walk-start t) (walk-part-walk-end t) (walk-walk-requires t) (walk-enum-told-7 t) (walk-restore-requires t)
+    (walk-wanted-requires-2 t) (walk-skip-requires-2 t) (walk-sub-next t) (walk-mul-rest-3 t) (walk-sub-rest-5 t) (walk-part-rest-start-5 t)
+    (walk-part-rest-end-5 t) (walk-loop-less-4 t) (walk-loop-again-4 t) (walk-unwind-requires t) (walk-add-j t) (walk-tries-less t)
+    (walk-tries-again t) (walk-returns t) (walk-returns-2 t) (walk-returns-3 t) (walk-returns-4 t) (walk-returns-5 t)
