@@ -1,12 +1,15 @@
 -- Block after block: what was fed so far.
 use mathlib.Core.Path.{_≡_, ap, ap₂, sym, _∙_}
-use mathlib.Core.List.{List, [], _++_}
-use Prim.Native.Nat.{ℕ, _+_, _*_, _≤_, _<_}
+use mathlib.Core.List.{List, [], _∷_, _++_}
+use Prim.Native.Nat.{ℕ, suc, _+_, _*_, _^_, _≤_, _<_}
 use native.Mathlib.Omega.{arith}
-use lib.ListN.{length, replicate, length-replicate}
+use lib.ListN.{length, getD, replicate, length-replicate}
+use Rattle.clause.specs.Lists.{none as nothing, also}
+use Rattle.clause.proofs.Lists.{all-append}
 use Rattle.clause.specs.Clause.{maxWords}
 use Rattle.record.specs.Text.{Written, written}
 use Rattle.record.specs.Line.{longestLine, longestLast, totalsLine}
+use Rattle.record.specs.Sheet.{Bytes}
 use Rattle.lines.proofs.Writing.{text-there}
 use Rattle.feeding.specs.Feed.{Store, Fed, feed, firstSession, firstStore}
 use Rattle.feeding.specs.inner.Steady.{Steady, recordsIn, Ready}
@@ -22,6 +25,11 @@ pub record Running (session : Session) (store : Store) (blocks : ℕ) : Type 0 w
   pub words : length (store .words) ≡ maxWords
   pub counts : recordsIn (session .totals) + blocks * blockBytes ≤ mostBlocks * blockBytes
 
+-- the elements of a slice of bytes are bytes
+pub bytes-of : (b : List ℕ) → ((i : ℕ) → getD b i 0 < 2 ^ 8) → Bytes b
+bytes-of [] f = nothing
+bytes-of (x ∷ b) f = also (f 0) (bytes-of b (λ i. f (suc i)))
+
 -- zeros in which the lines of any block fit
 pub room-in : (n : ℕ) → blockBytes * longestLine ≤ n → blockBytes * longestLine ≤ length {A = ℕ} (replicate n 0)
 room-in n h = rw (length-replicate {A = ℕ} n 0) h
@@ -33,7 +41,7 @@ enough = omega arith
 pub running-none : {s : Session} {m : Store} → s ≡ firstSession → m ≡ firstStore → Running s m mostBlocks
 unfolding feed firstStore
 running-none e f =
-    record { stands = record { bytes = []; read = e; lent = f }; steady = rw f steady-fresh; words = rw f (length-replicate {A = ℕ} maxWords 0); counts = rw e (omega arith) }
+    record { stands = record { bytes = []; small = nothing; read = e; lent = f }; steady = rw f steady-fresh; words = rw f (length-replicate {A = ℕ} maxWords 0); counts = rw e (omega arith) }
 
 -- a block can be fed
 pub block-ready : {s : Session} {m : Store} {n k : ℕ} {o : List ℕ} → Running s m n → 0 < n → k ≤ blockBytes → blockBytes * longestLine ≤ length o
@@ -41,10 +49,10 @@ pub block-ready : {s : Session} {m : Store} {n k : ℕ} {o : List ℕ} → Runni
 block-ready r h l b = record { steady = r .steady; words = r .words; counts = omega (arith, r .counts); room = omega arith }
 
 -- one block more
-pub running-more : {s s′ : Session} {m m′ : Store} {n n′ : ℕ} {t : List ℕ} (block : List ℕ) → Running s m n → n′ < n → length block ≤ blockBytes
+pub running-more : {s s′ : Session} {m m′ : Store} {n n′ : ℕ} {t : List ℕ} (block : List ℕ) → Bytes block → Running s m n → n′ < n → length block ≤ blockBytes
     → _≡_ {A = Fed} (record { session = s′; store = m′; text = t }) (feed s m block) → Steady (m′ .slice) (m′ .marks) → length (m′ .words) ≡ length (m .words)
     → Running s′ m′ n′
-running-more {s} {s′} {m} {m′} block r h l e d w =
+running-more {s} {s′} {m} {m′} block v r h l e d w =
     let b : List ℕ = r .stands .bytes in
     let q : feed s m block ≡ feed (feed firstSession firstStore b .session) (feed firstSession firstStore b .store) block = ap₂ (λ (x : Session) (y : Store). feed x y block) (r .stands .read) (r .stands .lent) in
     let a = feed-append b block firstSession firstStore in
@@ -54,6 +62,7 @@ running-more {s} {s′} {m} {m′} block r h l e d w =
       stands =
           record {
             bytes = b ++ block;
+            small = all-append (r .stands .small) v;
             read = ap (λ (f : Fed). f .session) (e ∙ q) ∙ sym (ap (λ (f : Fed). f .session) a);
             lent = ap (λ (f : Fed). f .store) (e ∙ q) ∙ sym (ap (λ (f : Fed). f .store) a);
           };
@@ -67,4 +76,4 @@ pub last-line : {s : Session} {m : Store} (o : List ℕ) {r : ℕ} {p : List ℕ
     → _≡_ {A = Written} (record { next = r; output = p }) (written (totalsLine (s .totals)) o 0) → r ≤ longestLast → longestLast ≤ length o → LastLine m p r
 last-line {s} o h e l k =
     let n : length (totalsLine (s .totals)) ≤ length o = omega (arith, ap (λ (w : Written). w .next) e) in
-    record { bytes = h .bytes; lent = h .lent; line = text-there (totalsLine (s .totals)) o n e ∙ ap (λ (x : Session). totalsLine (x .totals)) (h .read) }
+    record { bytes = h .bytes; small = h .small; lent = h .lent; line = text-there (totalsLine (s .totals)) o n e ∙ ap (λ (x : Session). totalsLine (x .totals)) (h .read) }

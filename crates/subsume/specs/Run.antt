@@ -4,6 +4,7 @@ use mathlib.Core.List.{List}
 use Prim.Native.Nat.{ℕ, _*_, _≤_}
 use lib.ListN.{length, take}
 use Rattle.record.specs.Line.{longestLine, totalsLine}
+use Rattle.record.specs.Sheet.{Bytes}
 use Rattle.feeding.specs.Feed.{Store, feed, firstSession, firstStore}
 use Rattle.feeding.specs.declared.Session.{Session}
 
@@ -20,14 +21,16 @@ pub record Buffers (input output : List ℕ) : Type 0 where
   pub block : length input ≡ blockBytes
   pub room : blockBytes * longestLine ≤ length output
 
--- some bytes were fed from the start on, and left the session and the lent words
+-- some bytes were fed from the start on, and left the session and the lent words; `Sheets` and `NoStrikeIsWrong` speak of them
 pub record FedSoFar (session : Session) (store : Store) : Type 0 where
   pub bytes : List ℕ
+  pub small : Bytes bytes
   pub read : session ≡ feed firstSession firstStore bytes .session
   pub lent : store ≡ feed firstSession firstStore bytes .store
 
 -- the lent words are those that some bytes left, and the output begins with their last line, which ends at a place
 pub record LastLine (store : Store) (output : List ℕ) (end : ℕ) : Type 0 where
   pub bytes : List ℕ
+  pub small : Bytes bytes
   pub lent : store ≡ feed firstSession firstStore bytes .store
   pub line : take end output ≡ totalsLine (feed firstSession firstStore bytes .session .totals)

@@ -1,5 +1,5 @@
 // The program: it reads records from standard input, and writes what becomes of them to standard output (document 01, "The program").
-// Every line is made by `feeding::feed`; here is only what moves the bytes.
+// A record's line is made by `feeding::feed`, the last one by `lines::put_totals`; here is only what moves the bytes.
 use clause::Clause;
 use feeding::Lent;
 use feeding::Session;
@@ -15,6 +15,7 @@ ghost use lib.ListN.{length, take};
 ghost use Rattle.feeding.specs.Feed.{storeOf, firstStore};
 ghost use Rattle.feeding.specs.inner.Steady.{Steady, Ready};
 ghost use Rattle.feeding.specs.Feed.{feed as Feed·feed};
+ghost use Rattle.record.specs.Sheet.{Bytes};
 ghost use Rattle.subsume.specs.Run.{Buffers, FedSoFar, LastLine};
 
 // The limits of a run.
@@ -98,6 +99,7 @@ fn feed_block(
     }
         ≡ Feed·feed session (storeOf (now (words .entry)) (now (tree .entry)) (now (marks .entry))) (now (block .entry)) ⌝ }
     ensures steady { λ _. ⌜ Steady (now (tree .exit)) (now (marks .exit)) ⌝ }
+    ensures bytes { λ _. ⌜ Bytes (now (block .entry)) ⌝ }
 {
     let turn = feed(block, session, tree, marks, words, output);
     let next = turn.next;

@@ -48,7 +48,7 @@ loop-again c =
     let l = c .before .before .before .before .before .before .before .before .before .before .before .before .before .before .before .before .before .before .before .before .before .loop .inv in
     let b = c .before .before .before .before .before .before .before .before .before .before .before .before .before .before .before .before .before .before .before .before .before .before .before .before .before .before .before .before .pre .0 in
     let f = c .before .before .before .before .before .before .before .before .before .feed-block .ensures in (
-      running-more _ (l .0) (c .left-after .ensures) (simp length-take (omega (arith, b .block, l .1, c .before .before .before .before .before .before .before .before .before .before .before .before .before .before .before .before .before .input .given))) (f .0) (f .1) (c .before .before .before .before .words .given),
+      running-more _ (f .1 .1) (l .0) (c .left-after .ensures) (simp length-take (omega (arith, b .block, l .1, c .before .before .before .before .before .before .before .before .before .before .before .before .before .before .before .before .before .input .given))) (f .0) (f .1 .0) (c .before .before .before .before .words .given),
       c .before .before .before .before .before .before .before .before .before .before .before .before .before .before .before .before .before .input .given ∙ l .1,
       c .before .before .before .before .before .before .before .before .tree .given ∙ l .2,
       c .before .before .before .before .before .before .marks .given ∙ l .3,

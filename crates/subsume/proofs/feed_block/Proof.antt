@@ -3,6 +3,7 @@ use mathlib.Core.Path.{sym}
 use native.Mathlib.Omega.{arith}
 use lib.Seq.{length-take-le}
 use Rattle.feeding.proofs.Blocks.{text-of}
+use Rattle.subsume.proofs.Blocks.{bytes-of}
 use borrow.Author.Needs.{needs}
 use Rattle.subsume.proofs.feed_block.Statement.{statement}
 use Rattle.subsume.proofs.feed_block.Tie as tie
@@ -34,7 +35,7 @@ same-length-4 c = search needs
 returns : tie.Need-returns
 returns c =
     let t = c .before .before .before .before .before .before .before .before .before .before .before .feed .ensures .0 in
-    (text-of t (omega (arith, c .before .before .before .before .before .before .before .before .before .before .before .before .before .before .before .before .before .before .before .before .before .pre .room)), t .steady)
+    (text-of t (omega (arith, c .before .before .before .before .before .before .before .before .before .before .before .before .before .before .before .before .before .before .before .before .before .pre .room)), (t .steady, bytes-of _ (λ i. omega (arith, c .before .before .before .before .before .before .before .before .before .before .before .before .before .before .before .before .before .before .before .before .shared-slice-known .given i))))
 
 pub feed-block-spec : {M : Type 1} → statement M
 feed-block-spec =
