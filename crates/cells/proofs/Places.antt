@@ -11,84 +11,85 @@ use Rattle.cells.specs.declared.Go.{Go}
 use lib.ListN.{length, getD, take, drop, set, length-take, length-drop, length-set}
 use lib.Seq.{take-set-le, take-set-lt, drop-set-lt, drop-set-add, take-suc-set, getD-take, getD-drop, getD-set-same, getD-set-other, set-set, set-getD, set-comm}
 use borrow.Author.Tests.{eq-eqb, ne-eqb}
-use Rattle.clause.specs.Clause.{literals, startOf}
+use Rattle.clause.specs.Clause.{maxWords, maxLiterals, literals, startOf}
 use Rattle.clause.proofs.Lists.{getD-map-lt}
 use Rattle.clause.proofs.Literals.{accepted}
+use Rattle.machine.specs.Machine.{slots}
 use Rattle.machine.proofs.Safe.{start-in}
-use Rattle.cells.specs.inner.Cells.{positionIn, placed, stateOf, restored, Marked, plain, store, unwound, reserved, candidate, released, keptIn, headAt, startAt, Walkable}
+use Rattle.cells.specs.inner.Cells.{putsAt, pushesAt, countAt, cellCount, noPosition, countIn, HasPlace, positionIn, placed, stateOf, restored, Marked, plain, store, unwound, reserved, candidate, released, keptIn, headAt, startAt, Walkable}
 
-pub place-none : {x : ℕ} → x ≡ 255 → positionIn x ≡ none
+pub place-none : {x : ℕ} → x ≡ noPosition → positionIn x ≡ none
 unfolding positionIn
-place-none {x} e = rw (eq-eqb x 255 e)
+place-none {x} e = rw (eq-eqb x noPosition e)
 
-pub place-some : {x : ℕ} → (x ≡ 255 → ⊥) → positionIn x ≡ some x
+pub place-some : {x : ℕ} → (x ≡ noPosition → ⊥) → positionIn x ≡ some x
 unfolding positionIn
-place-some {x} n = rw (ne-eqb x 255 n)
+place-some {x} n = rw (ne-eqb x noPosition n)
 
 map-set : {A B : Type 0} (f : A → B) (l : List A) (i : ℕ) (a : A) → map f (set l i a) ≡ set (map f l) i (f a)
 map-set f [] i a = refl
 map-set f (x ∷ l) zero a = refl
 map-set f (x ∷ l) (suc i) a = rw (map-set f l i a)
 
--- the 64 cells from a on, after a store before them, behind them, or among them
+-- the cells of the slots from a on, after a store before them, behind them, or among them
 module _ (a : ℕ) (l : List ℕ) where
   pub placed-before : (i x : ℕ) → i < a → placed a (set l i x) ≡ placed a l
   unfolding placed
   placed-before i x h = rw (drop-set-lt a l i x h)
 
-  pub placed-behind : (i x : ℕ) → a + 64 ≤ i → placed a (set l i x) ≡ placed a l
+  pub placed-behind : (i x : ℕ) → a + slots ≤ i → placed a (set l i x) ≡ placed a l
   unfolding placed
   placed-behind i x h =
       let e : i ≡ a + (i - a) = omega arith in
       let f : drop a (set l i x) ≡ set (drop a l) (i - a) x = ap (λ (n : ℕ). drop a (set l n x)) e ∙ drop-set-add a l (i - a) x in
-      rw (f, take-set-le 64 (drop a l) (i - a) x (omega arith))
+      rw (f, take-set-le slots (drop a l) (i - a) x (omega arith))
 
-  pub placed-at : (k x : ℕ) → k < 64 → placed a (set l (a + k) x) ≡ set (placed a l) k (positionIn x)
+  pub placed-at : (k x : ℕ) → k < slots → placed a (set l (a + k) x) ≡ set (placed a l) k (positionIn x)
   unfolding placed
-  placed-at k x h = rw (drop-set-add a l k x, take-set-lt 64 (drop a l) k x h, map-set positionIn (take 64 (drop a l)) k x)
+  placed-at k x h = rw (drop-set-add a l k x, take-set-lt slots (drop a l) k x h, map-set positionIn (take slots (drop a l)) k x)
 
-  pub placed-get : (k : ℕ) → k < 64 → a + k < length l → getD (placed a l) k none ≡ positionIn (getD l (a + k) 0)
+  pub placed-get : (k : ℕ) → k < slots → a + k < length l → getD (placed a l) k none ≡ positionIn (getD l (a + k) 0)
   unfolding placed
   placed-get k h g =
-      let n : k < length (take 64 (drop a l)) = simp (length-take, length-drop) (omega arith) in
-      getD-map-lt positionIn (take 64 (drop a l)) k 0 none n ∙ rw (getD-take 64 (drop a l) k 0 h, getD-drop a l k 0)
+      let n : k < length (take slots (drop a l)) = simp (length-take, length-drop) (omega arith) in
+      getD-map-lt positionIn (take slots (drop a l)) k 0 none n ∙ rw (getD-take slots (drop a l) k 0 h, getD-drop a l k 0)
 
 -- what a state says after a Put or a Push
-module _ (h : ℕ) (l : List ℕ) (few : getD l 136 0 ≤ 8) where
-  count-other : (i x : ℕ) → i < 136 → getD (set l i x) 136 0 ≡ getD l 136 0
-  count-other i x g = getD-set-other l i 136 x 0 (λ e. omega arith)
+module _ (h : ℕ) (l : List ℕ) (few : countIn l ≤ maxLiterals) where
+  count-other : (i x : ℕ) → i < countAt → countIn (set l i x) ≡ countIn l
+  count-other i x g = getD-set-other l i countAt x 0 (λ e. omega arith)
 
-  chosen-other : (i x : ℕ) → 8 ≤ i → i < 136 → take (getD (set l i x) 136 0) (set l i x) ≡ take (getD l 136 0) l
-  chosen-other i x g k = rw (count-other i x k, take-set-le (getD l 136 0) l i x (omega arith))
+  chosen-other : (i x : ℕ) → putsAt ≤ i → i < countAt → take (countIn (set l i x)) (set l i x) ≡ take (countIn l) l
+  chosen-other i x g k = rw (count-other i x k, take-set-le (countIn l) l i x (omega arith))
 
-  pub state-put : (k x : ℕ) → k < 64 → x < 255 → stateOf h (set l (8 + k) x) ≡ record { chosen = take (getD l 136 0) l; head = positionIn h; puts = set (placed 8 l) k (some x); pushes = placed 72 l }
+  pub state-put : (k x : ℕ) → k < slots → x < noPosition → stateOf h (set l (putsAt + k) x) ≡ record { chosen = take (countIn l) l; head = positionIn h; puts = set (placed putsAt l) k (some x); pushes = placed pushesAt l }
   state-put k x g v =
-      rw (chosen-other (8 + k) x (omega arith) (omega arith), placed-at 8 l k x g, placed-before 72 l (8 + k) x (omega arith), place-some {x = x} (λ e. omega arith))
+      rw (chosen-other (putsAt + k) x (omega arith) (omega arith), placed-at putsAt l k x g, placed-before pushesAt l (putsAt + k) x (omega arith), place-some {x = x} (λ e. omega arith))
 
-  pub state-push : (n x : ℕ) → n < 64 → x < 255 → stateOf h (set l (72 + n) x) ≡ record { chosen = take (getD l 136 0) l; head = positionIn h; puts = placed 8 l; pushes = set (placed 72 l) n (some x) }
+  pub state-push : (n x : ℕ) → n < slots → x < noPosition → stateOf h (set l (pushesAt + n) x) ≡ record { chosen = take (countIn l) l; head = positionIn h; puts = placed putsAt l; pushes = set (placed pushesAt l) n (some x) }
   state-push n x g v =
-      rw (chosen-other (72 + n) x (omega arith) (omega arith), placed-behind 8 l (72 + n) x (omega arith), placed-at 72 l n x g, place-some {x = x} (λ e. omega arith))
+      rw (chosen-other (pushesAt + n) x (omega arith) (omega arith), placed-behind putsAt l (pushesAt + n) x (omega arith), placed-at pushesAt l n x g, place-some {x = x} (λ e. omega arith))
 
 -- the cells while the candidates of a First are tried, with x as the latest
 abbrev pub waiting : Bool → ℕ → List ℕ → List ℕ
 waiting first x l = candidate first x (reserved first l)
 
 -- the place for a candidate
-module _ (l : List ℕ) (size : length l ≡ 256) (few : getD l 136 0 < 8) where
-  open-count : getD (set l 136 (getD l 136 0 + 1)) 136 0 ≡ getD l 136 0 + 1
-  open-count = getD-set-same l 136 (getD l 136 0 + 1) 0 (omega arith)
+module _ (l : List ℕ) (size : length l ≡ cellCount) (few : HasPlace l) where
+  open-count : countIn (set l countAt (countIn l + 1)) ≡ countIn l + 1
+  open-count = getD-set-same l countAt (countIn l + 1) 0 (omega arith)
 
   -- the place is the one after the earlier candidates
-  waiting-cells : (x : ℕ) → waiting true x l ≡ set (set l 136 (getD l 136 0 + 1)) (getD l 136 0) x
+  waiting-cells : (x : ℕ) → waiting true x l ≡ set (set l countAt (countIn l + 1)) (countIn l) x
   unfolding reserved candidate
-  waiting-cells x = let e : getD l 136 0 + 1 - 1 ≡ getD l 136 0 = omega arith in rw (open-count, e)
+  waiting-cells x = let e : countIn l + 1 - 1 ≡ countIn l = omega arith in rw (open-count, e)
 
-  waiting-count : (x : ℕ) → getD (waiting true x l) 136 0 ≡ getD l 136 0 + 1
+  waiting-count : (x : ℕ) → countIn (waiting true x l) ≡ countIn l + 1
   waiting-count x =
-      rw (waiting-cells x) (getD-set-other (set l 136 (getD l 136 0 + 1)) (getD l 136 0) 136 x 0 (λ e. omega arith) ∙ open-count)
+      rw (waiting-cells x) (getD-set-other (set l countAt (countIn l + 1)) (countIn l) countAt x 0 (λ e. omega arith) ∙ open-count)
 
 -- a place is made, filled anew, and taken away again
-module _ (first : Bool) (l : List ℕ) (size : length l ≡ 256) (few : first ≡ true → getD l 136 0 < 8) where
+module _ (first : Bool) (l : List ℕ) (size : length l ≡ cellCount) (few : first ≡ true → HasPlace l) where
   pub waiting-reserve : reserved first l ≡ waiting first (keptIn first l) l
   unfolding reserved candidate keptIn
   waiting-reserve = go first refl
@@ -96,9 +97,9 @@ module _ (first : Bool) (l : List ℕ) (size : length l ≡ 256) (few : first �
       go : (b : Bool) → first ≡ b → reserved b l ≡ waiting b (keptIn b l) l
       go false e = refl
       go true e =
-          let n = getD l 136 0 in
-          let o : getD (set l 136 (n + 1)) n 0 ≡ getD l n 0 = getD-set-other l 136 n (n + 1) 0 (λ z. omega (arith, few e)) in
-          sym (waiting-cells l size (few e) (getD l n 0) ∙ rw (← o, set-getD (set l 136 (n + 1)) n 0))
+          let n = countIn l in
+          let o : getD (set l countAt (n + 1)) n 0 ≡ getD l n 0 = getD-set-other l countAt n (n + 1) 0 (λ z. omega (arith, few e)) in
+          sym (waiting-cells l size (few e) (getD l n 0) ∙ rw (← o, set-getD (set l countAt (n + 1)) n 0))
 
   pub waiting-next : (x j : ℕ) → candidate first j (waiting first x l) ≡ waiting first j l
   unfolding candidate
@@ -107,9 +108,9 @@ module _ (first : Bool) (l : List ℕ) (size : length l ≡ 256) (few : first �
       go : (b : Bool) → first ≡ b → candidate b j (waiting b x l) ≡ waiting b j l
       go false e = refl
       go true e =
-          let n = getD l 136 0 in
+          let n = countIn l in
           let z : n + 1 - 1 ≡ n = omega arith in
-          rw (waiting-count l size (few e) x, z, waiting-cells l size (few e) x, waiting-cells l size (few e) j, set-set (set l 136 (n + 1)) n x j)
+          rw (waiting-count l size (few e) x, z, waiting-cells l size (few e) x, waiting-cells l size (few e) j, set-set (set l countAt (n + 1)) n x j)
 
   pub waiting-release : (x : ℕ) → released first (keptIn first l) (waiting first x l) ≡ l
   unfolding reserved candidate released keptIn
@@ -118,17 +119,17 @@ module _ (first : Bool) (l : List ℕ) (size : length l ≡ 256) (few : first �
       go : (b : Bool) → first ≡ b → released b (keptIn b l) (waiting b x l) ≡ l
       go false e = refl
       go true e =
-          let n = getD l 136 0 in
+          let n = countIn l in
           let z : n + 1 - 1 ≡ n = omega arith in
           rw (
             waiting-count l size (few e) x,
             z,
             waiting-cells l size (few e) x,
-            set-set (set l 136 (n + 1)) n x (getD l n 0),
-            set-comm l 136 n (n + 1) (getD l n 0) (λ y. omega (arith, few e)),
+            set-set (set l countAt (n + 1)) n x (getD l n 0),
+            set-comm l countAt n (n + 1) (getD l n 0) (λ y. omega (arith, few e)),
             set-getD l n 0,
-            set-set l 136 (n + 1) n,
-            set-getD l 136 0,
+            set-set l countAt (n + 1) n,
+            set-getD l countAt 0,
           )
 
   pub waiting-size : (x : ℕ) → length (waiting first x l) ≡ length l
@@ -139,38 +140,38 @@ module _ (first : Bool) (l : List ℕ) (size : length l ≡ 256) (few : first �
       go false = refl
       go true = simp length-set
 
-  pub waiting-few : getD l 136 0 ≤ 8 → (x : ℕ) → (getD (waiting first x l) 136 0 ≤ 8) × (first ≡ true → 1 ≤ getD (waiting first x l) 136 0)
+  pub waiting-few : countIn l ≤ maxLiterals → (x : ℕ) → (countIn (waiting first x l) ≤ maxLiterals) × (first ≡ true → 1 ≤ countIn (waiting first x l))
   unfolding reserved candidate
   waiting-few low x = go first refl
     where
-      go : (b : Bool) → first ≡ b → (getD (waiting b x l) 136 0 ≤ 8) × (b ≡ true → 1 ≤ getD (waiting b x l) 136 0)
+      go : (b : Bool) → first ≡ b → (countIn (waiting b x l) ≤ maxLiterals) × (b ≡ true → 1 ≤ countIn (waiting b x l))
       go false e = (low, λ f. let z : _≡_ {A = ℕ} 0 1 = cc in absurd (omega arith))
       go true e = let n = waiting-count l size (few e) x in (omega (arith, n, few e), λ f. omega (arith, n))
 
 -- a candidate begins: its state
 module _ (d t : List ℕ) (h : ℕ) (l : List ℕ) (R : Walkable d t h l) (j : ℕ) where
-  pub start-small : j < length (literals d) → startOf d j < 64
+  pub start-small : j < length (literals d) → startOf d j < maxWords
   start-small g = let C = accepted d (R .whole) in omega (arith, start-in d C j g, C .fits)
 
-  pub waiting-state : (first : Bool) → (first ≡ true → (getD l 136 0 < 8) × (j < length (literals d))) → stateOf (headAt d first h j) (waiting first j l) ≡ startAt d first j (stateOf h l)
+  pub waiting-state : (first : Bool) → (first ≡ true → (HasPlace l) × (j < length (literals d))) → stateOf (headAt d first h j) (waiting first j l) ≡ startAt d first j (stateOf h l)
   unfolding reserved candidate headAt startAt
   waiting-state false m = refl
   waiting-state true m =
-      let n = getD l 136 0 in
+      let n = countIn l in
       let s = R .size in
-      let g : n < 8 = m refl .0 in
-      let c : getD (set (set l 136 (n + 1)) n j) 136 0 ≡ suc n = rw (← waiting-cells l s g j) (waiting-count l s g j) ∙ add-one n in
+      let g : n < maxLiterals = m refl .0 in
+      let c : countIn (set (set l countAt (n + 1)) n j) ≡ suc n = rw (← waiting-cells l s g j) (waiting-count l s g j) ∙ add-one n in
       let p : positionIn (startOf d j) ≡ some (startOf d j) = place-some {x = startOf d j} (λ z. omega (arith, start-small (m refl .1))) in
       rw (
         waiting-cells l s g j,
         c,
         p,
-        take-suc-set (set l 136 (n + 1)) n j (simp length-set (omega arith)),
-        take-set-le n l 136 (n + 1) (omega arith),
-        placed-before 8 (set l 136 (n + 1)) n j (omega arith),
-        placed-behind 8 l 136 (n + 1) (omega arith),
-        placed-before 72 (set l 136 (n + 1)) n j (omega arith),
-        placed-behind 72 l 136 (n + 1) (omega arith),
+        take-suc-set (set l countAt (n + 1)) n j (simp length-set (omega arith)),
+        take-set-le n l countAt (n + 1) (omega arith),
+        placed-before putsAt (set l countAt (n + 1)) n j (omega arith),
+        placed-behind putsAt l countAt (n + 1) (omega arith),
+        placed-before pushesAt (set l countAt (n + 1)) n j (omega arith),
+        placed-behind pushesAt l countAt (n + 1) (omega arith),
       )
 
 -- storing back
@@ -224,5 +225,5 @@ unwound-traced t m l h k n =
     unwound-next (t * 2 ^ 16 + m) l (omega arith) ∙ rw (e, restored-low t m l k n)
 
 -- a query has at most 64 words
-pub few-words : {d t : List ℕ} {h : ℕ} {l : List ℕ} → Walkable d t h l → length d ≤ 64
+pub few-words : {d t : List ℕ} {h : ℕ} {l : List ℕ} → Walkable d t h l → length d ≤ maxWords
 few-words {d} R = accepted d (R .whole) .fits

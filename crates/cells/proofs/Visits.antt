@@ -11,14 +11,16 @@ use lib.Seq.{length-take-le}
 use native.Mathlib.Decide.{ℕ-discrete}
 use borrow.Author.Tests.{lt-ltb, le-ltb, eq-eqb, ne-eqb}
 use Rattle.clause.specs.Word.{arity}
-use Rattle.clause.specs.Clause.{term, termAt}
+use Rattle.clause.specs.Clause.{maxWords, maxLiterals, term, termAt}
 use Rattle.clause.specs.Positions.{jump, rights}
 use Rattle.clause.proofs.Literals.{accepted}
 use Rattle.clause.proofs.Ends.{jump-from, jump-le, term-part}
 use Rattle.clause.proofs.Siblings.{right-inside}
-use Rattle.machine.specs.Machine.{State, Outcome, onto, down, right, next, fails, given, headed, putting, pushing, require, within, sameTerms, compareTerms, stepAt, stepFrom, step, finish, finishFrom}
+use Rattle.machine.specs.Machine.{slots, State, Outcome, onto, down, right, next, fails, given, headed}
+use Rattle.machine.specs.Machine.{putting, pushing, require, within, sameTerms, compareTerms, stepAt, stepFrom, step, finish, finishFrom}
 use Rattle.machine.specs.Instr.{Step, Down, Right, Put, Push, Pop, Check, Compare, Instr, First, Do, Success, instruction}
 use Rattle.walk.specs.Words.{extends}
+use Rattle.cells.specs.inner.Cells.{putsAt, pushesAt, endsAt, rightsAt, cellCount, noPosition, countIn}
 use Rattle.cells.specs.inner.Cells.{positionIn, placed, stateOf, Met, past, bad, hit, firsts, stepped, reached, withWords, metAs, meeting, metOf, stores, plain, store, Visited, Tables, Walkable}
 use Rattle.cells.specs.declared.Go.{Go}
 use Rattle.cells.specs.declared.Go.the-variants.{Fails, Stuck, Below, Stored}
@@ -32,34 +34,34 @@ pub stays : (g : Go) (h : ℕ) (l : List ℕ) {m : Met} → stores g ≡ false �
 stays g h l n e = record { comes = e; marked = plain g n }
 
 -- a broken node, and one that fails
-pub sticks : (l : List ℕ) {m : Met} → bad ≡ m → Visited m l l (record { go = Stuck; head = 255; mark = 0 })
+pub sticks : (l : List ℕ) {m : Met} → bad ≡ m → Visited m l l (record { go = Stuck; head = noPosition; mark = 0 })
 unfolding metOf
-sticks l e = stays Stuck 255 l refl e
+sticks l e = stays Stuck noPosition l refl e
 
-pub misses : (l : List ℕ) {m : Met} → past ≡ m → Visited m l l (record { go = Fails; head = 255; mark = 0 })
+pub misses : (l : List ℕ) {m : Met} → past ≡ m → Visited m l l (record { go = Fails; head = noPosition; mark = 0 })
 unfolding metOf
-misses l e = stays Fails 255 l refl e
+misses l e = stays Fails noPosition l refl e
 
 -- another head
-pub moved-none : (h : ℕ) (l : List ℕ) {to : ℕ} → to ≡ 255 → bad ≡ stepped (given (positionIn to) (headed (stateOf h l)))
+pub moved-none : (h : ℕ) (l : List ℕ) {to : ℕ} → to ≡ noPosition → bad ≡ stepped (given (positionIn to) (headed (stateOf h l)))
 unfolding metOf stepped given
 moved-none h l e = rw (place-none e)
 
-pub moved-some : (h : ℕ) (l : List ℕ) {to : ℕ} → (to ≡ 255 → ⊥) → metOf Below (stateOf to l) ≡ stepped (given (positionIn to) (headed (stateOf h l)))
+pub moved-some : (h : ℕ) (l : List ℕ) {to : ℕ} → (to ≡ noPosition → ⊥) → metOf Below (stateOf to l) ≡ stepped (given (positionIn to) (headed (stateOf h l)))
 unfolding metOf stepped given
 moved-some h l n = rw (place-some n)
 
--- a number over 63
-pub over : (k : ℕ) (o : Outcome State) → 64 ≤ k → bad ≡ stepped (within k o)
+-- a number that is no slot
+pub over : (k : ℕ) (o : Outcome State) → slots ≤ k → bad ≡ stepped (within k o)
 unfolding metOf stepped require
-over k o h = rw (le-ltb k 64 h)
+over k o h = rw (le-ltb k slots h)
 
 -- the arguments and the right sibling
-pub down-none : (d : List ℕ) (p : ℕ) → arity (getD d p 0) ≡ 0 → positionIn 255 ≡ down d p
+pub down-none : (d : List ℕ) (p : ℕ) → arity (getD d p 0) ≡ 0 → positionIn noPosition ≡ down d p
 unfolding down onto
 down-none d p e = rw e (place-none refl)
 
-pub down-some : (d : List ℕ) (p : ℕ) → p < 64 → (arity (getD d p 0) ≡ 0 → ⊥) → positionIn (p + 1) ≡ down d p
+pub down-some : (d : List ℕ) (p : ℕ) → p < maxWords → (arity (getD d p 0) ≡ 0 → ⊥) → positionIn (p + 1) ≡ down d p
 unfolding down onto
 down-some d p h n =
     let e : arity (getD d p 0) ≡ suc (arity (getD d p 0) - 1) = omega arith in
@@ -67,18 +69,18 @@ down-some d p h n =
     rw (e, f) (place-some {x = suc p} (λ z. omega arith))
 
 pub down-stuck : (d : List ℕ) (h : ℕ) (l : List ℕ) → arity (getD d h 0) ≡ 0 → bad ≡ stepped (given (down d h) (headed (stateOf h l)))
-down-stuck d h l e = moved-none h l {to = 255} refl ∙ ap (λ (o : Option ℕ). stepped (given o (headed (stateOf h l)))) (down-none d h e)
+down-stuck d h l e = moved-none h l {to = noPosition} refl ∙ ap (λ (o : Option ℕ). stepped (given o (headed (stateOf h l)))) (down-none d h e)
 
-pub down-below : (d : List ℕ) (h : ℕ) (l : List ℕ) → (h < length d) × (length d ≤ 64) → (arity (getD d h 0) ≡ 0 → ⊥)
+pub down-below : (d : List ℕ) (h : ℕ) (l : List ℕ) → (h < length d) × (length d ≤ maxWords) → (arity (getD d h 0) ≡ 0 → ⊥)
     → metOf Below (stateOf (h + 1) l) ≡ stepped (given (down d h) (headed (stateOf h l)))
 down-below d h l p n = moved-some h l {to = h + 1} (λ z. omega (arith, p)) ∙ ap (λ (o : Option ℕ). stepped (given o (headed (stateOf h l)))) (down-some d h (omega (arith, p)) n)
 
 module _ (d t : List ℕ) (h : ℕ) (l : List ℕ) (R : Walkable d t h l) (inside : h < length d) where
-  pub right-none : getD t (72 + h) 0 ≡ 0 → positionIn 255 ≡ right d h
+  pub right-none : getD t (rightsAt + h) 0 ≡ 0 → positionIn noPosition ≡ right d h
   unfolding right onto
   right-none e = rw (sym (R .tables .rights h inside) ∙ e) (place-none refl)
 
-  pub right-some : (getD t (72 + h) 0 ≡ 0 → ⊥) → {x : ℕ} → x ≡ getD t (8 + h) 0 → (positionIn x ≡ right d h) × (x < 64)
+  pub right-some : (getD t (rightsAt + h) 0 ≡ 0 → ⊥) → {x : ℕ} → x ≡ getD t (endsAt + h) 0 → (positionIn x ≡ right d h) × (x < maxWords)
   unfolding right onto
   right-some n e =
       let r : rights d h ≡ suc (rights d h - 1) = omega (arith, R .tables .rights h inside) in
@@ -86,43 +88,43 @@ module _ (d t : List ℕ) (h : ℕ) (l : List ℕ) (R : Walkable d t h l) (insid
       let w = few-words R in
       (rw (e, R .tables .ends h inside, r) (place-some {x = jump d 1 h} (λ z. omega arith)), rw (e, R .tables .ends h inside) (omega arith))
 
-  pub right-stuck : getD t (72 + h) 0 ≡ 0 → bad ≡ stepped (given (right d h) (headed (stateOf h l)))
-  right-stuck e = moved-none h l {to = 255} refl ∙ ap (λ (o : Option ℕ). stepped (given o (headed (stateOf h l)))) (right-none e)
+  pub right-stuck : getD t (rightsAt + h) 0 ≡ 0 → bad ≡ stepped (given (right d h) (headed (stateOf h l)))
+  right-stuck e = moved-none h l {to = noPosition} refl ∙ ap (λ (o : Option ℕ). stepped (given o (headed (stateOf h l)))) (right-none e)
 
-  pub right-below : (getD t (72 + h) 0 ≡ 0 → ⊥) → {x : ℕ} → x ≡ getD t (8 + h) 0 → metOf Below (stateOf x l) ≡ stepped (given (right d h) (headed (stateOf h l)))
+  pub right-below : (getD t (rightsAt + h) 0 ≡ 0 → ⊥) → {x : ℕ} → x ≡ getD t (endsAt + h) 0 → metOf Below (stateOf x l) ≡ stepped (given (right d h) (headed (stateOf h l)))
   right-below n {x} e =
       let r = right-some n {x = x} e in
       moved-some h l {to = x} (λ z. omega (arith, r .1)) ∙ ap (λ (o : Option ℕ). stepped (given o (headed (stateOf h l)))) (r .0)
 
 -- Put and Push
-module _ (h : ℕ) (l : List ℕ) (few : getD l 136 0 ≤ 8) where
-  pub put-visit : (k : ℕ) → k < 64 → h < 64 → getD l (8 + k) 0 < 256
-      → Visited (stepped (within k (next (putting (stateOf h l) k h)))) l (set l (8 + k) h) (record { go = Stored; head = h; mark = (8 + k) * 256 + getD l (8 + k) 0 })
+module _ (h : ℕ) (l : List ℕ) (few : countIn l ≤ maxLiterals) where
+  pub put-visit : (k : ℕ) → k < slots → h < maxWords → getD l (putsAt + k) 0 < 256
+      → Visited (stepped (within k (next (putting (stateOf h l) k h)))) l (set l (putsAt + k) h) (record { go = Stored; head = h; mark = (putsAt + k) * 256 + getD l (putsAt + k) 0 })
   unfolding metOf stepped require
   put-visit k g v b =
       record {
-        comes = rw (lt-ltb k 64 g, state-put h l few k h g (omega arith));
-        marked = store (8 + k) h (omega arith) (omega arith) b;
+        comes = rw (lt-ltb k slots g, state-put h l few k h g (omega arith));
+        marked = store (putsAt + k) h (omega arith) (omega arith) b;
       }
 
-  pub push-visit : (n x : ℕ) → n < 64 → x < 256 → (x ≡ 255 → ⊥) → getD l (72 + n) 0 < 256
-      → Visited (stepped (within n (given (positionIn x) (pushing (stateOf h l) n)))) l (set l (72 + n) x) (record { go = Stored; head = h; mark = (72 + n) * 256 + getD l (72 + n) 0 })
+  pub push-visit : (n x : ℕ) → n < slots → x < 256 → (x ≡ noPosition → ⊥) → getD l (pushesAt + n) 0 < 256
+      → Visited (stepped (within n (given (positionIn x) (pushing (stateOf h l) n)))) l (set l (pushesAt + n) x) (record { go = Stored; head = h; mark = (pushesAt + n) * 256 + getD l (pushesAt + n) 0 })
   unfolding metOf stepped require given
   push-visit n x g v ne b =
       record {
-        comes = rw (lt-ltb n 64 g, place-some ne, state-push h l few n x g (omega arith));
-        marked = store (72 + n) x (omega arith) (omega arith) b;
+        comes = rw (lt-ltb n slots g, place-some ne, state-push h l few n x g (omega arith));
+        marked = store (pushesAt + n) x (omega arith) (omega arith) b;
       }
 
-pub push-none : (n : ℕ) (s : State) {x : ℕ} → x ≡ 255 → n < 64 → bad ≡ stepped (within n (given (positionIn x) (pushing s n)))
+pub push-none : (n : ℕ) (s : State) {x : ℕ} → x ≡ noPosition → n < slots → bad ≡ stepped (within n (given (positionIn x) (pushing s n)))
 unfolding metOf stepped require given
-push-none n s e g = rw (lt-ltb n 64 g, place-none e)
+push-none n s e g = rw (lt-ltb n slots g, place-none e)
 
 -- Pop
-pub pop-visit : (h : ℕ) (l : List ℕ) → length l ≡ 256 → (n : ℕ) → n < 64 → stepped (given (positionIn (getD l (72 + n) 0)) (headed (stateOf h l)))
-    ≡ stepped (within n (given (getD (placed 72 l) n none) (headed (stateOf h l))))
+pub pop-visit : (h : ℕ) (l : List ℕ) → length l ≡ cellCount → (n : ℕ) → n < slots → stepped (given (positionIn (getD l (pushesAt + n) 0)) (headed (stateOf h l)))
+    ≡ stepped (within n (given (getD (placed pushesAt l) n none) (headed (stateOf h l))))
 unfolding require
-pop-visit h l s n g = rw (lt-ltb n 64 g, placed-get 72 l n g (omega arith))
+pop-visit h l s n g = rw (lt-ltb n slots g, placed-get pushesAt l n g (omega arith))
 
 -- Check
 pub check-same : (s : State) (a b : ℕ) → a ≡ b → metOf Below s ≡ stepped (require fails (eqb a b) (next s))
@@ -135,7 +137,7 @@ check-other s a b n = rw (ne-eqb a b n)
 
 -- Compare
 -- the part that a term is
-module _ (d t : List ℕ) (T : Tables d t) (p : ℕ) (h : p < length d) {e : ℕ} (f : e ≡ getD t (8 + p) 0) where
+module _ (d t : List ℕ) (T : Tables d t) (p : ℕ) (h : p < length d) {e : ℕ} (f : e ≡ getD t (endsAt + p) 0) where
   pub part-start : p ≤ e
   part-start = rw (f, T .ends p h) (jump-from d 1 p)
 
@@ -146,37 +148,37 @@ module _ (d t : List ℕ) (T : Tables d t) (p : ℕ) (h : p < length d) {e : ℕ
   part-term = rw (f, T .ends p h) (term-part d p)
 
 module _ (d t : List ℕ) (h : ℕ) (l : List ℕ) (R : Walkable d t h l) (m k : ℕ) where
-  pub compare-over-m : 64 ≤ m → bad ≡ stepped (stepAt d (Compare m k) (stateOf h l) h)
+  pub compare-over-m : slots ≤ m → bad ≡ stepped (stepAt d (Compare m k) (stateOf h l) h)
   unfolding stepAt metOf stepped require
-  compare-over-m g = rw (le-ltb m 64 g)
+  compare-over-m g = rw (le-ltb m slots g)
 
-  module _ (u : m < 64) where
-    pub compare-over-k : 64 ≤ k → bad ≡ stepped (stepAt d (Compare m k) (stateOf h l) h)
+  module _ (u : m < slots) where
+    pub compare-over-k : slots ≤ k → bad ≡ stepped (stepAt d (Compare m k) (stateOf h l) h)
     unfolding stepAt metOf stepped require
-    compare-over-k g = rw (lt-ltb m 64 u, le-ltb k 64 g)
+    compare-over-k g = rw (lt-ltb m slots u, le-ltb k slots g)
 
-    module _ (v : k < 64) where
-      compare-places : stepAt d (Compare m k) (stateOf h l) h ≡ compareTerms d (stateOf h l) (positionIn (getD l (8 + m) 0)) (positionIn (getD l (8 + k) 0))
+    module _ (v : k < slots) where
+      compare-places : stepAt d (Compare m k) (stateOf h l) h ≡ compareTerms d (stateOf h l) (positionIn (getD l (putsAt + m) 0)) (positionIn (getD l (putsAt + k) 0))
       unfolding stepAt require
       compare-places =
           let s = R .size in
-          rw (lt-ltb m 64 u, lt-ltb k 64 v, placed-get 8 l m u (omega arith), placed-get 8 l k v (omega arith))
+          rw (lt-ltb m slots u, lt-ltb k slots v, placed-get putsAt l m u (omega arith), placed-get putsAt l k v (omega arith))
 
-      pub compare-no-m : {p : ℕ} → p ≡ getD l (8 + m) 0 → p ≡ 255 → bad ≡ stepped (stepAt d (Compare m k) (stateOf h l) h)
+      pub compare-no-m : {p : ℕ} → p ≡ getD l (putsAt + m) 0 → p ≡ noPosition → bad ≡ stepped (stepAt d (Compare m k) (stateOf h l) h)
       unfolding metOf stepped compareTerms
       compare-no-m e f = rw (compare-places, place-none (sym e ∙ f))
 
-      module _ {p : ℕ} (e : p ≡ getD l (8 + m) 0) (n : p ≡ 255 → ⊥) where
-        pub compare-no-k : {q : ℕ} → q ≡ getD l (8 + k) 0 → q ≡ 255 → bad ≡ stepped (stepAt d (Compare m k) (stateOf h l) h)
+      module _ {p : ℕ} (e : p ≡ getD l (putsAt + m) 0) (n : p ≡ noPosition → ⊥) where
+        pub compare-no-k : {q : ℕ} → q ≡ getD l (putsAt + k) 0 → q ≡ noPosition → bad ≡ stepped (stepAt d (Compare m k) (stateOf h l) h)
         unfolding metOf stepped compareTerms
         compare-no-k f g = rw (compare-places, ← e, place-some n, place-none (sym f ∙ g))
 
         pub put-inside-m : p < length d
-        put-inside-m = R .safe .puts m p (placed-get 8 l m u (omega (arith, R .size)) ∙ rw (← e) (place-some n))
+        put-inside-m = R .safe .puts m p (placed-get putsAt l m u (omega (arith, R .size)) ∙ rw (← e) (place-some n))
 
-        module _ {q : ℕ} (f : q ≡ getD l (8 + k) 0) (o : q ≡ 255 → ⊥) where
+        module _ {q : ℕ} (f : q ≡ getD l (putsAt + k) 0) (o : q ≡ noPosition → ⊥) where
           pub put-inside-k : q < length d
-          put-inside-k = R .safe .puts k q (placed-get 8 l k v (omega (arith, R .size)) ∙ rw (← f) (place-some o))
+          put-inside-k = R .safe .puts k q (placed-get putsAt l k v (omega (arith, R .size)) ∙ rw (← f) (place-some o))
 
           compare-both : stepAt d (Compare m k) (stateOf h l) h ≡ require fails (sameTerms d p q) (next (stateOf h l))
           unfolding compareTerms
@@ -195,8 +197,8 @@ module _ (d t : List ℕ) (h : ℕ) (l : List ℕ) (R : Walkable d t h l) where
   pub head-some : h < length d → positionIn h ≡ some h
   head-some g = let w = few-words R in place-some {x = h} (λ z. omega arith)
 
-  pub chosen-length : length (take (getD l 136 0) l) ≡ getD l 136 0
-  chosen-length = length-take-le (getD l 136 0) l (omega (arith, R .size, R .few))
+  pub chosen-length : length (take (countIn l) l) ≡ countIn l
+  chosen-length = length-take-le (countIn l) l (omega (arith, R .size, R .few))
 
 -- an instruction at a head
 module _ (d : List ℕ) (s : State) (p : ℕ) (e : s .head ≡ some p) where
@@ -293,7 +295,7 @@ met-early d w room s {op} e n h = go (extends w (room - 1)) refl
 
 -- a First in the row
 pub met-tries : (d t : List ℕ) (h : ℕ) (l : List ℕ) → Walkable d t h l → (w room : ℕ) → extends w (room - 1) ≡ true → {op : ℕ} → op ≡ w / 2 ^ 60 → op ≡ 1
-    → meeting d w room (stateOf h l) ≡ cond (ltb (getD l 136 0) 8) (firsts (stateOf h l)) bad
+    → meeting d w room (stateOf h l) ≡ cond (ltb (countIn l) maxLiterals) (firsts (stateOf h l)) bad
 unfolding meeting metAs instruction
 met-tries d t h l R w room ok e f = rw (ok, instrOf-word w, sym e ∙ f, chosen-length d t h l R)
 
@@ -306,7 +308,7 @@ pub act-success : (d t : List ℕ) (h : ℕ) (l : List ℕ) → Walkable d t h l
 unfolding instruction
 act-success d t h l R inside x = success-met d (stateOf h l) h (head-some d t h l R inside) x
 
-pub act-first : (d t : List ℕ) (h : ℕ) (l : List ℕ) → Walkable d t h l → (op x : ℕ) → op ≡ 1 → metAs d (instruction op x) (stateOf h l) ≡ cond (ltb (getD l 136 0) 8) (firsts (stateOf h l)) bad
+pub act-first : (d t : List ℕ) (h : ℕ) (l : List ℕ) → Walkable d t h l → (op x : ℕ) → op ≡ 1 → metAs d (instruction op x) (stateOf h l) ≡ cond (ltb (countIn l) maxLiterals) (firsts (stateOf h l)) bad
 unfolding metAs instruction
 act-first d t h l R op x e = rw (e, chosen-length d t h l R)
 
@@ -331,7 +333,7 @@ module _ (d t : List ℕ) (h : ℕ) (l : List ℕ) (R : Walkable d t h l) (insid
   unfolding instruction stepAt
   act-push e = at-step (Push x) (rw e)
 
-  pub act-pop : op ≡ 6 → metAs d (instruction op x) (stateOf h l) ≡ stepped (within x (given (getD (placed 72 l) x none) (headed (stateOf h l))))
+  pub act-pop : op ≡ 6 → metAs d (instruction op x) (stateOf h l) ≡ stepped (within x (given (getD (placed pushesAt l) x none) (headed (stateOf h l))))
   unfolding instruction stepAt
   act-pop e = at-step (Pop x) (rw e)
 

@@ -224,7 +224,8 @@ fn compare(
     x: u32,
 ) -> Visit
     requires { ⌜ Walkable (now query) (now tables) head (now cells) ⌝ }
-    ensures { λ r. ⌜ Visited (metCompare (now (query .entry)) (x / 2 ^ 16) (x % 2 ^ 16) head (now (cells .entry))) (now (cells .entry)) (now (cells .entry)) r ⌝ }
+    ensures { λ r. ⌜ Visited (metCompare (now (query .entry)) (x / 2 ^ 16) (x % 2 ^ 16) head (now (cells .entry)))
+        (now (cells .entry)) (now (cells .entry)) r ⌝ }
 {
     let m = (x / 0x1_0000) as usize;
     let k = (x % 0x1_0000) as usize;

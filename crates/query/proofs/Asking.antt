@@ -20,18 +20,18 @@ use Rattle.tree.specs.Laid.{usedOf, region, sized}
 use Rattle.walk.specs.Walk.{Answer, covered, notCovered, spent, broken, upTo}
 use Rattle.walk.specs.Words.{walkWords}
 use Rattle.walk.specs.Query.{witnessWords, machine, unanswered, told, walkSlice, queryAs, query}
-use Rattle.cells.specs.inner.Cells.{positionIn, placed, stateOf, Tables, Walkable}
+use Rattle.cells.specs.inner.Cells.{countAt, cellCount, noPosition, positionIn, placed, stateOf, Tables, Walkable}
 use Rattle.query.specs.inner.Findings.{seen, toldOut, refusalOf}
 
 -- the cells before the first candidate
 abbrev pub fresh : List ℕ
-fresh = set (replicate 256 255) 136 0
+fresh = set (replicate cellCount noPosition) countAt 0
 
-fresh-state : stateOf 255 fresh ≡ initial
+fresh-state : stateOf noPosition fresh ≡ initial
 unfolding positionIn placed unfilled
 fresh-state = refl
 
-pub fresh-ready : {d t : List ℕ} → Accepted d → Tables d t → Walkable d t 255 fresh
+pub fresh-ready : {d t : List ℕ} → Accepted d → Tables d t → Walkable d t noPosition fresh
 fresh-ready {d} A T = record { whole = A; tables = T; safe = rw fresh-state (initial-safe d); size = refl; few = omega arith }
 
 -- what is told of an answer is told of what is seen of it
@@ -48,7 +48,7 @@ used-part [] h e = absurd (omega arith)
 used-part (w ∷ ws) h {e} f = let n : e - 1 ≡ usedOf w = omega arith in rw n
 
 pub searched : (T d : List ℕ) (b : ℕ) (W : List ℕ) → 1 ≤ length T → {e : ℕ} → e ≡ usedOf (getD T 0 0) + 1
-    → toldOut b W (seen (walkWords (machine d) (upTo b) (take (e - 1) (drop 1 T)) (stateOf 255 fresh) 0)) ≡ told b W (walkSlice T d b)
+    → toldOut b W (seen (walkWords (machine d) (upTo b) (take (e - 1) (drop 1 T)) (stateOf noPosition fresh) 0)) ≡ told b W (walkSlice T d b)
 searched T d b W h f = rw (used-part T h f, fresh-state) (told-seen b W (walkSlice T d b))
 
 -- the tests one after another

@@ -7,7 +7,7 @@ use native.Mathlib.Omega.{arith}
 use native.Mathlib.Numerals.{add-one}
 use lib.ListN.{length}
 use borrow.Author.Tests.{le-leb, lt-leb, lt-ltb}
-use Rattle.clause.specs.Clause.{literals}
+use Rattle.clause.specs.Clause.{maxLiterals, literals}
 use Rattle.machine.specs.Machine.{State, enter, require}
 use Rattle.walk.specs.Walk.{Answer, covered, notCovered, spent, broken, Part, andThen, tries, upTo}
 use Rattle.walk.specs.Query.{machine, shown}
@@ -43,17 +43,17 @@ module _ (d : List ℕ) (b : ℕ) (k : State → Part State) (s : State) where
   unfolding runs startAt
   runs-plain e m j c h = let n : m - j ≡ suc (m - (j + 1)) = omega arith in rw (e, n, add-one)
 
-  module _ (few : length (s .chosen) < 8) where
+  module _ (few : length (s .chosen) < maxLiterals) where
     pub runs-spent : {first : Bool} → first ≡ true → (m j c : ℕ) → j < m → b ≤ c → runs d b first k s (m - j) j c ≡ spent
     unfolding runs enter require
-    runs-spent e m j c h g = let n : m - j ≡ suc (m - (j + 1)) = omega arith in rw (e, n, lt-ltb (length (s .chosen)) 8 few, lt-leb (suc c) b (omega arith))
+    runs-spent e m j c h g = let n : m - j ≡ suc (m - (j + 1)) = omega arith in rw (e, n, lt-ltb (length (s .chosen)) maxLiterals few, lt-leb (suc c) b (omega arith))
 
     pub runs-first : {first : Bool} → first ≡ true → (m j c : ℕ) → j < m → c < b
         → runs d b first k s (m - j) j c ≡ andThen (k (startAt d first j s) (c + 1)) (runs d b first k s (m - (j + 1)) (j + 1))
     unfolding runs enter require startAt
     runs-first e m j c h g =
         let n : m - j ≡ suc (m - (j + 1)) = omega arith in
-        rw (e, n, lt-ltb (length (s .chosen)) 8 few, le-leb (suc c) b (omega arith), add-one j, add-one c)
+        rw (e, n, lt-ltb (length (s .chosen)) maxLiterals few, le-leb (suc c) b (omega arith), add-one j, add-one c)
 
 -- what is seen of an answer
 pub seen-missed : (a : Answer State) {c : ℕ} → missed c ≡ seen a → a ≡ notCovered c

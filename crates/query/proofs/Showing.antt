@@ -11,8 +11,9 @@ use lib.Dec.{ltb, eqb}
 use borrow.Author.Tests.{lt-ltb, le-ltb}
 use lib.ListN.{length, getD, take, set, length-take, length-append, length-map}
 use lib.Seq.{getD-take, take-all}
-use Rattle.walk.specs.Query.{shown, written}
-use Rattle.cells.specs.inner.Cells.{positionIn, placed, stateOf}
+use Rattle.clause.specs.Clause.{maxLiterals}
+use Rattle.walk.specs.Query.{witnessWords, shown, written}
+use Rattle.cells.specs.inner.Cells.{putsAt, cellCount, noPosition, countIn, positionIn, placed, stateOf}
 use Rattle.walk.proofs.Witnessed.{shown-front, shown-none, shown-position}
 use Rattle.cells.proofs.Places.{placed-get}
 
@@ -37,42 +38,42 @@ written-on (none ∷ os) (w ∷ ws) (suc i) x e = ap (λ (l : List ℕ). w ∷ l
 written-on (some y ∷ os) (w ∷ ws) (suc i) x e = ap (λ (l : List ℕ). y ∷ l) (written-on os ws i x e)
 
 -- what the cells show
-module _ (l : List ℕ) (size : length l ≡ 256) (i : ℕ) where
-  chosen-there : i < 8 → i < getD l 136 0 → i < length (take (getD l 136 0) l)
+module _ (l : List ℕ) (size : length l ≡ cellCount) (i : ℕ) where
+  chosen-there : i < maxLiterals → i < countIn l → i < length (take (countIn l) l)
   chosen-there h g = simp length-take (omega arith)
 
-  pub shows-literal : i < 8 → i < getD l 136 0 → getD (shown (stateOf 255 l)) i none ≡ some (getD l i 0)
-  shows-literal h g = shown-front (stateOf 255 l) i h (chosen-there h g) ∙ ap (λ (x : ℕ). some x) (getD-take (getD l 136 0) l i 0 g)
+  pub shows-literal : i < maxLiterals → i < countIn l → getD (shown (stateOf noPosition l)) i none ≡ some (getD l i 0)
+  shows-literal h g = shown-front (stateOf noPosition l) i h (chosen-there h g) ∙ ap (λ (x : ℕ). some x) (getD-take (countIn l) l i 0 g)
 
-  pub shows-no-literal : i < 8 → getD l 136 0 ≤ i → getD (shown (stateOf 255 l)) i none ≡ none
-  shows-no-literal h g = shown-none (stateOf 255 l) i (simp length-take (omega arith)) h
+  pub shows-no-literal : i < maxLiterals → countIn l ≤ i → getD (shown (stateOf noPosition l)) i none ≡ none
+  shows-no-literal h g = shown-none (stateOf noPosition l) i (simp length-take (omega arith)) h
 
-  pub shows-position : 8 ≤ i → i < 72 → getD (shown (stateOf 255 l)) i none ≡ positionIn (getD l i 0)
+  pub shows-position : putsAt ≤ i → i < witnessWords → getD (shown (stateOf noPosition l)) i none ≡ positionIn (getD l i 0)
   shows-position h g =
-      let e : 8 + (i - 8) ≡ i = omega arith in
-      ap (λ (k : ℕ). getD (shown (stateOf 255 l)) k none) (sym e) ∙ shown-position (stateOf 255 l) (i - 8) ∙ placed-get 8 l (i - 8) (omega arith) (omega arith) ∙ rw e
+      let e : putsAt + (i - putsAt) ≡ i = omega arith in
+      ap (λ (k : ℕ). getD (shown (stateOf noPosition l)) k none) (sym e) ∙ shown-position (stateOf noPosition l) (i - putsAt) ∙ placed-get putsAt l (i - putsAt) (omega arith) (omega arith) ∙ rw e
 
 -- the same, by the tests of the code
-module _ (l : List ℕ) (size : length l ≡ 256) (i : ℕ) where
-  pub shows-front : i < 8 → {n : ℕ} → n ≡ getD l 136 0 → getD (shown (stateOf 255 l)) i none ≡ cond (ltb i n) (some (getD l i 0)) none
+module _ (l : List ℕ) (size : length l ≡ cellCount) (i : ℕ) where
+  pub shows-front : i < maxLiterals → {n : ℕ} → n ≡ countIn l → getD (shown (stateOf noPosition l)) i none ≡ cond (ltb i n) (some (getD l i 0)) none
   shows-front h {n} e = go (decLt i n)
     where
-      go : Dec (i < n) → getD (shown (stateOf 255 l)) i none ≡ cond (ltb i n) (some (getD l i 0)) none
+      go : Dec (i < n) → getD (shown (stateOf noPosition l)) i none ≡ cond (ltb i n) (some (getD l i 0)) none
       go (yes g) = shows-literal l size i h (omega arith) ∙ rw (lt-ltb i n g)
       go (no g) = shows-no-literal l size i h (omega arith) ∙ rw (le-ltb i n (omega arith))
 
-  pub shows-back : 8 ≤ i → i < 72 → {x : ℕ} → x ≡ getD l i 0 → getD (shown (stateOf 255 l)) i none ≡ cond (not (eqb x 255)) (some (getD l i 0)) none
+  pub shows-back : putsAt ≤ i → i < witnessWords → {x : ℕ} → x ≡ getD l i 0 → getD (shown (stateOf noPosition l)) i none ≡ cond (not (eqb x noPosition)) (some (getD l i 0)) none
   unfolding positionIn
-  shows-back h g e = rw e (shows-position l size i h g ∙ go (eqb (getD l i 0) 255))
+  shows-back h g e = rw e (shows-position l size i h g ∙ go (eqb (getD l i 0) noPosition))
     where
       go : (b : Bool) → cond b none (some (getD l i 0)) ≡ cond (not b) (some (getD l i 0)) none
       go true = refl
       go false = refl
 
 -- all words to show
-pub shown-all : (l : List ℕ) (i : ℕ) → 72 ≤ i → take i (shown (stateOf 255 l)) ≡ shown (stateOf 255 l)
+pub shown-all : (l : List ℕ) (i : ℕ) → witnessWords ≤ i → take i (shown (stateOf noPosition l)) ≡ shown (stateOf noPosition l)
 unfolding shown placed
-shown-all l i h = take-all i (shown (stateOf 255 l)) (simp (length-append, length-take, length-map) (omega arith))
+shown-all l i h = take-all i (shown (stateOf noPosition l)) (simp (length-append, length-take, length-map) (omega arith))
 
 -- one turn of the writing
 pub show-one : (os : List (Option ℕ)) (ws : List ℕ) (i x : ℕ) {b : Bool} → getD os i none ≡ cond b (some x) none → b ≡ true

@@ -22,7 +22,8 @@ use Rattle.query.specs.declared.End.the-variants.{Missed, Found, Broken,
 use Rattle.query.specs.declared.Finding.{Finding}
 use Rattle.cells.proofs.Places.{place-some, waiting, waiting-reserve, waiting-next, waiting-release, waiting-size, waiting-few, waiting-state}
 use Rattle.cells.proofs.Visits.{chosen-length}
-use Rattle.query.proofs.Passes.{runs, runs-whole, runs-end, runs-first, runs-plain, runs-spent, then-on, then-broken, then-covered, then-found, walked-missed, walked-spent, walked-broken, walked-found, walked-same}
+use Rattle.query.proofs.Passes.{runs, runs-whole, runs-end, runs-first, runs-plain, runs-spent}
+use Rattle.query.proofs.Passes.{then-on, then-broken, then-covered, then-found, walked-missed, walked-spent, walked-broken, walked-found, walked-same}
 
 -- the literal of a pass
 pass-literal : {first : Bool} {last q j : ℕ} → first ≡ true → last ≡ passesOf first q → {n : ℕ} → q ≡ n → j < last → j < n

@@ -21,7 +21,8 @@ use Rattle.tree.specs.Laid.{keyOf, extentOf}
 use Rattle.walk.specs.Walk.{Answer, covered, notCovered, spent, broken, Part, andThen, attempt, tries, upTo}
 use Rattle.walk.specs.Words.{extends, walkWords}
 use Rattle.walk.specs.Query.{machine}
-use Rattle.cells.specs.inner.Cells.{entered, positionIn, stateOf, Walkable, Met, past, bad, firsts, below, stepped, reached, metAs, meeting, metOf, stores, Marked, plain, store, Visited, unwound, restored, wantedAt, Skipped, headAt, startAt, passesOf}
+use Rattle.cells.specs.inner.Cells.{countAt, cellCount, noPosition, countIn, HasPlace, entered, positionIn, stateOf, Walkable}
+use Rattle.cells.specs.inner.Cells.{Met, past, bad, firsts, below, stepped, reached, metAs, meeting, metOf, stores, Marked, plain, store, Visited, unwound, restored, wantedAt, Skipped, headAt, startAt, passesOf}
 use Rattle.query.specs.inner.Findings.{Walked}
 use Rattle.cells.specs.declared.Go.{Go}
 use Rattle.cells.specs.declared.Go.the-variants.{Fails, Stuck, Hit, Tries, Below, Stored}
@@ -39,9 +40,9 @@ pub marked-size : {l m : List ℕ} {g : Go} {k : ℕ} → Marked l g k m → len
 marked-size (plain g n) = refl
 marked-size {l} (store i x low high small) = length-set l i x
 
-marked-count : {l m : List ℕ} {g : Go} {k : ℕ} → Marked l g k m → getD m 136 0 ≡ getD l 136 0
+marked-count : {l m : List ℕ} {g : Go} {k : ℕ} → Marked l g k m → countIn m ≡ countIn l
 marked-count (plain g n) = refl
-marked-count {l} (store i x low high small) = getD-set-other l i 136 x 0 (λ e. omega arith)
+marked-count {l} (store i x low high small) = getD-set-other l i countAt x 0 (λ e. omega arith)
 
 marked-small : {l m : List ℕ} {g : Go} {k : ℕ} → Marked l g k m → k < 2 ^ 16
 marked-small (plain g n) = omega arith
@@ -97,13 +98,13 @@ module _ (d : List ℕ) (s t : State) where
   below-by (some (Do x)) f e = f x (below-step (step d x s) e)
   below-by (some (Success n)) f e = absurd (below-finish (finish s) e)
 
-  firsts-same : (o : Option Instr) → firsts t ≡ metAs d o s → (t ≡ s) × (length (s .chosen) < 8)
+  firsts-same : (o : Option Instr) → firsts t ≡ metAs d o s → (t ≡ s) × (length (s .chosen) < maxLiterals)
   unfolding metAs
   firsts-same none e = let z : _≡_ {A = ℕ} 0 1 = cc in absurd (omega arith)
   firsts-same (some First) e = go (ltb (length (s .chosen)) maxLiterals) refl e
     where
-      go : (b : Bool) → ltb (length (s .chosen)) maxLiterals ≡ b → firsts t ≡ cond b (firsts s) bad → (t ≡ s) × (length (s .chosen) < 8)
-      go true f e = (cc, ltb-true (length (s .chosen)) 8 f)
+      go : (b : Bool) → ltb (length (s .chosen)) maxLiterals ≡ b → firsts t ≡ cond b (firsts s) bad → (t ≡ s) × (length (s .chosen) < maxLiterals)
+      go true f e = (cc, ltb-true (length (s .chosen)) maxLiterals f)
       go false f e = let z : _≡_ {A = ℕ} 0 1 = cc in absurd (omega arith)
   firsts-same (some (Do x)) e = absurd (firsts-step (step d x s) e)
   firsts-same (some (Success n)) e = absurd (firsts-finish (finish s) e)
@@ -172,22 +173,22 @@ module _ (d t : List ℕ) (h : ℕ) (l : List ℕ) (R : Walkable d t h l) (w roo
   pub visit-inside : Lower (v .go) → v .head < length d
   visit-inside g =
       let (q, e) = below-by d (stateOf h l) (stateOf (v .head) m) {P = (q : ℕ) × (positionIn (v .head) ≡ some q)} (instrOf (keyOf w)) (λ x f. step-headed d (stateOf h l) x f) (below-met g) in
-      go q e (ℕ-discrete (v .head) 255)
+      go q e (ℕ-discrete (v .head) noPosition)
     where
-      go : (q : ℕ) → positionIn (v .head) ≡ some q → Dec (v .head ≡ 255) → v .head < length d
+      go : (q : ℕ) → positionIn (v .head) ≡ some q → Dec (v .head ≡ noPosition) → v .head < length d
       go q e (yes z) = absurd (Option·none-ne-some q (sym (place-none z) ∙ e))
       go q e (no n) = visit-below g .safe .head (v .head) (place-some n)
 
-  pub visit-tries : v .go ≡ Tries → Walkable d t (v .head) m × (getD m 136 0 < 8)
+  pub visit-tries : v .go ≡ Tries → Walkable d t (v .head) m × (HasPlace m)
   unfolding metOf
   visit-tries e =
       let f = met-fits (λ z. tries≢stuck (sym e ∙ z)) .1 in
       let g = firsts-same d (stateOf h l) (stateOf (v .head) m) (instrOf (keyOf w)) (sym (rw e at f)) in
-      let few : getD l 136 0 < 8 = rw (chosen-length d t h l R) at (g .1) in
+      let few : HasPlace l = rw (chosen-length d t h l R) at (g .1) in
       (ready-as (rw (g .0) (R .safe)), rw (marked-count (met .marked)) few)
 
 -- without a head the state is as ready
-headless : (d t : List ℕ) (h : ℕ) (l : List ℕ) → Walkable d t h l → Walkable d t 255 l
+headless : (d t : List ℕ) (h : ℕ) (l : List ℕ) → Walkable d t h l → Walkable d t noPosition l
 headless d t h l R =
     record {
       whole = R .whole;
@@ -207,11 +208,14 @@ then-alike broken k l e = refl
 -- the candidates of a First do not depend on the head
 tries-head :
     (d : List ℕ) (b : ℕ) (k : State → Part State) (h : ℕ) (l : List ℕ) (m j n : ℕ)
-    → tries (machine d) (upTo b) k (stateOf h l) m j n ≡ tries (machine d) (upTo b) k (stateOf 255 l) m j n
+    → tries (machine d) (upTo b) k (stateOf h l) m j n ≡ tries (machine d) (upTo b) k (stateOf noPosition l) m j n
 unfolding enter
 tries-head d b k h l zero j n = refl
 tries-head d b k h l (suc m) j n =
-    then-alike (attempt (upTo b) (enter d j (stateOf 255 l)) k n) (tries (machine d) (upTo b) k (stateOf h l) m (suc j)) (tries (machine d) (upTo b) k (stateOf 255 l) m (suc j)) (tries-head d b k h l m (suc j))
+    then-alike (attempt (upTo b) (enter d j (stateOf noPosition l)) k n)
+    (tries (machine d) (upTo b) k (stateOf h l) m (suc j))
+    (tries (machine d) (upTo b) k (stateOf noPosition l) m (suc j))
+    (tries-head d b k h l m (suc j))
 
 -- past the Checks that fail
 pub passing : (d t : List ℕ) (b h : ℕ) (l : List ℕ) → Walkable d t h l → h < length d → (words : List ℕ) (at wanted n : ℕ) → wanted ≡ wantedAt d h → {r : ℕ} → Skipped words at wanted r
@@ -320,7 +324,12 @@ module _ {d t words : List ℕ} {b : ℕ} {s : State} {n₀ : ℕ} {cells₀ cel
       let all : take (x - 1) (drop 1 rest) ≡ drop 1 rest = take-all (x - 1) (drop 1 rest) (simp length-drop (omega (arith, h))) in
       let f : walkWords (machine d) (upTo b) words s n₀ ≡ part (stateOf (v .head) m) n =
       node ∙ rw (lower-met (stateOf (v .head) m) g) (then-nothing (part (stateOf (v .head) m) n) after (λ c. row-end (machine d) (upTo b) rest x (stateOf here cells) c (omega arith))) in
-      record { shorter = tail-le 1 rest (W .shorter); ready = visit-below d t here cells (W .ready) (getD rest 0 0) (length rest) h m v met g; undo = u ∙ W .undo; same = f ∙ rw (all, tail-drop 1 rest) }
+      record {
+        shorter = tail-le 1 rest (W .shorter);
+        ready = visit-below d t here cells (W .ready) (getD rest 0 0) (length rest) h m v met g;
+        undo = u ∙ W .undo;
+        same = f ∙ rw (all, tail-drop 1 rest);
+      }
 
   -- it stores nothing
   pub node-plain : v .go ≡ Below → x ≡ length rest → Walking d t words b s n₀ cells₀ m n (v .head) trail (tail 1 rest)
@@ -334,18 +343,18 @@ module _ {d t words : List ℕ} {b : ℕ} {s : State} {n₀ : ℕ} {cells₀ cel
   pub mark-small : v .mark < 2 ^ 16
   mark-small = marked-small (met .marked)
 
-  pub met-size : length m ≡ 256
+  pub met-size : length m ≡ cellCount
   met-size = marked-size (met .marked) ∙ W .ready .size
 
-  pub met-back : {a : Answer State} {out : List ℕ} {r : Finding} → Walked a m out r → r .end ≡ Missed → length out ≡ 256
+  pub met-back : {a : Answer State} {out : List ℕ} {r : Finding} → Walked a m out r → r .end ≡ Missed → length out ≡ cellCount
   met-back w e = ap (λ (l : List ℕ). length l) (w .back e) ∙ met-size
 
   pub node-inside : Lower (v .go) → v .head < length d
   node-inside = visit-inside d t here cells (W .ready) (getD rest 0 0) (length rest) h m v met
 
   -- a call on the words below: the candidates of a First, which hands on no head, or below any other word
-  module _ {to : ℕ} (kind : ((v .go ≡ Tries) × (to ≡ 255)) ⊎ (Lower (v .go) × (to ≡ v .head))) where
-    pub call-ready : Walkable d t to m × (to ≡ 255 → getD m 136 0 < 8)
+  module _ {to : ℕ} (kind : ((v .go ≡ Tries) × (to ≡ noPosition)) ⊎ (Lower (v .go) × (to ≡ v .head))) where
+    pub call-ready : Walkable d t to m × (to ≡ noPosition → HasPlace m)
     call-ready =
         ⊎-elim
         (λ k. let f = visit-tries d t here cells (W .ready) (getD rest 0 0) (length rest) h m v met (k .0) in (rw (k .1) (headless d t (v .head) m (f .0)), λ _. f .1))
@@ -355,20 +364,20 @@ module _ {d t words : List ℕ} {b : ℕ} {s : State} {n₀ : ℕ} {cells₀ cel
     pub call-fits : (1 ≤ x) × (x ≤ length rest)
     call-fits = ⊎-elim (λ k. fits-tries (k .0)) (λ k. fits-below (k .0)) kind
 
-    called-as : goingOn d b (getD rest 0 0 / 2 ^ 28 % 2 ^ 32) (metOf (v .go) (stateOf (v .head) m)) part n ≡ entered d b (eqb to 255) part (stateOf to m) n
+    called-as : goingOn d b (getD rest 0 0 / 2 ^ 28 % 2 ^ 32) (metOf (v .go) (stateOf (v .head) m)) part n ≡ entered d b (eqb to noPosition) part (stateOf to m) n
     unfolding metOf goingOn entered
     called-as =
         ⊎-elim
         (λ k. rw (k .0, k .1) (tries-head d b part (v .head) m (length (literals d)) 0 n))
-        (λ k. rw (lower-met (stateOf (v .head) m) (k .0), k .1, ne-eqb (v .head) 255 (λ z. omega (arith, node-inside (k .0), few-words (W .ready)))))
+        (λ k. rw (lower-met (stateOf (v .head) m) (k .0), k .1, ne-eqb (v .head) noPosition (λ z. omega (arith, node-inside (k .0), few-words (W .ready)))))
         kind
 
-    module _ {out : List ℕ} {r : Finding} (walked : Walked (entered d b (eqb to 255) part (stateOf to m) n) m out r) where
-      node-call : walkWords (machine d) (upTo b) words s n₀ ≡ andThen (entered d b (eqb to 255) part (stateOf to m) n) after
+    module _ {out : List ℕ} {r : Finding} (walked : Walked (entered d b (eqb to noPosition) part (stateOf to m) n) m out r) where
+      node-call : walkWords (machine d) (upTo b) words s n₀ ≡ andThen (entered d b (eqb to noPosition) part (stateOf to m) n) after
       node-call = node ∙ ap (λ (a : Answer State). andThen a after) called-as
 
-      pub node-ends : (r .end ≡ Missed → ⊥) → walkWords (machine d) (upTo b) words s n₀ ≡ entered d b (eqb to 255) part (stateOf to m) n
-      node-ends nm = node-call ∙ then-ends (entered d b (eqb to 255) part (stateOf to m) n) after (r .end) (r .count) out nm (walked .comes)
+      pub node-ends : (r .end ≡ Missed → ⊥) → walkWords (machine d) (upTo b) words s n₀ ≡ entered d b (eqb to noPosition) part (stateOf to m) n
+      node-ends nm = node-call ∙ then-ends (entered d b (eqb to noPosition) part (stateOf to m) n) after (r .end) (r .count) out nm (walked .comes)
 
       pub node-back : r .end ≡ Missed → restored (v .mark) out ≡ cells
       node-back e = ap (restored (v .mark)) (walked .back e) ∙ restored-marked (met .marked)
@@ -377,7 +386,7 @@ module _ {d t words : List ℕ} {b : ℕ} {s : State} {n₀ : ℕ} {cells₀ cel
       pub node-next : r .end ≡ Missed → {l : List ℕ} → l ≡ restored (v .mark) out → Walking d t words b s n₀ cells₀ l (r .count) here trail (tail x rest)
       node-next e f =
           let g : walkWords (machine d) (upTo b) words s n₀ ≡ after (r .count) =
-          node-call ∙ then-on after (missed-of (entered d b (eqb to 255) part (stateOf to m) n) (r .end) (r .count) out e (walked .comes)) in
+          node-call ∙ then-on after (missed-of (entered d b (eqb to noPosition) part (stateOf to m) n) (r .end) (r .count) out e (walked .comes)) in
           rw (f ∙ node-back e) (record { shorter = tail-le x rest (W .shorter); ready = W .ready; undo = W .undo; same = g ∙ rw (tail-drop x rest) })
 
       -- and past the Checks that fail there
