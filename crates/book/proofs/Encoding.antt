@@ -9,7 +9,7 @@ use lib.ListN.{length, take, drop, getD, length-drop, length-append, drop-of-len
 use lib.Seq.{drop-cons, drop-drop, take-all, getD-drop, take-append-seam, drop-append-seam}
 use Rattle.clause.specs.Lists.{All, none, also}
 use Rattle.clause.specs.Word.{Words}
-use Rattle.clause.proofs.Lists.{all-append, all-take}
+use Rattle.clause.proofs.Lists.{all-append, all-below, all-take}
 use Rattle.book.specs.Book.{Call, insert, remove, AllFit, after}
 use Rattle.book.specs.Encoding.{whole, callsWithin, callsOf, Short, HasWords, Ran}
 
@@ -55,14 +55,9 @@ take-min n ws m e = go (decLe n (length ws))
     go (yes h) = let f : m ≡ n = omega arith in rw f
     go (no h) = take-all m ws (omega arith) ∙ sym (take-all n ws (omega arith))
 
--- words of 16 bits, one by one
-words-of : (ws : List ℕ) → ((i : ℕ) → getD ws i 0 < 2 ^ 16) → Words ws
-words-of [] f = none
-words-of (w ∷ ws) f = also (f 0) (words-of ws (λ i. f (suc i)))
-
--- those of a part
+-- words of 16 bits, of a part
 pub words-part : (ws : List ℕ) → ((i : ℕ) → getD ws i 0 < 2 ^ 16) → (from n : ℕ) → Words (take n (drop from ws))
-words-part ws f from n = all-take n (words-of (drop from ws) (λ i. rw (getD-drop from ws i 0) (f (from + i))))
+words-part ws f from n = all-take n (all-below (2 ^ 16) (drop from ws) (λ i. rw (getD-drop from ws i 0) (f (from + i))))
 
 module _ (ws : List ℕ) (at : ℕ) (inside : at + 3 ≤ length ws) where
   -- the three words of a call, and what follows them

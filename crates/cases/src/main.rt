@@ -9,7 +9,8 @@
 // W: put the clause as a query, with a blank witness of so many words, and write each word of the witness that the query wrote: of the literals,
 // of the positions, or past both, its index there and its value. N: the ceiling of the slice's first three words.
 // S: write the words after the header that are not 0, each an instruction and an extent, or `none`. E: their extents alone.
-// A refusal is written as its code and its values. A tree word: one digit of operation, 8 of operand, 7 of extent. A header: 8 of used words, 8 of kept clauses.
+// A refusal is written as its code and its values.
+// A tree word: one digit of operation, 8 of operand, 7 of extent. A header: 8 of used words, 8 of kept clauses.
 mod calls;
 mod lines;
 mod pieces;

@@ -16,7 +16,8 @@ use Rattle.clause.proofs.Lists.{getD-map-lt}
 use Rattle.clause.proofs.Literals.{accepted}
 use Rattle.machine.specs.Machine.{slots}
 use Rattle.machine.proofs.Safe.{start-in}
-use Rattle.cells.specs.inner.Cells.{putsAt, pushesAt, countAt, cellCount, noPosition, countIn, HasPlace, positionIn, placed, stateOf, restored, Marked, plain, store, unwound, reserved, candidate, released, keptIn, headAt, startAt, Walkable}
+use Rattle.cells.specs.inner.Cells.{putsAt, pushesAt, countAt, cellCount, noPosition, countIn, HasPlace, positionIn, placed, stateOf, restored}
+use Rattle.cells.specs.inner.Cells.{Marked, plain, store, unwound, reserved, candidate, released, keptIn, headAt, startAt, Walkable}
 
 pub place-none : {x : ℕ} → x ≡ noPosition → positionIn x ≡ none
 unfolding positionIn
@@ -62,11 +63,13 @@ module _ (h : ℕ) (l : List ℕ) (few : countIn l ≤ maxLiterals) where
   chosen-other : (i x : ℕ) → putsAt ≤ i → i < countAt → take (countIn (set l i x)) (set l i x) ≡ take (countIn l) l
   chosen-other i x g k = rw (count-other i x k, take-set-le (countIn l) l i x (omega arith))
 
-  pub state-put : (k x : ℕ) → k < slots → x < noPosition → stateOf h (set l (putsAt + k) x) ≡ record { chosen = take (countIn l) l; head = positionIn h; puts = set (placed putsAt l) k (some x); pushes = placed pushesAt l }
+  pub state-put : (k x : ℕ) → k < slots → x < noPosition
+      → stateOf h (set l (putsAt + k) x) ≡ record { chosen = take (countIn l) l; head = positionIn h; puts = set (placed putsAt l) k (some x); pushes = placed pushesAt l }
   state-put k x g v =
       rw (chosen-other (putsAt + k) x (omega arith) (omega arith), placed-at putsAt l k x g, placed-before pushesAt l (putsAt + k) x (omega arith), place-some {x = x} (λ e. omega arith))
 
-  pub state-push : (n x : ℕ) → n < slots → x < noPosition → stateOf h (set l (pushesAt + n) x) ≡ record { chosen = take (countIn l) l; head = positionIn h; puts = placed putsAt l; pushes = set (placed pushesAt l) n (some x) }
+  pub state-push : (n x : ℕ) → n < slots → x < noPosition
+      → stateOf h (set l (pushesAt + n) x) ≡ record { chosen = take (countIn l) l; head = positionIn h; puts = placed putsAt l; pushes = set (placed pushesAt l) n (some x) }
   state-push n x g v =
       rw (chosen-other (pushesAt + n) x (omega arith) (omega arith), placed-behind putsAt l (pushesAt + n) x (omega arith), placed-at pushesAt l n x g, place-some {x = x} (λ e. omega arith))
 

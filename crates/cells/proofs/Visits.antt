@@ -108,7 +108,8 @@ module _ (h : ℕ) (l : List ℕ) (few : countIn l ≤ maxLiterals) where
       }
 
   pub push-visit : (n x : ℕ) → n < slots → x < 256 → (x ≡ noPosition → ⊥) → getD l (pushesAt + n) 0 < 256
-      → Visited (stepped (within n (given (positionIn x) (pushing (stateOf h l) n)))) l (set l (pushesAt + n) x) (record { go = Stored; head = h; mark = (pushesAt + n) * 256 + getD l (pushesAt + n) 0 })
+      → Visited (stepped (within n (given (positionIn x) (pushing (stateOf h l) n)))) l (set l (pushesAt + n) x)
+      (record { go = Stored; head = h; mark = (pushesAt + n) * 256 + getD l (pushesAt + n) 0 })
   unfolding metOf stepped require given
   push-visit n x g v ne b =
       record {
@@ -225,7 +226,8 @@ nothing-over (suc (suc (suc (suc (suc (suc (suc (suc zero)))))))) x h = absurd (
 nothing-over (suc (suc (suc (suc (suc (suc (suc (suc (suc op))))))))) x h = refl
 
 -- an operation that is none of 0 to 8
-pub rest-over : (op : ℕ) → (op ≡ 0 → ⊥) → (op ≡ 1 → ⊥) → (op ≡ 2 → ⊥) → (op ≡ 3 → ⊥) → (op ≡ 4 → ⊥) → (op ≡ 5 → ⊥) → (op ≡ 6 → ⊥) → (op ≡ 7 → ⊥) → (op ≡ 8 → ⊥) → 9 ≤ op
+pub rest-over : (op : ℕ) → (op ≡ 0 → ⊥) → (op ≡ 1 → ⊥) → (op ≡ 2 → ⊥) → (op ≡ 3 → ⊥) → (op ≡ 4 → ⊥)
+    → (op ≡ 5 → ⊥) → (op ≡ 6 → ⊥) → (op ≡ 7 → ⊥) → (op ≡ 8 → ⊥) → 9 ≤ op
 rest-over zero n0 n1 n2 n3 n4 n5 n6 n7 n8 = absurd (n0 refl)
 rest-over (suc zero) n0 n1 n2 n3 n4 n5 n6 n7 n8 = absurd (n1 refl)
 rest-over (suc (suc zero)) n0 n1 n2 n3 n4 n5 n6 n7 n8 = absurd (n2 refl)
@@ -308,7 +310,8 @@ pub act-success : (d t : List ℕ) (h : ℕ) (l : List ℕ) → Walkable d t h l
 unfolding instruction
 act-success d t h l R inside x = success-met d (stateOf h l) h (head-some d t h l R inside) x
 
-pub act-first : (d t : List ℕ) (h : ℕ) (l : List ℕ) → Walkable d t h l → (op x : ℕ) → op ≡ 1 → metAs d (instruction op x) (stateOf h l) ≡ cond (ltb (countIn l) maxLiterals) (firsts (stateOf h l)) bad
+pub act-first : (d t : List ℕ) (h : ℕ) (l : List ℕ) → Walkable d t h l → (op x : ℕ) → op ≡ 1
+    → metAs d (instruction op x) (stateOf h l) ≡ cond (ltb (countIn l) maxLiterals) (firsts (stateOf h l)) bad
 unfolding metAs instruction
 act-first d t h l R op x e = rw (e, chosen-length d t h l R)
 

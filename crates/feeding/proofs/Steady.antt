@@ -11,7 +11,6 @@ use lib.Dec.{leb}
 use lib.ListN.{length, getD, set, length-set, replicate, length-replicate, getD-replicate}
 use lib.Seq.{getD-set-same, getD-set-other}
 use borrow.Author.Tests.{leb-false}
-use Rattle.clause.specs.Lists.{none as nothing, also}
 use Rattle.clause.specs.Word.{Words}
 use Rattle.clause.specs.Clause.{shape}
 use Rattle.machine.specs.Compile.{keys}
@@ -86,7 +85,8 @@ module _ {S K : List ℕ} (h : Steady S K) where
       grown = tree-laws .paths (ins (keys c) n (decode S)) (formed .0)
 
       -- a number other than n is where it was
-      other : (m : ℕ) → m < numberCount → (m ≡ n → ⊥) → (find m (decode S) ≡ none → find m (ins (keys c) n (decode S)) ≡ none) × (find m (ins (keys c) n (decode S)) ≡ none → find m (decode S) ≡ none)
+      other : (m : ℕ) → m < numberCount → (m ≡ n → ⊥)
+          → (find m (decode S) ≡ none → find m (ins (keys c) n (decode S)) ≡ none) × (find m (ins (keys c) n (decode S)) ≡ none → find m (decode S) ≡ none)
       other m k d = (
         λ v. grown .missing m (omega arith) .1 (λ cs p. ⊎-elim (λ w. d (w .1)) (λ w. paths .missing m (omega arith) .0 v cs w) (formed .1 cs m .0 p)),
         λ v. paths .missing m (omega arith) .1 (λ cs p. grown .missing m (omega arith) .0 v cs (formed .1 cs m .1 (inr p))),
@@ -128,11 +128,6 @@ module _ {S K : List ℕ} (h : Steady S K) where
         go none v false p true r = rw (absent, v, p, r, insertInto) (refusing NoRoom)
         go none v false p false r =
             rw (absent, v, p, r, insertInto) (keeping (kept (paths .free (keys c) .0 v) (leb-false maxKept (leaves (decode S)) p) (leb-false (length S) (size (ins (keys c) n (decode S))) r)))
-
--- words of 16 bits, by their places
-pub words-of : (c : List ℕ) → ((i : ℕ) → getD c i 0 < 2 ^ 16) → Words c
-words-of [] f = nothing
-words-of (w ∷ c) f = also (f 0) (words-of c (λ i. f (suc i)))
 
 -- the fresh slice, and no marks
 pub steady-fresh : Steady (replicate treeWords 0) (replicate numberCount 0)

@@ -51,7 +51,8 @@ module _ (l : List ℕ) (size : length l ≡ cellCount) (i : ℕ) where
   pub shows-position : putsAt ≤ i → i < witnessWords → getD (shown (stateOf noPosition l)) i none ≡ positionIn (getD l i 0)
   shows-position h g =
       let e : putsAt + (i - putsAt) ≡ i = omega arith in
-      ap (λ (k : ℕ). getD (shown (stateOf noPosition l)) k none) (sym e) ∙ shown-position (stateOf noPosition l) (i - putsAt) ∙ placed-get putsAt l (i - putsAt) (omega arith) (omega arith) ∙ rw e
+      ap (λ (k : ℕ). getD (shown (stateOf noPosition l)) k none) (sym e) ∙ shown-position (stateOf noPosition l) (i - putsAt)
+      ∙ placed-get putsAt l (i - putsAt) (omega arith) (omega arith) ∙ rw e
 
 -- the same, by the tests of the code
 module _ (l : List ℕ) (size : length l ≡ cellCount) (i : ℕ) where

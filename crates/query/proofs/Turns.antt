@@ -209,5 +209,6 @@ module _ {d t words : List ℕ} {b h : ℕ} {l : List ℕ} {n₀ : ℕ} {first :
     pass-found x e f = walked-found x f (asked E ∙ next ∙ then-covered _ e) (sized ∙ sym (size E))
 
   pub pass-ends :
-      {m after : List ℕ} {r : Finding} {a : Answer State} → length m ≡ cellCount → (r .end ≡ Missed → ⊥) → row (stateOf here out) n₁ ≡ a → Walked a m after r → Walked whole l after r
+      {m after : List ℕ} {r : Finding} {a : Answer State} → length m ≡ cellCount → (r .end ≡ Missed → ⊥) → row (stateOf here out) n₁ ≡ a → Walked a m after r
+      → Walked whole l after r
   pass-ends z nm e w = walked-same nm (asked E ∙ next ∙ then-found _ nm e w) w (z ∙ sym (size E))

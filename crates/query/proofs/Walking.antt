@@ -22,7 +22,8 @@ use Rattle.walk.specs.Walk.{Answer, covered, notCovered, spent, broken, Part, a
 use Rattle.walk.specs.Words.{extends, walkWords}
 use Rattle.walk.specs.Query.{machine}
 use Rattle.cells.specs.inner.Cells.{countAt, cellCount, noPosition, countIn, HasPlace, entered, positionIn, stateOf, Walkable}
-use Rattle.cells.specs.inner.Cells.{Met, past, bad, firsts, below, stepped, reached, metAs, meeting, metOf, stores, Marked, plain, store, Visited, unwound, restored, wantedAt, Skipped, headAt, startAt, passesOf}
+use Rattle.cells.specs.inner.Cells.{Met, past, bad, firsts, below, stepped, reached, metAs, meeting, metOf, stores}
+use Rattle.cells.specs.inner.Cells.{Marked, plain, store, Visited, unwound, restored, wantedAt, Skipped, headAt, startAt, passesOf}
 use Rattle.query.specs.inner.Findings.{Walked}
 use Rattle.cells.specs.declared.Go.{Go}
 use Rattle.cells.specs.declared.Go.the-variants.{Fails, Stuck, Hit, Tries, Below, Stored}
@@ -218,7 +219,8 @@ tries-head d b k h l (suc m) j n =
     (tries-head d b k h l m (suc j))
 
 -- past the Checks that fail
-pub passing : (d t : List ℕ) (b h : ℕ) (l : List ℕ) → Walkable d t h l → h < length d → (words : List ℕ) (at wanted n : ℕ) → wanted ≡ wantedAt d h → {r : ℕ} → Skipped words at wanted r
+pub passing : (d t : List ℕ) (b h : ℕ) (l : List ℕ) → Walkable d t h l → h < length d → (words : List ℕ) (at wanted n : ℕ) → wanted ≡ wantedAt d h
+    → {r : ℕ} → Skipped words at wanted r
     → walkWords (machine d) (upTo b) (drop at words) (stateOf h l) n ≡ walkWords (machine d) (upTo b) (drop r words) (stateOf h l) n
 unfolding wantedAt
 passing d t b h l R g words at wanted n e {r} P = P .same d (upTo b) (stateOf h l) h n (head-some d t h l R g) e

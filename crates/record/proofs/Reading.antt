@@ -35,7 +35,8 @@ whole-first n count ws xs h c =
     let l : length (take count ws) ≡ count = length-take-le count ws h in
     record {
       rest = c .rest;
-      whole = rw l (ap (λ (t : List ℕ). n ∷ count ∷ t) (sym (take-append-drop count ws) ∙ ap (λ (t : List ℕ). take count ws ++ t) (c .whole) ∙ sym (append-assoc (take count ws) (allFields xs) (c .rest))));
+      whole = rw l
+          (ap (λ (t : List ℕ). n ∷ count ∷ t) (sym (take-append-drop count ws) ∙ ap (λ (t : List ℕ). take count ws ++ t) (c .whole) ∙ sym (append-assoc (take count ws) (allFields xs) (c .rest))));
       cut = c .cut;
     }
 

@@ -19,7 +19,8 @@ use Rattle.clause.proofs.Order.{subsumes-refl}
 use Rattle.book.proofs.Holds.{holds-empty, fresh-layout, holds-numbers, holds-clauses}
 use Rattle.record.proofs.Reading.{complete, input-fits}
 use Rattle.record.proofs.Ruling.{Fate, ruled}
-use Rattle.record.proofs.Rows.{book-append, Standing, standing-after, Made, made, rows-records, made-first, made-last, made-row, made-fit, Fated, fated, fated-first, fated-last, fated-row, kept-book, kept-count, rows-counted, kept-mem, mem-kept, StruckBy, fate-struck, struck-book}
+use Rattle.record.proofs.Rows.{book-append, Standing, standing-after, Made, made, rows-records, made-first, made-last, made-row, made-fit, Fated}
+use Rattle.record.proofs.Rows.{fated, fated-first, fated-last, fated-row, kept-book, kept-count, rows-counted, kept-mem, mem-kept, StruckBy, fate-struck, struck-book}
 
 -- ---- the slice before the first record
 

@@ -1,10 +1,10 @@
 -- Block after block: what was fed so far.
 use mathlib.Core.Path.{_≡_, ap, ap₂, sym, _∙_}
-use mathlib.Core.List.{List, [], _∷_, _++_}
-use Prim.Native.Nat.{ℕ, suc, _+_, _*_, _^_, _≤_, _<_}
+use mathlib.Core.List.{List, [], _++_}
+use Prim.Native.Nat.{ℕ, _+_, _*_, _≤_, _<_}
 use native.Mathlib.Omega.{arith}
-use lib.ListN.{length, getD, replicate, length-replicate}
-use Rattle.clause.specs.Lists.{none as nothing, also}
+use lib.ListN.{length, replicate, length-replicate}
+use Rattle.clause.specs.Lists.{none as nothing}
 use Rattle.clause.proofs.Lists.{all-append}
 use Rattle.clause.specs.Clause.{maxWords}
 use Rattle.record.specs.Text.{Written, written}
@@ -24,11 +24,6 @@ pub record Running (session : Session) (store : Store) (blocks : ℕ) : Type 0 w
   pub steady : Steady (store .slice) (store .marks)
   pub words : length (store .words) ≡ maxWords
   pub counts : recordsIn (session .totals) + blocks * blockBytes ≤ mostBlocks * blockBytes
-
--- the elements of a slice of bytes are bytes
-pub bytes-of : (b : List ℕ) → ((i : ℕ) → getD b i 0 < 2 ^ 8) → Bytes b
-bytes-of [] f = nothing
-bytes-of (x ∷ b) f = also (f 0) (bytes-of b (λ i. f (suc i)))
 
 -- zeros in which the lines of any block fit
 pub room-in : (n : ℕ) → blockBytes * longestLine ≤ n → blockBytes * longestLine ≤ length {A = ℕ} (replicate n 0)
@@ -54,7 +49,8 @@ pub running-more : {s s′ : Session} {m m′ : Store} {n n′ : ℕ} {t : List 
     → Running s′ m′ n′
 running-more {s} {s′} {m} {m′} block v r h l e d w =
     let b : List ℕ = r .stands .bytes in
-    let q : feed s m block ≡ feed (feed firstSession firstStore b .session) (feed firstSession firstStore b .store) block = ap₂ (λ (x : Session) (y : Store). feed x y block) (r .stands .read) (r .stands .lent) in
+    let g : Fed = feed firstSession firstStore b in
+    let q : feed s m block ≡ feed (g .session) (g .store) block = ap₂ (λ (x : Session) (y : Store). feed x y block) (r .stands .read) (r .stands .lent) in
     let a = feed-append b block firstSession firstStore in
     let u : s′ ≡ feed s m block .session = ap (λ (f : Fed). f .session) e in
     let n : recordsIn (s′ .totals) ≤ recordsIn (s .totals) + length block = rw u (feed-records block s m) in

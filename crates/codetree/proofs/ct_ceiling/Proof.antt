@@ -18,7 +18,10 @@ same-length c = search needs
 
 returns : tie.Need-returns
 unfolding ctCeiling
-returns c = c .before .before .hand-ceiling .ensures ∙ ap (λ y. replied (saidCeiling y) (c .before .before .before .before .before .before .args .told .now)) (c .before .before .before .before .ceiling .ensures)
+returns c =
+    let c4 = c .before .before .before .before in
+    let c6 = c4 .before .before in
+    c .before .before .hand-ceiling .ensures ∙ ap (λ y. replied (saidCeiling y) (c6 .args .told .now)) (c4 .ceiling .ensures)
 
 pub ct-ceiling-spec : {M : Type 1} → statement M
 ct-ceiling-spec = tie.close (tie.spec ceiling-requires hand-ceiling-requires same-length returns)

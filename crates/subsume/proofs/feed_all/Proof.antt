@@ -33,9 +33,13 @@ slice-aggregate-feed-block c = sym (length-take-le _ _ (c .before .before .befor
 
 feed-block-requires : tie.Need-feed-block-requires Inv-loop μ-loop
 feed-block-requires c κs =
-    let l = c .before .before .before .before .before .before .before .before .before .before .before .loop .inv in
-    let b = c .before .before .before .before .before .before .before .before .before .before .before .before .before .before .before .before .before .before .pre .0 in
-    block-ready (l .0) (c .before .before .before .before .before .before .before .before .before .before .loop-test .taken) (simp length-take (omega (arith, b .block, l .1, c .before .before .before .before .before .before .before .input .given))) (omega (arith, b .room, l .5))
+    let c7 = c .before .before .before .before .before .before .before in
+    let c10 = c7 .before .before .before in
+    let c11 = c10 .before in
+    let c18 = c11 .before .before .before .before .before .before .before in
+    let l = c11 .loop .inv in
+    let b = c18 .pre .0 in
+    block-ready (l .0) (c10 .loop-test .taken) (simp length-take (omega (arith, b .block, l .1, c7 .input .given))) (omega (arith, b .room, l .5))
 
 left-after-requires : tie.Need-left-after-requires Inv-loop μ-loop
 left-after-requires c κs = c .before .before .before .before .before .before .before .before .before .before .before .before .before .before .before .before .before .before .before .loop-test .taken
@@ -45,14 +49,21 @@ loop-less c = c .left-after .ensures
 
 loop-again : tie.Need-loop-again Inv-loop μ-loop
 loop-again c =
-    let l = c .before .before .before .before .before .before .before .before .before .before .before .before .before .before .before .before .before .before .before .before .before .loop .inv in
-    let b = c .before .before .before .before .before .before .before .before .before .before .before .before .before .before .before .before .before .before .before .before .before .before .before .before .before .before .before .before .pre .0 in
-    let f = c .before .before .before .before .before .before .before .before .before .feed-block .ensures in (
-      running-more _ (f .1 .1) (l .0) (c .left-after .ensures) (simp length-take (omega (arith, b .block, l .1, c .before .before .before .before .before .before .before .before .before .before .before .before .before .before .before .before .before .input .given))) (f .0) (f .1 .0) (c .before .before .before .before .words .given),
-      c .before .before .before .before .before .before .before .before .before .before .before .before .before .before .before .before .before .input .given ∙ l .1,
-      c .before .before .before .before .before .before .before .before .tree .given ∙ l .2,
-      c .before .before .before .before .before .before .marks .given ∙ l .3,
-      c .before .before .before .before .words .given ∙ l .4,
+    let c4 = c .before .before .before .before in
+    let c6 = c4 .before .before in
+    let c8 = c6 .before .before in
+    let c9 = c8 .before in
+    let c17 = c9 .before .before .before .before .before .before .before .before in
+    let c21 = c17 .before .before .before .before in
+    let c28 = c21 .before .before .before .before .before .before .before in
+    let l = c21 .loop .inv in
+    let b = c28 .pre .0 in
+    let f = c9 .feed-block .ensures in (
+      running-more _ (f .1 .1) (l .0) (c .left-after .ensures) (simp length-take (omega (arith, b .block, l .1, c17 .input .given))) (f .0) (f .1 .0) (c4 .words .given),
+      c17 .input .given ∙ l .1,
+      c8 .tree .given ∙ l .2,
+      c6 .marks .given ∙ l .3,
+      c4 .words .given ∙ l .4,
       c .before .before .output .given ∙ l .5,
     )
 

@@ -17,7 +17,11 @@ slice-reshare-prefix-write-last : tie.Need-slice-reshare-prefix-write-last
 slice-reshare-prefix-write-last c = search needs
 
 slice-aggregate-write-last : tie.Need-slice-aggregate-write-last
-slice-aggregate-write-last c = sym (length-take-le _ _ (omega (arith, c .before .before .before .put-totals .ensures .1, c .before .before .output2 .given, c .before .before .before .before .before .before .before .before .output .given, c .before .before .before .before .before .before .before .before .before .before .before .before .before .before .before .before .before .before .before .before .before .before .before .before .before .before .before .before .pre .0 .room)))
+slice-aggregate-write-last c =
+    let c3 = c .before .before .before in
+    let c8 = c3 .before .before .before .before .before in
+    let c28 = c8 .before .before .before .before .before .before .before .before .before .before .before .before .before .before .before .before .before .before .before .before in
+    sym (length-take-le _ _ (omega (arith, c3 .put-totals .ensures .1, c .before .before .output2 .given, c8 .output .given, c28 .pre .0 .room)))
 
 write-last-requires : tie.Need-write-last-requires
 write-last-requires c κs = search needs
@@ -39,8 +43,12 @@ same-length-5 c = search needs
 
 returns : tie.Need-returns
 returns c =
-    let p = c .before .before .before .before .put-totals .ensures in
-    last-line _ (c .before .before .before .before .before .before .before .before .before .before .before .before .before .before .before .before .before .before .feed-all .ensures) (p .0) (p .1) (omega (arith, c .before .before .before .before .before .before .before .before .before .output .given, c .before .before .before .before .before .before .before .before .before .before .before .before .before .before .before .before .before .before .before .before .before .before .before .before .before .before .before .before .before .pre .0 .room))
+    let c4 = c .before .before .before .before in
+    let c9 = c4 .before .before .before .before .before in
+    let c18 = c9 .before .before .before .before .before .before .before .before .before in
+    let c29 = c18 .before .before .before .before .before .before .before .before .before .before .before in
+    let p = c4 .put-totals .ensures in
+    last-line _ (c18 .feed-all .ensures) (p .0) (p .1) (omega (arith, c9 .output .given, c29 .pre .0 .room))
 
 pub run-spec : {M : Type 1} → statement M
 run-spec =

@@ -40,54 +40,102 @@ compare-requires c κs = search needs
 returns : tie.Need-returns
 returns c =
     let s = c .before .before .before in
-    rw (c .before .match .keys1, act-success (s .args .query .now) (s .args .tables .now) (s .args .head) (s .args .cells .now) (s .pre .0) (s .pre .1) (s .args .x)) (c .success .ensures (s .args .cells .now))
+    let a = s .args in
+    let d = a .query .now in
+    let t = a .tables .now in
+    let l = a .cells .now in
+    rw (c .before .match .keys1, act-success d t (a .head) l (s .pre .0) (s .pre .1) (a .x)) (c .success .ensures l)
 
 returns-2 : tie.Need-returns-2
 returns-2 c =
     let s = c .before .before .before .before in
-    rw (sized-other (s .args .op) (s .args .words) (λ z. omega (arith, z, c .before .before .match .keys2)) (act-first (s .args .query .now) (s .args .tables .now) (s .args .head) (s .args .cells .now) (s .pre .0) (s .args .op) (s .args .x) (c .before .before .match .keys2))) (c .tries .ensures .0)
+    let a = s .args in
+    let d = a .query .now in
+    let t = a .tables .now in
+    let l = a .cells .now in
+    let e = c .before .before .match .keys2 in
+    rw (sized-other (a .op) (a .words) (λ z. omega (arith, z, e)) (act-first d t (a .head) l (s .pre .0) (a .op) (a .x) e)) (c .tries .ensures .0)
 
 returns-3 : tie.Need-returns-3
 returns-3 c =
     let s = c .before .before .before in
-    rw (sized-other (s .args .op) (s .args .words) (λ z. omega (arith, z, c .before .match .keys3)) (act-down (s .args .query .now) (s .args .tables .now) (s .args .head) (s .args .cells .now) (s .pre .0) (s .pre .1) (s .args .op) (s .args .x) (c .before .match .keys3))) (c .down .ensures (s .args .cells .now))
+    let a = s .args in
+    let d = a .query .now in
+    let t = a .tables .now in
+    let l = a .cells .now in
+    let e = c .before .match .keys3 in
+    rw (sized-other (a .op) (a .words) (λ z. omega (arith, z, e)) (act-down d t (a .head) l (s .pre .0) (s .pre .1) (a .op) (a .x) e)) (c .down .ensures l)
 
 returns-4 : tie.Need-returns-4
 returns-4 c =
     let s = c .before .before .before .before in
-    rw (sized-other (s .args .op) (s .args .words) (λ z. omega (arith, z, c .before .before .match .keys4)) (act-right (s .args .query .now) (s .args .tables .now) (s .args .head) (s .args .cells .now) (s .pre .0) (s .pre .1) (s .args .op) (s .args .x) (c .before .before .match .keys4))) (c .sibling .ensures)
+    let a = s .args in
+    let d = a .query .now in
+    let t = a .tables .now in
+    let l = a .cells .now in
+    let e = c .before .before .match .keys4 in
+    rw (sized-other (a .op) (a .words) (λ z. omega (arith, z, e)) (act-right d t (a .head) l (s .pre .0) (s .pre .1) (a .op) (a .x) e)) (c .sibling .ensures)
 
 returns-5 : tie.Need-returns-5
 returns-5 c =
     let s = c .before .before .before .before in
-    rw (sized-other (s .args .op) (s .args .words) (λ z. omega (arith, z, c .before .before .match .keys5)) (act-put (s .args .query .now) (s .args .tables .now) (s .args .head) (s .args .cells .now) (s .pre .0) (s .pre .1) (s .args .op) (s .args .x) (c .before .before .match .keys5))) (c .put .ensures)
+    let a = s .args in
+    let d = a .query .now in
+    let t = a .tables .now in
+    let l = a .cells .now in
+    let e = c .before .before .match .keys5 in
+    rw (sized-other (a .op) (a .words) (λ z. omega (arith, z, e)) (act-put d t (a .head) l (s .pre .0) (s .pre .1) (a .op) (a .x) e)) (c .put .ensures)
 
 returns-6 : tie.Need-returns-6
 returns-6 c =
     let s = c .before .before .before .before .before .before in
-    rw (sized-other (s .args .op) (s .args .words) (λ z. omega (arith, z, c .before .before .before .before .match .keys6)) (act-push (s .args .query .now) (s .args .tables .now) (s .args .head) (s .args .cells .now) (s .pre .0) (s .pre .1) (s .args .op) (s .args .x) (c .before .before .before .before .match .keys6)), ← c .before .before .right .ensures .0) (c .push .ensures)
+    let a = s .args in
+    let d = a .query .now in
+    let t = a .tables .now in
+    let l = a .cells .now in
+    let e = c .before .before .before .before .match .keys6 in
+    rw (sized-other (a .op) (a .words) (λ z. omega (arith, z, e)) (act-push d t (a .head) l (s .pre .0) (s .pre .1) (a .op) (a .x) e), ← c .before .before .right .ensures .0) (c .push .ensures)
 
 returns-7 : tie.Need-returns-7
 returns-7 c =
     let s = c .before .before .before .before in
-    rw (sized-other (s .args .op) (s .args .words) (λ z. omega (arith, z, c .before .before .match .keys7)) (act-pop (s .args .query .now) (s .args .tables .now) (s .args .head) (s .args .cells .now) (s .pre .0) (s .pre .1) (s .args .op) (s .args .x) (c .before .before .match .keys7))) (c .pop .ensures)
+    let a = s .args in
+    let d = a .query .now in
+    let t = a .tables .now in
+    let l = a .cells .now in
+    let e = c .before .before .match .keys7 in
+    rw (sized-other (a .op) (a .words) (λ z. omega (arith, z, e)) (act-pop d t (a .head) l (s .pre .0) (s .pre .1) (a .op) (a .x) e)) (c .pop .ensures)
 
 returns-8 : tie.Need-returns-8
 returns-8 c =
     let s = c .before .before .before in
-    rw (sized-other (s .args .op) (s .args .words) (λ z. omega (arith, z, c .before .match .keys8)) (act-check (s .args .query .now) (s .args .tables .now) (s .args .head) (s .args .cells .now) (s .pre .0) (s .pre .1) (s .args .op) (s .args .x) (c .before .match .keys8))) (c .check .ensures (s .args .cells .now))
+    let a = s .args in
+    let d = a .query .now in
+    let t = a .tables .now in
+    let l = a .cells .now in
+    let e = c .before .match .keys8 in
+    rw (sized-other (a .op) (a .words) (λ z. omega (arith, z, e)) (act-check d t (a .head) l (s .pre .0) (s .pre .1) (a .op) (a .x) e)) (c .check .ensures l)
 
 returns-9 : tie.Need-returns-9
 returns-9 c =
     let s = c .before .before .before .before in
-    rw (sized-other (s .args .op) (s .args .words) (λ z. omega (arith, z, c .before .before .match .keys9)) (act-compare (s .args .query .now) (s .args .tables .now) (s .args .head) (s .args .cells .now) (s .pre .0) (s .pre .1) (s .args .op) (s .args .x) (c .before .before .match .keys9))) (c .compare .ensures)
+    let a = s .args in
+    let d = a .query .now in
+    let t = a .tables .now in
+    let l = a .cells .now in
+    let e = c .before .before .match .keys9 in
+    rw (sized-other (a .op) (a .words) (λ z. omega (arith, z, e)) (act-compare d t (a .head) l (s .pre .0) (s .pre .1) (a .op) (a .x) e)) (c .compare .ensures)
 
 returns-10 : tie.Need-returns-10
 returns-10 c =
     let s = c .before .before in
+    let a = s .args in
+    let d = a .query .now in
+    let t = a .tables .now in
+    let l = a .cells .now in
     let r = c .match .rest in
-    let o = rest-over (s .args .op) (r .0 .0 .0 .0 .0 .0 .0 .0 .1) (r .0 .0 .0 .0 .0 .0 .0 .1) (r .0 .0 .0 .0 .0 .0 .1) (r .0 .0 .0 .0 .0 .1) (r .0 .0 .0 .0 .1) (r .0 .0 .0 .1) (r .0 .0 .1) (r .0 .1) (r .1) in
-    sticks _ (sym (sized-other (s .args .op) (s .args .words) (λ z. omega (arith, z, o)) (sym (act-over (s .args .query .now) (s .args .tables .now) (s .args .head) (s .args .cells .now) (s .pre .0) (s .pre .1) (s .args .op) (s .args .x) o))))
+    let o = rest-over (a .op) (r .0 .0 .0 .0 .0 .0 .0 .0 .1) (r .0 .0 .0 .0 .0 .0 .0 .1) (r .0 .0 .0 .0 .0 .0 .1) (r .0 .0 .0 .0 .0 .1) (r .0 .0 .0 .0 .1) (r .0 .0 .0 .1) (r .0 .0 .1) (r .0 .1) (r .1) in
+    sticks _ (sym (sized-other (a .op) (a .words) (λ z. omega (arith, z, o)) (sym (act-over d t (a .head) l (s .pre .0) (s .pre .1) (a .op) (a .x) o))))
 
 pub act-spec : {M : Type 1} → statement M
 act-spec =

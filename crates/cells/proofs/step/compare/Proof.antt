@@ -75,7 +75,8 @@ returns-5 c =
     let c8 = c6 .before .before in
     let c9 = c8 .before in
     let c11 = c9 .before .before in
-    stays _ _ _ refl (compare-same _ _ _ _ (c11 .pre) _ _ (c9 .if1 .left) (c8 .if2 .left) (c6 .wide .ensures .0) (c3 .if3 .left) (c4 .wide2 .ensures .0) (c .before .before .if4 .left) (sym (c .before .same-terms .ensures) ∙ c .if5 .taken))
+    stays _ _ _ refl (compare-same _ _ _ _ (c11 .pre) _ _ (c9 .if1 .left) (c8 .if2 .left) (c6 .wide .ensures .0) (c3 .if3 .left) (c4 .wide2 .ensures .0) (c .before .before .if4 .left)
+    (sym (c .before .same-terms .ensures) ∙ c .if5 .taken))
 
 returns-6 : tie.Need-returns-6
 returns-6 c =
@@ -85,7 +86,8 @@ returns-6 c =
     let c8 = c6 .before .before in
     let c9 = c8 .before in
     let c11 = c9 .before .before in
-    misses _ (compare-other _ _ _ _ (c11 .pre) _ _ (c9 .if1 .left) (c8 .if2 .left) (c6 .wide .ensures .0) (c3 .if3 .left) (c4 .wide2 .ensures .0) (c .before .before .if4 .left) (sym (c .before .same-terms .ensures) ∙ c .if5 .left))
+    misses _ (compare-other _ _ _ _ (c11 .pre) _ _ (c9 .if1 .left) (c8 .if2 .left) (c6 .wide .ensures .0) (c3 .if3 .left) (c4 .wide2 .ensures .0) (c .before .before .if4 .left)
+    (sym (c .before .same-terms .ensures) ∙ c .if5 .left))
 
 pub compare-spec : {M : Type 1} → statement M
 compare-spec =

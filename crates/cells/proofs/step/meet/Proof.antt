@@ -22,7 +22,8 @@ unfolding metOf
 returns-2 c =
     let a = c .before .before .before .before .args in
     let e = c .before .before .extent .ensures in
-    sticks _ (sym (met-unfit _ (a .w) (a .room) _ (extends-long (a .w) (a .room) (c .before .before .before .before .pre .1) (omega (arith, e, c .before .if1 .left)) (omega (arith, e, c .if2 .taken)))))
+    sticks _ (sym (met-unfit _ (a .w) (a .room) _ (extends-long (a .w) (a .room) (c .before .before .before .before .pre .1)
+    (omega (arith, e, c .before .if1 .left)) (omega (arith, e, c .if2 .taken)))))
 
 operation-requires : tie.Need-operation-requires
 operation-requires c κs = search needs
@@ -38,7 +39,8 @@ returns-3 c =
     let c4 = c .before .before .before .before in
     let c6 = c4 .before .before in
     let s = c6 .before .before in
-    rw (met-sized (s .args .query .now) (s .args .w) (s .args .room) _ (s .pre .1) (c6 .extent .ensures) (c4 .before .if1 .left) (c4 .if2 .left) (c .before .before .before .operation .ensures) (c .before .before .operand .ensures)) (c .act .ensures)
+    rw (met-sized (s .args .query .now) (s .args .w) (s .args .room) _ (s .pre .1) (c6 .extent .ensures) (c4 .before .if1 .left) (c4 .if2 .left)
+    (c .before .before .before .operation .ensures) (c .before .before .operand .ensures)) (c .act .ensures)
 
 pub meet-spec : {M : Type 1} → statement M
 meet-spec =

@@ -22,9 +22,10 @@ returns c =
 returns-2 : tie.Need-returns-2
 unfolding metOf
 returns-2 c =
-    let a = c .before .before .before .before .args in
+    let c4 = c .before .before .before .before in
+    let a = c4 .args in
     let e = c .before .before .extent .ensures in
-    (sticks _ (sym (met-unfit _ (a .w) (a .room) _ (extends-long (a .w) (a .room) (c .before .before .before .before .pre .1) (omega (arith, e, c .before .if1 .left)) (omega (arith, e, c .if2 .taken))))), inr refl)
+    (sticks _ (sym (met-unfit _ (a .w) (a .room) _ (extends-long (a .w) (a .room) (c4 .pre .1) (omega (arith, e, c .before .if1 .left)) (omega (arith, e, c .if2 .taken))))), inr refl)
 
 operation-requires : tie.Need-operation-requires
 operation-requires c κs = search needs

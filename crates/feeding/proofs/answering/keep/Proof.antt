@@ -1,13 +1,13 @@
 -- A marked number is taken; else the keys are inserted.
 use mathlib.Core.Path.{sym}
-use Prim.Native.Nat.{_<_}
+use Prim.Native.Nat.{_<_, _^_}
 use native.Mathlib.Omega.{arith}
 use Rattle.clause.specs.Word.{Words}
 use mathlib.Core.List.{[], _∷_}
 use lib.Seq.{length-take-le}
 use types.Run.{miss}
 use Rattle.feeding.specs.Feed.{numberCount}
-use Rattle.feeding.proofs.Steady.{words-of}
+use Rattle.clause.proofs.Lists.{all-below}
 use Rattle.machine.proofs.Compiled.{compiled-fits, compiled-keys}
 use Rattle.feeding.proofs.Keeping.{clause-short, ready, number-new, called, keep-marked, keep-refused, keep-kept}
 use borrow.Author.Needs.{needs}
@@ -20,7 +20,7 @@ slice-read-if1 c = search needs
 returns : tie.Need-returns
 returns c =
     let s = c .before .before .before .before .before .before in
-    let w : Words (s .args .words .now) = words-of (s .args .words .now) (λ i. omega (arith, c .before .before .shared-slice-known .given i)) in
+    let w : Words (s .args .words .now) = all-below (2 ^ 16) (s .args .words .now) (λ i. omega (arith, c .before .before .shared-slice-known .given i)) in
     let l : s .args .number < numberCount = omega (arith, s .fits .number) in
     keep-marked (s .pre .0) (s .args .words .now) (s .pre .1) w (s .args .number) l (c .if1 .taken)
 
@@ -36,7 +36,7 @@ slice-aggregate-insert-new c = sym (length-take-le _ _ (compiled-fits (c .before
 insert-new-requires : tie.Need-insert-new-requires
 insert-new-requires c κs =
     let s = c .before .before .before .before .before .before .before .before .before .before .before .before in
-    let w : Words (s .args .words .now) = words-of (s .args .words .now) (λ i. omega (arith, c .before .before .before .before .before .before .before .before .shared-slice-known .given i)) in
+    let w : Words (s .args .words .now) = all-below (2 ^ 16) (s .args .words .now) (λ i. omega (arith, c .before .before .before .before .before .before .before .before .shared-slice-known .given i)) in
     let l : s .args .number < numberCount = omega (arith, s .fits .number) in (
       ready (s .pre .0) (s .args .words .now) (s .pre .1) w (s .args .number) l (compiled-keys (c .before .before .before .before .compile .ensures)),
       number-new (s .pre .0) (s .args .words .now) (s .pre .1) w (s .args .number) l (c .before .before .before .before .before .before .if1 .left),
@@ -63,7 +63,7 @@ same-length-3 c = search needs
 returns-2 : tie.Need-returns-2
 returns-2 c =
     let s = c .before .before .before .before .before .before .before .before .before .before .before .before .before .before .before .before .before in
-    let w : Words (s .args .words .now) = words-of (s .args .words .now) (λ i. omega (arith, c .before .before .before .before .before .before .before .before .before .before .before .before .before .shared-slice-known .given i)) in
+    let w : Words (s .args .words .now) = all-below (2 ^ 16) (s .args .words .now) (λ i. omega (arith, c .before .before .before .before .before .before .before .before .before .before .before .before .before .shared-slice-known .given i)) in
     let l : s .args .number < numberCount = omega (arith, s .fits .number) in
     let i = c .before .before .before .before .insert-new in
     let k = c .before .match .keys2 in
@@ -83,7 +83,7 @@ same-length-5 c = search needs
 returns-3 : tie.Need-returns-3
 returns-3 c =
     let s = c .before .before .before .before .before .before .before .before .before .before .before .before .before .before .before .before .before .before .before in
-    let w : Words (s .args .words .now) = words-of (s .args .words .now) (λ i. omega (arith, c .before .before .before .before .before .before .before .before .before .before .before .before .before .before .before .shared-slice-known .given i)) in
+    let w : Words (s .args .words .now) = all-below (2 ^ 16) (s .args .words .now) (λ i. omega (arith, c .before .before .before .before .before .before .before .before .before .before .before .before .before .before .before .shared-slice-known .given i)) in
     let l : s .args .number < numberCount = omega (arith, s .fits .number) in
     let g = c .before .before .answer .given in
     keep-refused (s .pre .0) (s .args .words .now) (s .pre .1) w (s .args .number) l (c .before .before .before .before .before .before .before .before .before .before .before .before .before .if1 .left)

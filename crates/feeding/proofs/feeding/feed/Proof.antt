@@ -33,32 +33,54 @@ part-read-some-end c = search needs
 
 read-some-requires : tie.Need-read-some-requires Inv-loop μ-loop
 read-some-requires c κs =
-    (simp (length-take, length-drop) (omega (arith, c .before .before .before .loop-test .taken)), c .before .before .before .before .loop .inv .words ∙ c .before .before .before .before .before .before .before .before .before .before .pre .words)
+    let c3 = c .before .before .before in
+    let c4 = c3 .before in
+    let c10 = c4 .before .before .before .before .before .before in
+    (simp (length-take, length-drop) (omega (arith, c3 .loop-test .taken)), c4 .loop .inv .words ∙ c10 .pre .words)
 
 add-taken : tie.Need-add-taken Inv-loop μ-loop
-add-taken c = record { fits = omega (arith, c .before .before .before .before .before .before .before .loop-test .taken, c .before .before .before .before .before .before .before .before .before .before .before .before .before .before .pre .counts, simp (length-take, length-drop) at (c .before .before .before .read-some .ensures .inside)) }
+add-taken c =
+    let c3 = c .before .before .before in
+    let c7 = c3 .before .before .before .before in
+    let c14 = c7 .before .before .before .before .before .before .before in
+    record { fits = omega (arith, c7 .loop-test .taken, c14 .pre .counts, simp (length-take, length-drop) at (c3 .read-some .ensures .inside)) }
 
 proceed-requires : tie.Need-proceed-requires Inv-loop μ-loop
 proceed-requires c κs =
-    let l = c .before .before .before .before .before .before .before .before .before .before .before .before .before .loop .inv in
+    let c7 = c .before .before .before .before .before .before .before in
+    let c12 = c7 .before .before .before .before .before in
+    let c13 = c12 .before in
+    let c19 = c13 .before .before .before .before .before .before in
+    let l = c13 .loop .inv in
     record {
       steady = l .took .steady;
-      words = c .before .before .before .before .before .before .before .words .given ∙ l .words ∙ c .before .before .before .before .before .before .before .before .before .before .before .before .before .before .before .before .before .before .before .pre .words;
-      counts = omega (arith, l .records, c .before .before .before .before .before .before .before .before .before .before .before .before .before .before .before .before .before .before .before .pre .counts, c .before .before .before .before .before .before .before .before .before .before .before .before .loop-test .taken);
-      room = omega (arith, l .took .short, l .output, c .before .before .before .before .before .before .before .before .before .before .before .before .before .before .before .before .before .before .before .pre .room, c .before .before .before .before .before .before .before .before .before .before .before .before .loop-test .taken);
+      words = c7 .words .given ∙ l .words ∙ c19 .pre .words;
+      counts = omega (arith, l .records, c19 .pre .counts, c12 .loop-test .taken);
+      room = omega (arith, l .took .short, l .output, c19 .pre .room, c12 .loop-test .taken);
     }
 
 loop-less : tie.Need-loop-less Inv-loop μ-loop
-loop-less c = omega (arith, c .before .before .before .before .before .before .before .before .before .before .before .before .before .before .before .before .before .before .before .loop-test .taken, c .before .before .before .before .before .before .before .before .before .before .before .before .before .before .before .read-some .ensures .some)
+loop-less c =
+    let c15 = c .before .before .before .before .before .before .before .before .before .before .before .before .before .before .before in
+    let c19 = c15 .before .before .before .before in
+    omega (arith, c19 .loop-test .taken, c15 .read-some .ensures .some)
 
 loop-again : tie.Need-loop-again Inv-loop μ-loop
 loop-again c =
-    let a = c .before .before .before .before .before .before .before .before .before .before .before .before .before .before .before .before .before .before .before .before .before .before .before .before .before .before .args in
-    let l = c .before .before .before .before .before .before .before .before .before .before .before .before .before .before .before .before .before .before .before .before .loop in
-    let r = c .before .before .before .before .before .before .before .before .before .before .before .before .before .before .before .read-some in
-    let h : l .taken + r .result .taken ≤ length (a .input .now) = omega (arith, c .before .before .before .before .before .before .before .before .before .before .before .before .before .before .before .before .before .before .before .loop-test .taken, simp (length-take, length-drop) at (r .ensures .inside)) in
-    feeding-more (a .session) (storeOf (a .words .now) (a .tree .now) (a .marks .now)) (a .input .now) (a .output .now) (l .inv) (r .ensures) h (c .before .before .before .before .before .before .proceed .ensures)
-    (c .before .output .given) (c .before .before .before .before .before .before .before .before .before .before .before .before .before .before .words .given) (c .before .before .before .before .before .tree .given) (c .before .before .before .marks .given)
+    let c3 = c .before .before .before in
+    let c5 = c3 .before .before in
+    let c6 = c5 .before in
+    let c14 = c6 .before .before .before .before .before .before .before .before in
+    let c15 = c14 .before in
+    let c19 = c15 .before .before .before .before in
+    let c20 = c19 .before in
+    let c26 = c20 .before .before .before .before .before .before in
+    let a = c26 .args in
+    let l = c20 .loop in
+    let r = c15 .read-some in
+    let h : l .taken + r .result .taken ≤ length (a .input .now) = omega (arith, c19 .loop-test .taken, simp (length-take, length-drop) at (r .ensures .inside)) in
+    feeding-more (a .session) (storeOf (a .words .now) (a .tree .now) (a .marks .now)) (a .input .now) (a .output .now) (l .inv) (r .ensures) h (c6 .proceed .ensures)
+    (c .before .output .given) (c14 .words .given) (c5 .tree .given) (c3 .marks .given)
 
 same-length : tie.Need-same-length Inv-loop μ-loop
 same-length c = c .before .loop .inv .slice

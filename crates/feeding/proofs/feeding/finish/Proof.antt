@@ -25,10 +25,13 @@ same-length-3 c = search needs
 
 returns : tie.Need-returns
 returns c =
-    let a = c .before .before .before .before .before .before .before .before .before .before .before .before .before .before .before .before .before .before .before .args in
+    let c5 = c .before .before .before .before .before in
+    let c11 = c5 .before .before .before .before .before .before in
+    let c19 = c11 .before .before .before .before .before .before .before .before in
+    let a = c19 .args in
     let m = storeOf (a .words .now) (a .tree .now) (a .marks .now) in
-    let p = c .before .before .before .before .before .put-line .ensures in
-    finishes (a .head .number) (a .head .count) (a .turn .session .totals) m (a .output .now) (a .turn .next) (c .before .before .before .before .before .before .before .before .before .before .before .outcome-of .ensures) (c .count-outcome .ensures) (p .0) (p .1)
+    let p = c5 .put-line .ensures in
+    finishes (a .head .number) (a .head .count) (a .turn .session .totals) m (a .output .now) (a .turn .next) (c11 .outcome-of .ensures) (c .count-outcome .ensures) (p .0) (p .1)
 
 pub finish-spec : {M : Type 1} → statement M
 finish-spec =

@@ -16,9 +16,11 @@ finish-requires c κs = search needs
 
 returns : tie.Need-returns
 returns c =
-    let a = c .before .before .before .before .before .before .before .before .before .args in
-    let n = c .before .before .before .next .given in
-    goes (n .0 .0) (n .0 .1 .0) (a .turn .session .totals) (storeOf (a .words .now) (a .tree .now) (a .marks .now)) (a .output .now) (a .turn .next) (n .1) (c .before .before .before .before .before .before .before .before .before .pre .steady)
+    let c3 = c .before .before .before in
+    let c9 = c3 .before .before .before .before .before .before in
+    let a = c9 .args in
+    let n = c3 .next .given in
+    goes (n .0 .0) (n .0 .1 .0) (a .turn .session .totals) (storeOf (a .words .now) (a .tree .now) (a .marks .now)) (a .output .now) (a .turn .next) (n .1) (c9 .pre .steady)
 
 same-length : tie.Need-same-length
 same-length c = search needs

@@ -30,10 +30,15 @@ same-length : tie.Need-same-length
 same-length c = search needs
 
 returns-2 : tie.Need-returns-2
-returns-2 c = λ T m.
-    let a = c .before .before .before .before .before .before .before .before .before .before .args in
-    let h = c .before .before .before .before .before .before .before .half .given in
-    second-byte (a .session) (storeOf (a .words .now) T m) (a .byte) (h .0 .0) (h .1) (c .before .before .before .before .before .field-of .ensures) (c .before .before .before .store .ensures) (c .advance .ensures)
+returns-2 c =
+    let c3 = c .before .before .before in
+    let c5 = c3 .before .before in
+    let c7 = c5 .before .before in
+    let c10 = c7 .before .before .before in
+    λ T m.
+    let a = c10 .args in
+    let h = c7 .half .given in
+    second-byte (a .session) (storeOf (a .words .now) T m) (a .byte) (h .0 .0) (h .1) (c5 .field-of .ensures) (c3 .store .ensures) (c .advance .ensures)
 
 pub read-byte-spec : {M : Type 1} → statement M
 read-byte-spec =

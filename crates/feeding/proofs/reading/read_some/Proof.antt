@@ -23,11 +23,12 @@ same-length c = search needs
 
 returns : tie.Need-returns
 returns c =
-    let a = c .before .before .before .before .before .before .before .before .before .args in
+    let c9 = c .before .before .before .before .before .before .before .before .before in
+    let a = c9 .args in
     record {
       some = omega arith;
-      inside = omega (arith, c .before .before .before .before .before .before .before .before .before .pre .0);
-      feeds = λ T m. feed-one (a .input .now) (a .session) (storeOf (a .words .now) T m) (c .before .before .before .before .before .before .before .before .before .pre .0) ∙ c .before .before .read-byte .ensures T m;
+      inside = omega (arith, c9 .pre .0);
+      feeds = λ T m. feed-one (a .input .now) (a .session) (storeOf (a .words .now) T m) (c9 .pre .0) ∙ c .before .before .read-byte .ensures T m;
     }
 
 field-at-requires : tie.Need-field-at-requires
@@ -61,9 +62,13 @@ same-length-2 c = search needs
 
 returns-2 : tie.Need-returns-2
 returns-2 c =
-    let a = c .before .before .before .before .before .before .before .before .before .before .args in
-    let w = c .before .before .before .before .before .before .before .words-ahead .ensures (c .before .before .before .before .before .before .if1 .left) in
-    record-read (a .session) (a .input .now) (a .words .now) (c .before .before .before .before .before .before .before .words-ahead .result) w (c .before .before .before .before .before .field-at .ensures) refl (c .before .before .read-words .ensures)
+    let c5 = c .before .before .before .before .before in
+    let c6 = c5 .before in
+    let c7 = c6 .before in
+    let c10 = c7 .before .before .before in
+    let a = c10 .args in
+    let w = c7 .words-ahead .ensures (c6 .if1 .left) in
+    record-read (a .session) (a .input .now) (a .words .now) (c7 .words-ahead .result) w (c5 .field-at .ensures) refl (c .before .before .read-words .ensures)
 
 pub read-some-spec : {M : Type 1} → statement M
 read-some-spec =
