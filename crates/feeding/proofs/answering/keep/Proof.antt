@@ -35,11 +35,15 @@ slice-aggregate-insert-new c = sym (length-take-le _ _ (compiled-fits (c .before
 
 insert-new-requires : tie.Need-insert-new-requires
 insert-new-requires c κs =
-    let s = c .before .before .before .before .before .before .before .before .before .before .before .before in
-    let w : Words (s .args .words .now) = all-below (2 ^ 16) (s .args .words .now) (λ i. omega (arith, c .before .before .before .before .before .before .before .before .shared-slice-known .given i)) in
+    let c4 = c .before .before .before .before in
+    let c6 = c4 .before .before in
+    let c8 = c6 .before .before in
+    let c12 = c8 .before .before .before .before in
+    let s = c12 in
+    let w : Words (s .args .words .now) = all-below (2 ^ 16) (s .args .words .now) (λ i. omega (arith, c8 .shared-slice-known .given i)) in
     let l : s .args .number < numberCount = omega (arith, s .fits .number) in (
-      ready (s .pre .0) (s .args .words .now) (s .pre .1) w (s .args .number) l (compiled-keys (c .before .before .before .before .compile .ensures)),
-      number-new (s .pre .0) (s .args .words .now) (s .pre .1) w (s .args .number) l (c .before .before .before .before .before .before .if1 .left),
+      ready (s .pre .0) (s .args .words .now) (s .pre .1) w (s .args .number) l (compiled-keys (c4 .compile .ensures)),
+      number-new (s .pre .0) (s .args .words .now) (s .pre .1) w (s .args .number) l (c6 .if1 .left),
     )
 
 enum-known-answer : tie.Need-enum-known-answer
@@ -62,13 +66,18 @@ same-length-3 c = search needs
 
 returns-2 : tie.Need-returns-2
 returns-2 c =
-    let s = c .before .before .before .before .before .before .before .before .before .before .before .before .before .before .before .before .before in
-    let w : Words (s .args .words .now) = all-below (2 ^ 16) (s .args .words .now) (λ i. omega (arith, c .before .before .before .before .before .before .before .before .before .before .before .before .before .shared-slice-known .given i)) in
+    let c4 = c .before .before .before .before in
+    let c9 = c4 .before .before .before .before .before in
+    let c11 = c9 .before .before in
+    let c13 = c11 .before .before in
+    let c17 = c13 .before .before .before .before in
+    let s = c17 in
+    let w : Words (s .args .words .now) = all-below (2 ^ 16) (s .args .words .now) (λ i. omega (arith, c13 .shared-slice-known .given i)) in
     let l : s .args .number < numberCount = omega (arith, s .fits .number) in
-    let i = c .before .before .before .before .insert-new in
+    let i = c4 .insert-new in
     let k = c .before .match .keys2 in
-    keep-kept (s .pre .0) (s .args .words .now) (s .pre .1) w (s .args .number) l (c .before .before .before .before .before .before .before .before .before .before .before .if1 .left)
-    (called (s .pre .0) (s .args .words .now) (s .pre .1) w (s .args .number) l (compiled-keys (c .before .before .before .before .before .before .before .before .before .compile .ensures)) (i .ensures))
+    keep-kept (s .pre .0) (s .args .words .now) (s .pre .1) w (s .args .number) l (c11 .if1 .left)
+    (called (s .pre .0) (s .args .words .now) (s .pre .1) w (s .args .number) l (compiled-keys (c9 .compile .ensures)) (i .ensures))
     (λ f e. miss (1 ∷ 2 ∷ 3 ∷ []) 0 tt (rw e at k))
 
 code-requires : tie.Need-code-requires
@@ -82,12 +91,17 @@ same-length-5 c = search needs
 
 returns-3 : tie.Need-returns-3
 returns-3 c =
-    let s = c .before .before .before .before .before .before .before .before .before .before .before .before .before .before .before .before .before .before .before in
-    let w : Words (s .args .words .now) = all-below (2 ^ 16) (s .args .words .now) (λ i. omega (arith, c .before .before .before .before .before .before .before .before .before .before .before .before .before .before .before .shared-slice-known .given i)) in
+    let c6 = c .before .before .before .before .before .before in
+    let c11 = c6 .before .before .before .before .before in
+    let c13 = c11 .before .before in
+    let c15 = c13 .before .before in
+    let c19 = c15 .before .before .before .before in
+    let s = c19 in
+    let w : Words (s .args .words .now) = all-below (2 ^ 16) (s .args .words .now) (λ i. omega (arith, c15 .shared-slice-known .given i)) in
     let l : s .args .number < numberCount = omega (arith, s .fits .number) in
     let g = c .before .before .answer .given in
-    keep-refused (s .pre .0) (s .args .words .now) (s .pre .1) w (s .args .number) l (c .before .before .before .before .before .before .before .before .before .before .before .before .before .if1 .left)
-    (called (s .pre .0) (s .args .words .now) (s .pre .1) w (s .args .number) l (compiled-keys (c .before .before .before .before .before .before .before .before .before .before .before .compile .ensures)) (c .before .before .before .before .before .before .insert-new .ensures)) (g .0 .0) (g .1) (c .code .ensures)
+    keep-refused (s .pre .0) (s .args .words .now) (s .pre .1) w (s .args .number) l (c13 .if1 .left)
+    (called (s .pre .0) (s .args .words .now) (s .pre .1) w (s .args .number) l (compiled-keys (c11 .compile .ensures)) (c6 .insert-new .ensures)) (g .0 .0) (g .1) (c .code .ensures)
 
 pub keep-spec : {M : Type 1} → statement M
 keep-spec =
