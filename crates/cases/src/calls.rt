@@ -119,7 +119,7 @@ fn fill(tree: &mut [u64], number: u64) {
 
 // V: reads the clause.
 fn run_read(clause: &[u16]) {
-    match clause::read(clause) {
+    match reading::read(clause) {
         Shape::Whole(literals) => write_numbered(b" whole ", literals as u64),
         Shape::Faulty(fault) => write_refusal(Refusal::BadClause(fault)),
     }
