@@ -131,7 +131,7 @@ fn run_compile(clause: &[u16]) {
         return;
     }
     let mut keys = [0u64; Sequence::KEYS];
-    let count = machine::compile(clause, &mut keys);
+    let count = compiling::compile(clause, &mut keys);
     write_words(&keys[..count], 0, KEYS);
 }
 

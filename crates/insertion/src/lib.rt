@@ -1,10 +1,10 @@
 // Insertion of a sequence of keys into the words of a tree, in place (document 01, "Insertion, ceiling, removal").
 use crate::moves::open_up;
 use clause::Shape;
+use compiling::compile;
 use laid::well_laid;
 use machine::Key;
 use machine::Sequence;
-use machine::compile;
 use reading::read;
 use tree::CallAnswer;
 use tree::Refusal;

@@ -4,11 +4,11 @@ use Prim.Native.Nat.{_≤_, _-_}
 use native.Mathlib.Omega.{arith}
 use borrow.Author.Needs.{needs}
 use lib.ListN.{length}
-use Rattle.machine.specs.inner.Compiling.{Stored}
-use Rattle.machine.proofs.Stores.{stored-none, stored-length}
-use Rattle.machine.proofs.Rows.{rows, rows-none, rows-room, rows-stored, rows-whole}
-use Rattle.machine.proofs.compiling.compare_all.Statement.{statement}
-use Rattle.machine.proofs.compiling.compare_all.Tie as tie
+use Rattle.compiling.specs.inner.Compiling.{Stored}
+use Rattle.compiling.proofs.Stores.{stored-none, stored-length}
+use Rattle.compiling.proofs.Rows.{rows, rows-none, rows-room, rows-stored, rows-whole}
+use Rattle.compiling.proofs.compare_all.Statement.{statement}
+use Rattle.compiling.proofs.compare_all.Tie as tie
 
 abbrev Inv-loop : tie.InvT-loop
 Inv-loop firsts from keys₀ written at₀ m₀ keys at m = (m ≤ length firsts) × (length keys ≡ length keys₀) × Stored (rows firsts from m) keys₀ written keys at

@@ -9,10 +9,10 @@ use lib.Seq.{sets}
 use Rattle.clause.specs.Lists.{numbersBelow}
 use Rattle.clause.specs.Word.{arities}
 use Rattle.clause.specs.Clause.{maxWords}
 use Rattle.machine.specs.Instr.{Step, Compare, First, Do, key}
 use Rattle.machine.specs.Machine.{slots}
 use Rattle.machine.specs.Compile.{Saved, Place, ended, inside, Way, first, act, putsAfter, sequenceFrom}
-use Rattle.machine.specs.declared.Spot.{Spot}
+use Rattle.compiling.specs.declared.Spot.{Spot}
 
 -- there is room for new keys
 abbrev pub Room : (new : List ℕ) (written : ℕ) (keys : List ℕ) → Type 0

@@ -10,15 +10,15 @@ use lib.ListN.{length, getD, take, drop, length-map, length-append, length-set, 
 use lib.Seq.{drop-cons, length-take-le, sets-eq}
 use Rattle.clause.specs.Clause.{maxWords}
 use Rattle.clause.specs.Word.{arities, arity}
 use Rattle.machine.specs.Instr.{Do, key}
 use Rattle.machine.specs.Machine.{slots}
 use Rattle.machine.specs.Compile.{Place, ended, inside, Way, way, wayFrom, opening, begun, closing, act, putsAfter, sequenceFrom, sequence, keys}
 use Rattle.machine.specs.Compiled.{maxKeys, Compiled}
-use Rattle.machine.specs.inner.Compiling.{Room, firstsOf, compareKeys, savedIn, placeAt, openingKeys, opened, stepKeys, toCome, Stored, Acted, Went, Ready, Advanced}
-use Rattle.machine.specs.declared.Spot.{Spot}
-use Rattle.machine.proofs.Stores.{stored-none, stored-append, stored-length}
-use Rattle.machine.proofs.Rows.{compare-keys}
+use Rattle.compiling.specs.inner.Compiling.{Room, firstsOf, compareKeys, savedIn, placeAt, openingKeys, opened, stepKeys, toCome, Stored, Acted, Went, Ready, Advanced}
+use Rattle.compiling.specs.declared.Spot.{Spot}
+use Rattle.compiling.proofs.Stores.{stored-none, stored-append, stored-length}
+use Rattle.compiling.proofs.Rows.{compare-keys}
 use Rattle.machine.proofs.Length.{sequence-few}
 
 -- ---- the keys of a word
 

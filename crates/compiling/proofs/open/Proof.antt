@@ -2,11 +2,11 @@
 use native.Mathlib.Omega.{arith}
 use mathlib.Core.Path.{ap}
 use lib.ListN.{length}
-use Rattle.machine.specs.inner.Compiling.{openingKeys}
-use Rattle.machine.proofs.Spots.{open-on, open-new}
+use Rattle.compiling.specs.inner.Compiling.{openingKeys}
+use Rattle.compiling.proofs.Spots.{open-on, open-new}
 use borrow.Author.Needs.{needs}
-use Rattle.machine.proofs.compiling.open.Statement.{statement}
-use Rattle.machine.proofs.compiling.open.Tie as tie
+use Rattle.compiling.proofs.open.Statement.{statement}
+use Rattle.compiling.proofs.open.Tie as tie
 
 returns : tie.Need-returns
 returns c = open-on (c .before .args .s) (c .before .args .keys .now) (c .if1 .taken)

@@ -1,20 +1,31 @@
-// Compiling a clause into the keys of its sequence.
-use crate::Key;
-use crate::Sequence;
-use crate::Spot;
+// Compiling a clause into the keys of its sequence (document 01, "Compiling").
 use clause::Clause;
 use clause::arity;
+use machine::Key;
+use machine::Sequence;
 ghost use mathlib.Core.Path.{_≡_};
 ghost use mathlib.Core.Bool.{true};
 ghost use Prim.Native.Nat.{_+_, _≤_, _<_};
 ghost use lib.ListN.{length, take};
 ghost use Rattle.clause.specs.Word.{arities};
 ghost use Rattle.clause.specs.Clause.{maxWords};
 ghost use Rattle.machine.specs.Compile.{first, way};
 ghost use Rattle.machine.specs.Machine.{slots};
 ghost use Rattle.machine.specs.Compiled.{maxKeys, Compiled};
-ghost use Rattle.machine.specs.inner.Compiling.{Room, Stored, firstsOf, rowKeys, compareKeys, savedIn, openingKeys, opened, Acted, stepKeys, Went};
-ghost use Rattle.machine.specs.inner.Compiling.{Ready, Advanced};
+ghost use Rattle.compiling.specs.inner.Compiling.{Room, Stored, firstsOf, rowKeys, compareKeys, savedIn, openingKeys, opened, Acted, stepKeys, Went};
+ghost use Rattle.compiling.specs.inner.Compiling.{Ready, Advanced};
+
+// Where the compiling stands: inside a literal or past its end, the right siblings of the next word, how many positions there are to come back to,
+// the pushes so far, the puts so far, the put at which the literal began, and how many keys are written.
+struct Spot {
+    inside: bool,
+    left: usize,
+    depth: usize,
+    pushed: usize,
+    count: usize,
+    from: usize,
+    written: usize,
+}
 
 // The number of the first put of variable v.
 fn first_put(variables: &[u16], v: u16) -> usize

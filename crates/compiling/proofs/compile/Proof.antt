@@ -4,10 +4,10 @@ use Prim.Native.Nat.{_-_}
 use native.Mathlib.Omega.{arith}
 use borrow.Author.Needs.{needs}
 use lib.ListN.{length}
-use Rattle.machine.proofs.Stores.{stored-length}
-use Rattle.machine.proofs.Turns.{Compiling, compiling-starts, compiling-goes-on, compiling-ends}
-use Rattle.machine.proofs.compiling.compile.Statement.{statement}
-use Rattle.machine.proofs.compiling.compile.Tie as tie
+use Rattle.compiling.proofs.Stores.{stored-length}
+use Rattle.compiling.proofs.Turns.{Compiling, compiling-starts, compiling-goes-on, compiling-ends}
+use Rattle.compiling.proofs.compile.Statement.{statement}
+use Rattle.compiling.proofs.compile.Tie as tie
 
 abbrev Inv-loop : tie.InvT-loop
 Inv-loop words keys₀ variables₀ firsts₀ saved₀ s₀ i₀ keys variables firsts saved s i = Compiling words keys₀ i s variables firsts saved keys

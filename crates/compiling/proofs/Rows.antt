@@ -11,11 +11,11 @@ use lib.ListN.{length, getD, set, length-append, length-map}
 use lib.Dec.{leb, ltb, eqb}
 use borrow.Author.Tests.{eq-eqb, ne-eqb, le-leb, lt-leb, lt-ltb, le-ltb}
 use Rattle.clause.specs.Lists.{numbersBelow}
 use Rattle.machine.specs.Instr.{Compare, Do, key, Step}
 use Rattle.machine.specs.Compile.{first, repeats, compares}
-use Rattle.machine.specs.inner.Compiling.{Stored, firstsOf, repeatsBy, rowKeys, compareKeys, stepKeys}
-use Rattle.machine.proofs.Stores.{stored-none, stored-append, stored-snoc}
+use Rattle.compiling.specs.inner.Compiling.{Stored, firstsOf, repeatsBy, rowKeys, compareKeys, stepKeys}
+use Rattle.compiling.proofs.Stores.{stored-none, stored-append, stored-snoc}
 use Rattle.machine.proofs.Length.{flatMap-numbersBelow}
 use Rattle.clause.proofs.Lists.{getD-map-lt}
 
 -- the key of a Compare

@@ -9,11 +9,11 @@ use native.Mathlib.Numerals.{add-one}
 use lib.ListN.{length, getD, set}
 use lib.Seq.{getD-set-same, getD-set-other}
 use Rattle.clause.specs.Word.{arities}
 use Rattle.machine.specs.Instr.{Down, Right, Push, Pop, key}
 use Rattle.machine.specs.Compile.{Saved, ended, inside, Way, way}
-use Rattle.machine.specs.inner.Compiling.{Stored, openingKeys, atHead, opened, savedIn, stepKeys, Went}
-use Rattle.machine.specs.declared.Spot.{Spot}
-use Rattle.machine.proofs.Stores.{stored-none}
+use Rattle.compiling.specs.inner.Compiling.{Stored, openingKeys, atHead, opened, savedIn, stepKeys, Went}
+use Rattle.compiling.specs.declared.Spot.{Spot}
+use Rattle.compiling.proofs.Stores.{stored-none}
 
 -- a literal goes on, or begins
 pub open-on : (s : Spot) (keys : List ℕ) → s .inside ≡ true → (s ≡ opened s) × Stored (openingKeys (s .inside)) keys (s .written) keys (s .written)

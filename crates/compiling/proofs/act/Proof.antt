@@ -2,10 +2,10 @@
 use mathlib.Core.Path.{sym}
 use native.Mathlib.Omega.{arith}
 use lib.Seq.{length-take-le}
-use Rattle.machine.proofs.Puts.{acted-put, acted-check}
+use Rattle.compiling.proofs.Puts.{acted-put, acted-check}
 use borrow.Author.Needs.{needs}
-use Rattle.machine.proofs.compiling.act.Statement.{statement}
-use Rattle.machine.proofs.compiling.act.Tie as tie
+use Rattle.compiling.proofs.act.Statement.{statement}
+use Rattle.compiling.proofs.act.Tie as tie
 
 slice-reshare-prefix-first-put : tie.Need-slice-reshare-prefix-first-put
 slice-reshare-prefix-first-put c = search needs

@@ -5,12 +5,12 @@ use Prim.Native.Nat.{_≤_, _<_, _+_, _-_}
 use native.Mathlib.Omega.{arith}
 use borrow.Author.Needs.{needs}
 use lib.ListN.{length, length-set}
-use Rattle.machine.specs.inner.Compiling.{Stored}
-use Rattle.machine.proofs.Rows.{row, row-from, row-above, row-room, row-start, row-stored, row-passed, row-whole}
-use Rattle.machine.proofs.compiling.compare_row.Statement.{statement}
-use Rattle.machine.proofs.compiling.compare_row.Tie as tie
-use Rattle.machine.proofs.compiling.compare_row.Reads as reads
-use Rattle.machine.proofs.compiling.compare_row.Lts as lts
+use Rattle.compiling.specs.inner.Compiling.{Stored}
+use Rattle.compiling.proofs.Rows.{row, row-from, row-above, row-room, row-start, row-stored, row-passed, row-whole}
+use Rattle.compiling.proofs.compare_row.Statement.{statement}
+use Rattle.compiling.proofs.compare_row.Tie as tie
+use Rattle.compiling.proofs.compare_row.Reads as reads
+use Rattle.compiling.proofs.compare_row.Lts as lts
 
 abbrev Inv-loop : tie.InvT-loop
 Inv-loop firsts from m keys₀ written at₀ k₀ keys at k =

@@ -3,10 +3,10 @@ use mathlib.Core.Path.{refl, sym}
 use native.Mathlib.Omega.{arith}
 use lib.Seq.{length-take-le}
 use Rattle.clause.specs.Word.{arity}
-use Rattle.machine.proofs.Turns.{open-asks, act-asks, onward-asks, count-fits, close-asks, turn-on, turn-out}
+use Rattle.compiling.proofs.Turns.{open-asks, act-asks, onward-asks, count-fits, close-asks, turn-on, turn-out}
 use borrow.Author.Needs.{needs}
-use Rattle.machine.proofs.compiling.compile_word.Statement.{statement}
-use Rattle.machine.proofs.compiling.compile_word.Tie as tie
+use Rattle.compiling.proofs.compile_word.Statement.{statement}
+use Rattle.compiling.proofs.compile_word.Tie as tie
 
 mul-w : tie.Need-mul-w
 mul-w c = search needs

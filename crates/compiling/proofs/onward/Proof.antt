@@ -2,13 +2,13 @@
 use Prim.Native.Nat.{_+_, _-_, _≤_}
 use native.Mathlib.Omega.{arith}
 use lib.ListN.{length, length-set}
-use Rattle.machine.specs.inner.Compiling.{savedIn}
-use Rattle.machine.proofs.Spots.{push-two, down-one, right-one, pop-one, went-push, went-down, went-right, went-pop, went-out}
+use Rattle.compiling.specs.inner.Compiling.{savedIn}
+use Rattle.compiling.proofs.Spots.{push-two, down-one, right-one, pop-one, went-push, went-down, went-right, went-pop, went-out}
 use borrow.Author.Needs.{needs}
-use Rattle.machine.proofs.compiling.onward.Statement.{statement}
-use Rattle.machine.proofs.compiling.onward.Tie as tie
-use Rattle.machine.proofs.compiling.onward.Reads as reads
-use Rattle.machine.proofs.compiling.onward.Lts as lts
+use Rattle.compiling.proofs.onward.Statement.{statement}
+use Rattle.compiling.proofs.onward.Tie as tie
+use Rattle.compiling.proofs.onward.Reads as reads
+use Rattle.compiling.proofs.onward.Lts as lts
 
 sub-s : tie.Need-sub-s
 sub-s c = search needs

@@ -10,11 +10,11 @@ use lib.ListN.{length, getD, take, drop, set, drop-of-length-le}
 use lib.Seq.{drop-cons, take-suc-set, length-take-le}
 use borrow.Author.Tests.{eq-eqb, ne-eqb}
 use Rattle.clause.specs.Word.{kind, arity, sortBy, sort, variable, ifVariable}
 use Rattle.machine.specs.Instr.{key}
 use Rattle.machine.specs.Compile.{first, act, putsAfter}
-use Rattle.machine.specs.inner.Compiling.{firstsOf, Acted}
+use Rattle.compiling.specs.inner.Compiling.{firstsOf, Acted}
 use Rattle.machine.proofs.Compares.{first-le}
 use Rattle.machine.proofs.Agree.{first-append}
 
 -- the search from index i on: found there, not there, at the end
 module _ (us : List ℕ) (v i : ℕ) where

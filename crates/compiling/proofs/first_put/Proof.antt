@@ -4,10 +4,10 @@ use Prim.Native.Nat.{_≤_, _+_, _-_}
 use native.Mathlib.Omega.{arith}
 use borrow.Author.Needs.{needs}
 use lib.ListN.{length, drop}
 use Rattle.machine.specs.Compile.{first}
-use Rattle.machine.proofs.Puts.{first-here, first-past, first-end}
-use Rattle.machine.proofs.compiling.first_put.Statement.{statement}
-use Rattle.machine.proofs.compiling.first_put.Tie as tie
+use Rattle.compiling.proofs.Puts.{first-here, first-past, first-end}
+use Rattle.compiling.proofs.first_put.Statement.{statement}
+use Rattle.compiling.proofs.first_put.Tie as tie
 
 abbrev Inv-loop : tie.InvT-loop
 Inv-loop variables v i₀ i = (i ≤ length variables) × (first v variables ≡ i + first v (drop i variables))
