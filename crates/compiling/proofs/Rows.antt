@@ -82,7 +82,9 @@ module _ (firsts : List ℕ) (from m : ℕ) where
   -- there is room for a Compare
   pub row-room : (k : ℕ) → from ≤ k → m < k → k < length firsts → getD firsts k 0 ≡ m → length (row k) < length (rowKeys firsts from m)
   unfolding rowKeys
-  row-room k h g l e = omega (arith, ap length (row-hit k h g e), length-append (row k) (key (Do (Compare m k)) ∷ []), row-le (k + 1) (length firsts) (omega arith), ap length row-whole)
+  row-room k h g l e =
+      let one-more = ap length (row-hit k h g e) ∙ length-append (row k) (key (Do (Compare m k)) ∷ []) in
+      omega (arith, one-more, row-le (k + 1) (length firsts) (omega arith), ap length row-whole)
 
   -- nothing stored yet, a Compare more, no Compare
   pub row-start : {before : List ℕ} {at : ℕ} (k : ℕ) → row k ≡ [] → Stored (row k) before at before at
@@ -93,8 +95,8 @@ module _ (firsts : List ℕ) (from m : ℕ) where
         → Stored (row (k + 1)) before at (set after end (0x8_0000_0000 + m * 0x1_0000 + k)) (end + 1)
     row-stored k h g e s = rw (row-hit k h g e, compare-key) (stored-snoc (key (Do (Compare m k))) s)
 
-    pub row-passed : (k : ℕ) → from ≤ k → m < k → getD firsts k 0 ≢ m → Stored (row k) before at after end → Stored (row (k + 1)) before at after end
-    row-passed k h g n s = rw (row-miss k h g n) s
+    pub row-over : (k : ℕ) → from ≤ k → m < k → getD firsts k 0 ≢ m → Stored (row k) before at after end → Stored (row (k + 1)) before at after end
+    row-over k h g n s = rw (row-miss k h g n) s
 
 -- the Compares of the first n puts with all
 module _ (firsts : List ℕ) (from : ℕ) where

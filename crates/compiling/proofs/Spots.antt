@@ -156,7 +156,15 @@ module _ (a : ℕ) (s : Spot) (saved keys : List ℕ) (within : s .inside ≡ tr
 
   pub went-pop : a ≡ 0 → s .left ≡ 0 → 0 < s .depth
       → Went here s
-      (record { inside = s .inside; left = getD saved (s .depth - 1) 0 % arities; depth = s .depth - 1; pushed = s .pushed; count = s .count; from = s .from; written = s .written + 1 })
+      (record {
+        inside = s .inside;
+        left = getD saved (s .depth - 1) 0 % arities;
+        depth = s .depth - 1;
+        pushed = s .pushed;
+        count = s .count;
+        from = s .from;
+        written = s .written + 1;
+      })
       saved keys (set keys (s .written) (0x6_0000_0000 + getD saved (s .depth - 1) 0 / arities))
   unfolding key
   went-pop e f h =

@@ -14,7 +14,7 @@ use Rattle.machine.specs.Instr.{Do, key}
 use Rattle.machine.specs.Machine.{slots}
 use Rattle.machine.specs.Compile.{Place, ended, inside, Way, way, wayFrom, opening, begun, closing, act, putsAfter, sequenceFrom, sequence, keys}
 use Rattle.machine.specs.Compiled.{maxKeys, Compiled}
-use Rattle.compiling.specs.inner.Compiling.{Room, firstsOf, compareKeys, savedIn, placeAt, openingKeys, opened, stepKeys, toCome, Stored, Acted, Went, Ready, Advanced}
+use Rattle.compiling.specs.inner.Compiling.{Room, firstsOf, compareKeys, savedIn, placeAt, openingKeys, opened, stepKeys, toCome, Stored, Acted, Went, CompilingAt, Advanced}
 use Rattle.compiling.specs.declared.Spot.{Spot}
 use Rattle.compiling.proofs.Stores.{stored-none, stored-append, stored-length}
 use Rattle.compiling.proofs.Rows.{compare-keys}
@@ -91,7 +91,7 @@ wordAt words i = getD words i 0
 abbrev pub putsOf : Spot → (variables : List ℕ) → List ℕ
 putsOf s variables = take (s .count) variables
 
-module _ {words : List ℕ} {i : ℕ} {s : Spot} {variables firsts saved keys : List ℕ} (R : Ready words i s variables firsts saved keys) (h : i < length words)
+module _ {words : List ℕ} {i : ℕ} {s : Spot} {variables firsts saved keys : List ℕ} (R : CompilingAt words i s variables firsts saved keys) (h : i < length words)
     {o : Spot} (eo : o ≡ opened s) where
   split : toCome words i s variables saved ≡ allKeys (drop (i + 1) words) s o saved (putsOf s variables) (wordAt words i)
   unfolding toCome
@@ -107,7 +107,8 @@ module _ {words : List ℕ} {i : ℕ} {s : Spot} {variables firsts saved keys : 
   open-asks = omega (arith, word-room)
 
   pub act-asks : {keys₁ : List ℕ} → Stored (openingKeys (s .inside)) keys (s .written) keys₁ (o .written)
-      → (o .count < length variables) × (o .count < length firsts) × (o .written < length keys₁) × (o .count < slots) × (take (o .count) firsts ≡ firstsOf (take (o .count) variables))
+      → (o .count < length variables) × (o .count < length firsts) × (o .written < length keys₁) × (o .count < slots)
+      × (take (o .count) firsts ≡ firstsOf (take (o .count) variables))
   act-asks so =
       let p = opens s eo in (
         omega (arith, p .count, R .variables-size, R .count-low, R .few-words),
@@ -205,7 +206,7 @@ module _ {words : List ℕ} {i : ℕ} {s : Spot} {variables firsts saved keys : 
             }
 
         pub ready : length variables′ ≡ length variables → length firsts′ ≡ length firsts → length saved′ ≡ length saved
-            → Ready words (i + 1) (endedAt r end) variables′ firsts′ saved′ keys₄
+            → CompilingAt words (i + 1) (endedAt r end) variables′ firsts′ saved′ keys₄
         ready lv lf ls =
             let p = opens s eo in
             let low : o .from ≤ s .count = p .from (R .from-low) in
@@ -226,11 +227,11 @@ module _ {words : List ℕ} {i : ℕ} {s : Spot} {variables firsts saved keys : 
       -- the next word's spot
       module _ (lv : length variables′ ≡ length variables) (lf : length firsts′ ≡ length firsts) (ls : length saved′ ≡ length saved) where
         pub turn-on : r .inside ≡ true
-            → Ready words (i + 1) r variables′ firsts′ saved′ keys₃ × Advanced words i s variables saved keys r variables′ saved′ keys₃
+            → CompilingAt words (i + 1) r variables′ firsts′ saved′ keys₃ × Advanced words i s variables saved keys r variables′ saved′ keys₃
         turn-on e = let n = stored-none keys₃ (r .written) in (ready (closing-on e) n lv lf ls, advanced (closing-on e) n)
 
         pub turn-out : {keys₄ : List ℕ} {end : ℕ} → r .inside ≡ false → Stored (compareKeys (take count firsts′) (r .from)) keys₃ (r .written) keys₄ end
-            → Ready words (i + 1) (endedAt r end) variables′ firsts′ saved′ keys₄ × Advanced words i s variables saved keys (endedAt r end) variables′ saved′ keys₄
+            → CompilingAt words (i + 1) (endedAt r end) variables′ firsts′ saved′ keys₄ × Advanced words i s variables saved keys (endedAt r end) variables′ saved′ keys₄
         turn-out e sC = (ready (closing-out e) sC lv lf ls, advanced (closing-out e) sC)
 
 -- ---- all words
@@ -238,7 +239,7 @@ module _ {words : List ℕ} {i : ℕ} {s : Spot} {variables firsts saved keys : 
 -- the words before i are compiled
 pub record Compiling (words before : List ℕ) (i : ℕ) (s : Spot) (variables firsts saved now : List ℕ) : Type 0 where
   pub low : i ≤ length words
-  pub ready : Ready words i s variables firsts saved now
+  pub ready : CompilingAt words i s variables firsts saved now
   pub done : List ℕ
   pub comes : keys words ≡ done ++ toCome words i s variables saved
   pub stored : Stored done before 0 now (s .written)
@@ -276,7 +277,7 @@ compiling-starts {words} {before} {variables} {firsts} {saved} few wide lv lf ls
     }
 
 pub compiling-goes-on : {words before variables firsts saved now variables′ firsts′ saved′ now′ : List ℕ} {i : ℕ} {s r : Spot}
-    → Compiling words before i s variables firsts saved now → i < length words → Ready words (i + 1) r variables′ firsts′ saved′ now′
+    → Compiling words before i s variables firsts saved now → i < length words → CompilingAt words (i + 1) r variables′ firsts′ saved′ now′
     → Advanced words i s variables saved now r variables′ saved′ now′ → Compiling words before (i + 1) r variables′ firsts′ saved′ now′
 compiling-goes-on C h R A =
     record {

@@ -13,7 +13,7 @@ ghost use Rattle.machine.specs.Compile.{first, way};
 ghost use Rattle.machine.specs.Machine.{slots};
 ghost use Rattle.machine.specs.Compiled.{maxKeys, Compiled};
 ghost use Rattle.compiling.specs.inner.Compiling.{Room, Stored, firstsOf, rowKeys, compareKeys, savedIn, openingKeys, opened, Acted, stepKeys, Went};
-ghost use Rattle.compiling.specs.inner.Compiling.{Ready, Advanced};
+ghost use Rattle.compiling.specs.inner.Compiling.{CompilingAt, Advanced};
 
 // Where the compiling stands: inside a literal or past its end, the right siblings of the next word, how many positions there are to come back to,
 // the pushes so far, the puts so far, the put at which the literal began, and how many keys are written.
@@ -180,9 +180,9 @@ fn compile_word(
     saved: &mut [usize],
     keys: &mut [u64],
 ) -> Spot
-    requires { ⌜ (i < length (now words)) × Ready (now words) i s (now variables) (now firsts) (now saved) (now keys) ⌝ }
+    requires { ⌜ (i < length (now words)) × CompilingAt (now words) i s (now variables) (now firsts) (now saved) (now keys) ⌝ }
     ensures { λ r. ⌜
-        Ready (now (words .entry)) (i + 1) r (now (variables .exit)) (now (firsts .exit)) (now (saved .exit)) (now (keys .exit))
+        CompilingAt (now (words .entry)) (i + 1) r (now (variables .exit)) (now (firsts .exit)) (now (saved .exit)) (now (keys .exit))
         × Advanced (now (words .entry)) i s (now (variables .entry)) (now (saved .entry)) (now (keys .entry))
         r (now (variables .exit)) (now (saved .exit)) (now (keys .exit)) ⌝ }
 {

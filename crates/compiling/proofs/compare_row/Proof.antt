@@ -6,7 +6,7 @@ use native.Mathlib.Omega.{arith}
 use borrow.Author.Needs.{needs}
 use lib.ListN.{length, length-set}
 use Rattle.compiling.specs.inner.Compiling.{Stored}
-use Rattle.compiling.proofs.Rows.{row, row-from, row-above, row-room, row-start, row-stored, row-passed, row-whole}
+use Rattle.compiling.proofs.Rows.{row, row-from, row-above, row-room, row-start, row-stored, row-over, row-whole}
 use Rattle.compiling.proofs.compare_row.Statement.{statement}
 use Rattle.compiling.proofs.compare_row.Tie as tie
 use Rattle.compiling.proofs.compare_row.Reads as reads
@@ -45,10 +45,12 @@ add-keys c = search needs
 add-keys-2 : tie.Need-add-keys-2 Inv-loop μ-loop
 add-keys-2 c = search needs
 
-room : (c : lts.After-row-known2 reads.Pre reads.Post Inv-loop μ-loop) → c .before .before .before .before .before .loop .at < length (c .before .before .before .before .before .loop .keys)
+-- there is room for one more key
+room : (c : lts.After-row-known2 reads.Pre reads.Post Inv-loop μ-loop) → let l = c .before .before .before .before .before .loop in l .at < length (l .keys)
 room c =
-    let a = c .before .before .before .before .before .before .before .args in
-    omega (arith, row-room (a .firsts .now) (a .from) (a .m) (c .before .before .before .before .before .loop .k) (omega arith) (omega arith) (omega arith) (c .before .if2 .taken))
+    let l = c .before .before .before .before .before in
+    let a = l .before .before .args in
+    omega (arith, row-room (a .firsts .now) (a .from) (a .m) (l .loop .k) (omega arith) (omega arith) (omega arith) (c .before .if2 .taken))
 
 mul-keys-2 : tie.Need-mul-keys-2 Inv-loop μ-loop
 mul-keys-2 c = omega (arith, room c)
@@ -68,10 +70,12 @@ loop-less c = search needs
 loop-again : tie.Need-loop-again Inv-loop μ-loop
 loop-again c =
     let a = c .before .before .before .before .before .before .args in
+    let f = a .firsts .now in
     let l = c .before .before .before .before .loop in
+    let i = l .inv in
     ⊎-elim
-    (λ w. rw (w .2, w .3) (omega arith, omega arith, omega arith, simp length-set (l .inv .3), row-stored (a .firsts .now) (a .from) (a .m) (l .k) (l .inv .0) (l .inv .1) (w .0 .taken) (l .inv .4)))
-    (λ w. rw (w .1, w .2) (omega arith, omega arith, omega arith, l .inv .3, row-passed (a .firsts .now) (a .from) (a .m) (l .k) (l .inv .0) (l .inv .1) (w .0 .left) (l .inv .4)))
+    (λ w. rw (w .2, w .3) (omega arith, omega arith, omega arith, simp length-set (i .3), row-stored f (a .from) (a .m) (l .k) (i .0) (i .1) (w .0 .taken) (i .4)))
+    (λ w. rw (w .1, w .2) (omega arith, omega arith, omega arith, i .3, row-over f (a .from) (a .m) (l .k) (i .0) (i .1) (w .0 .left) (i .4)))
     (c .if2 .came)
 
 same-length : tie.Need-same-length Inv-loop μ-loop

@@ -89,7 +89,7 @@ toCome words i s variables saved =
     map key (sequenceFrom (drop i words) (placeAt s saved) (take (s .count) variables) (s .from) (s .pushed))
 
 -- a spot and its arrays before word i, with room for the keys to come
-pub record Ready (words : List ℕ) (i : ℕ) (s : Spot) (variables firsts saved keys : List ℕ) : Type 0 where
+pub record CompilingAt (words : List ℕ) (i : ℕ) (s : Spot) (variables firsts saved keys : List ℕ) : Type 0 where
   pub few-words : length words ≤ maxWords
   pub variables-size : length variables ≡ slots
   pub firsts-size : length firsts ≡ slots
