@@ -28,11 +28,11 @@ module _ (firsts : List ℕ) (from m : ℕ) where
   abbrev pub cell : ℕ → List ℕ
   cell k = cond (repeatsBy firsts from m k) (key (Do (Compare m k)) ∷ []) []
 
-  unfoldable pub row : ℕ → List ℕ
-  row n = flatMap cell (numbersBelow n)
+  unfoldable pub rowTo : ℕ → List ℕ
+  rowTo n = flatMap cell (numbersBelow n)
 
-  row-suc : (k : ℕ) → row (k + 1) ≡ row k ++ cell k
-  unfolding row
+  row-suc : (k : ℕ) → rowTo (k + 1) ≡ rowTo k ++ cell k
+  unfolding rowTo
   row-suc k = rw add-one (flatMap-numbersBelow cell k)
 
   early : (k : ℕ) → k < from → repeatsBy firsts from m k ≡ false
@@ -48,85 +48,85 @@ module _ (firsts : List ℕ) (from m : ℕ) where
       go false = refl
 
   -- nothing before the literal, nothing up to m
-  row-none : (n : ℕ) → ((k : ℕ) → k < n → repeatsBy firsts from m k ≡ false) → row n ≡ []
-  unfolding row numbersBelow flatMap
+  row-none : (n : ℕ) → ((k : ℕ) → k < n → repeatsBy firsts from m k ≡ false) → rowTo n ≡ []
+  unfolding rowTo numbersBelow flatMap
   row-none zero h = refl
   row-none (suc n) h = flatMap-numbersBelow cell n ∙ rw (row-none n (λ k l. h k (omega arith)), h n (omega arith))
 
-  pub row-from : row from ≡ []
+  pub row-from : rowTo from ≡ []
   row-from = row-none from early
 
-  pub row-above : row (m + 1) ≡ []
+  pub row-above : rowTo (m + 1) ≡ []
   row-above = row-none (m + 1) (λ k h. low k (omega arith))
 
   -- one put more
-  pub row-hit : (k : ℕ) → from ≤ k → m < k → getD firsts k 0 ≡ m → row (k + 1) ≡ row k ++ (key (Do (Compare m k)) ∷ [])
+  pub row-hit : (k : ℕ) → from ≤ k → m < k → getD firsts k 0 ≡ m → rowTo (k + 1) ≡ rowTo k ++ (key (Do (Compare m k)) ∷ [])
   unfolding repeatsBy
   row-hit k h g e = row-suc k ∙ rw (le-leb from k h, lt-ltb m k g, eq-eqb (getD firsts k 0) m e)
 
-  pub row-miss : (k : ℕ) → from ≤ k → m < k → getD firsts k 0 ≢ m → row (k + 1) ≡ row k
+  pub row-miss : (k : ℕ) → from ≤ k → m < k → getD firsts k 0 ≢ m → rowTo (k + 1) ≡ rowTo k
   unfolding repeatsBy
-  row-miss k h g n = row-suc k ∙ rw (le-leb from k h, lt-ltb m k g, ne-eqb (getD firsts k 0) m n) (append-nil (row k))
+  row-miss k h g n = row-suc k ∙ rw (le-leb from k h, lt-ltb m k g, ne-eqb (getD firsts k 0) m n) (append-nil (rowTo k))
 
-  row-grows : (k d : ℕ) → length (row k) ≤ length (row (k + d))
+  row-grows : (k d : ℕ) → length (rowTo k) ≤ length (rowTo (k + d))
   row-grows k zero = rw add-zero (omega arith)
   row-grows k (suc d) = rw (add-suc, ← add-one, row-suc) (simp length-append (omega (arith, row-grows k d)))
 
-  pub row-le : (k n : ℕ) → k ≤ n → length (row k) ≤ length (row n)
+  pub row-le : (k n : ℕ) → k ≤ n → length (rowTo k) ≤ length (rowTo n)
   row-le k n h = let e : k + (n - k) ≡ n = omega arith in rw e at (row-grows k (n - k))
 
-  pub row-whole : rowKeys firsts from m ≡ row (length firsts)
-  unfolding rowKeys row
-  row-whole = refl
+  pub rowTo-whole : rowKeys firsts from m ≡ rowTo (length firsts)
+  unfolding rowKeys rowTo
+  rowTo-whole = refl
 
   -- there is room for a Compare
-  pub row-room : (k : ℕ) → from ≤ k → m < k → k < length firsts → getD firsts k 0 ≡ m → length (row k) < length (rowKeys firsts from m)
+  pub row-room : (k : ℕ) → from ≤ k → m < k → k < length firsts → getD firsts k 0 ≡ m → length (rowTo k) < length (rowKeys firsts from m)
   unfolding rowKeys
   row-room k h g l e =
-      let one-more = ap length (row-hit k h g e) ∙ length-append (row k) (key (Do (Compare m k)) ∷ []) in
-      omega (arith, one-more, row-le (k + 1) (length firsts) (omega arith), ap length row-whole)
+      let one-more = ap length (row-hit k h g e) ∙ length-append (rowTo k) (key (Do (Compare m k)) ∷ []) in
+      omega (arith, one-more, row-le (k + 1) (length firsts) (omega arith), ap length rowTo-whole)
 
   -- nothing stored yet, a Compare more, no Compare
-  pub row-start : {before : List ℕ} {at : ℕ} (k : ℕ) → row k ≡ [] → Stored (row k) before at before at
+  pub row-start : {before : List ℕ} {at : ℕ} (k : ℕ) → rowTo k ≡ [] → Stored (rowTo k) before at before at
   row-start k e = rw e (stored-none _ _)
 
   module _ {before after : List ℕ} {at end : ℕ} where
-    pub row-stored : (k : ℕ) → from ≤ k → m < k → getD firsts k 0 ≡ m → Stored (row k) before at after end
-        → Stored (row (k + 1)) before at (set after end (0x8_0000_0000 + m * 0x1_0000 + k)) (end + 1)
+    pub row-stored : (k : ℕ) → from ≤ k → m < k → getD firsts k 0 ≡ m → Stored (rowTo k) before at after end
+        → Stored (rowTo (k + 1)) before at (set after end (0x8_0000_0000 + m * 0x1_0000 + k)) (end + 1)
     row-stored k h g e s = rw (row-hit k h g e, compare-key) (stored-snoc (key (Do (Compare m k))) s)
 
-    pub row-over : (k : ℕ) → from ≤ k → m < k → getD firsts k 0 ≢ m → Stored (row k) before at after end → Stored (row (k + 1)) before at after end
+    pub row-over : (k : ℕ) → from ≤ k → m < k → getD firsts k 0 ≢ m → Stored (rowTo k) before at after end → Stored (rowTo (k + 1)) before at after end
     row-over k h g n s = rw (row-miss k h g n) s
 
 -- the Compares of the first n puts with all
 module _ (firsts : List ℕ) (from : ℕ) where
-  unfoldable pub rows : ℕ → List ℕ
-  rows n = flatMap (rowKeys firsts from) (numbersBelow n)
+  unfoldable pub rowsTo : ℕ → List ℕ
+  rowsTo n = flatMap (rowKeys firsts from) (numbersBelow n)
 
-  rows-suc : (m : ℕ) → rows (m + 1) ≡ rows m ++ rowKeys firsts from m
-  unfolding rows
+  rows-suc : (m : ℕ) → rowsTo (m + 1) ≡ rowsTo m ++ rowKeys firsts from m
+  unfolding rowsTo
   rows-suc m = rw add-one (flatMap-numbersBelow (rowKeys firsts from) m)
 
-  rows-grow : (m d : ℕ) → length (rows m) ≤ length (rows (m + d))
+  rows-grow : (m d : ℕ) → length (rowsTo m) ≤ length (rowsTo (m + d))
   rows-grow m zero = rw add-zero (omega arith)
   rows-grow m (suc d) = rw (add-suc, ← add-one, rows-suc) (simp length-append (omega (arith, rows-grow m d)))
 
-  pub rows-whole : compareKeys firsts from ≡ rows (length firsts)
-  unfolding compareKeys rows
-  rows-whole = refl
+  pub rowsTo-whole : compareKeys firsts from ≡ rowsTo (length firsts)
+  unfolding compareKeys rowsTo
+  rowsTo-whole = refl
 
   -- there is room for a row
-  pub rows-room : (m : ℕ) → m < length firsts → length (rows m) + length (rowKeys firsts from m) ≤ length (compareKeys firsts from)
+  pub rows-room : (m : ℕ) → m < length firsts → length (rowsTo m) + length (rowKeys firsts from m) ≤ length (compareKeys firsts from)
   rows-room m h =
       let e : (m + 1) + (length firsts - (m + 1)) ≡ length firsts = omega arith in
-      omega (arith, ap length (rows-suc m), length-append (rows m) (rowKeys firsts from m), rw e at (rows-grow (m + 1) (length firsts - (m + 1))), ap length rows-whole)
+      omega (arith, ap length (rows-suc m), length-append (rowsTo m) (rowKeys firsts from m), rw e at (rows-grow (m + 1) (length firsts - (m + 1))), ap length rowsTo-whole)
 
-  pub rows-none : rows 0 ≡ []
-  unfolding rows numbersBelow flatMap
+  pub rows-none : rowsTo 0 ≡ []
+  unfolding rowsTo numbersBelow flatMap
   rows-none = refl
 
-  pub rows-stored : {before after next : List ℕ} {at end stop : ℕ} (m : ℕ) → Stored (rows m) before at after end → Stored (rowKeys firsts from m) after end next stop
-      → Stored (rows (m + 1)) before at next stop
+  pub rows-stored : {before after next : List ℕ} {at end stop : ℕ} (m : ℕ) → Stored (rowsTo m) before at after end → Stored (rowKeys firsts from m) after end next stop
+      → Stored (rowsTo (m + 1)) before at next stop
   rows-stored m s t = rw rows-suc (stored-append s t)
 
 -- the numbers of the first puts give a literal's Compares

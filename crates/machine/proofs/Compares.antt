@@ -88,26 +88,26 @@ module _ {κ} {P : Step → Type κ} (puts : List ℕ) (from : ℕ) where
       all-head (rw e at (numbersBelow-all (length puts) (flatMap-all _ _ (numbersBelow-all (length puts) (flatMap-all _ _ p) m i)) k j))
 
 -- an outcome goes on as r does if P holds, and fails if it does not
-pub data Decided (P : Type 0) (o r : Outcome State) : Type 0 where
-  holds : P → o ≡ r → Decided P o r
-  refuted : (P → ⊥) → o ≡ fails → Decided P o r
+pub data GoesIf (P : Type 0) (o r : Outcome State) : Type 0 where
+  holds : P → o ≡ r → GoesIf P o r
+  refuted : (P → ⊥) → o ≡ fails → GoesIf P o r
 
-pub decided-iff : {P Q : Type 0} {o r : Outcome State} → (P → Q) → (Q → P) → Decided P o r → Decided Q o r
-decided-iff f g (holds p e) = holds (f p) e
-decided-iff f g (refuted n e) = refuted (λ q. n (g q)) e
+pub goes-if-iff : {P Q : Type 0} {o r : Outcome State} → (P → Q) → (Q → P) → GoesIf P o r → GoesIf Q o r
+goes-if-iff f g (holds p e) = holds (f p) e
+goes-if-iff f g (refuted n e) = refuted (λ q. n (g q)) e
 
-pub decided-from : {P : Type 0} {o o′ r : Outcome State} → o ≡ o′ → Decided P o′ r → Decided P o r
-decided-from e (holds p f) = holds p (e ∙ f)
-decided-from e (refuted n f) = refuted n (e ∙ f)
+pub goes-if-from : {P : Type 0} {o o′ r : Outcome State} → o ≡ o′ → GoesIf P o′ r → GoesIf P o r
+goes-if-from e (holds p f) = holds p (e ∙ f)
+goes-if-from e (refuted n f) = refuted n (e ∙ f)
 
 -- an outcome that can go on does so exactly if P holds
-pub decided-next : {P : Type 0} {o : Outcome State} {s t : State} → Decided P o (next t) → o ≡ next s → P
-decided-next (holds p e) f = p
-decided-next (refuted n e) f = absurd (fails≢next (sym e ∙ f))
+pub goes-if-next : {P : Type 0} {o : Outcome State} {s t : State} → GoesIf P o (next t) → o ≡ next s → P
+goes-if-next (holds p e) f = p
+goes-if-next (refuted n e) f = absurd (fails≢next (sym e ∙ f))
 
-pub decided-then : {P : Type 0} {o r : Outcome State} → Decided P o r → P → o ≡ r
-decided-then (holds p e) q = e
-decided-then (refuted n e) q = absurd (n q)
+pub goes-if-then : {P : Type 0} {o r : Outcome State} → GoesIf P o r → P → o ≡ r
+goes-if-then (holds p e) q = e
+goes-if-then (refuted n e) q = absurd (n q)
 
 -- a list of tests passes whole, or fails
 abbrev Passes : List ℕ → State → Step → Type 0
@@ -122,14 +122,14 @@ module _ (d : List ℕ) (sequence : List Instr) (js : List ℕ) (s : State) wher
   unfolding run
   run-fail x after e = rw e
 
-  run-tests : {tests : List Step} → All (λ x. Decided (Passes d s x) (step d x s) (next s)) tests
-      → Decided (All (Passes d s) tests) (run d (map Do tests ++ sequence) js s) (run d sequence js s)
+  run-tests : {tests : List Step} → All (λ x. GoesIf (Passes d s x) (step d x s) (next s)) tests
+      → GoesIf (All (Passes d s) tests) (run d (map Do tests ++ sequence) js s) (run d sequence js s)
   run-tests all-none = holds all-none refl
   run-tests (also {x = x} (refuted n e) p) = refuted (λ q. n (all-head q)) (run-fail x _ e)
   run-tests (also {x = x} {xs = xs} (holds h e) p) = go (run-tests p)
     where
-      go : Decided (All (Passes d s) xs) (run d (map Do xs ++ sequence) js s) (run d sequence js s)
-          → Decided (All (Passes d s) (x ∷ xs)) (run d (Do x ∷ (map Do xs ++ sequence)) js s) (run d sequence js s)
+      go : GoesIf (All (Passes d s) xs) (run d (map Do xs ++ sequence) js s) (run d sequence js s)
+          → GoesIf (All (Passes d s) (x ∷ xs)) (run d (Do x ∷ (map Do xs ++ sequence)) js s) (run d sequence js s)
       go (holds q f) = holds (also h q) (run-next x _ e ∙ f)
       go (refuted n f) = refuted (λ q. n (all-tail q)) (run-next x _ e ∙ f)
 
@@ -143,11 +143,11 @@ module _ (d : List ℕ) (s : State) (c : ℕ) (at : s .head ≡ some c) (m k p q
   unfolding step stepFrom stepAt require compareTerms sameTerms
   compare-is = rw (at, lt-ltb m slots i, lt-ltb k slots j, e, f)
 
-  step-compare : Decided (termAt d p ≡ termAt d q) (step d (Compare m k) s) (next s)
+  step-compare : GoesIf (termAt d p ≡ termAt d q) (step d (Compare m k) s) (next s)
   unfolding require
   step-compare = rw compare-is (go (alike (termAt d p) (termAt d q)) refl)
     where
-      go : (b : Bool) → alike (termAt d p) (termAt d q) ≡ b → Decided (termAt d p ≡ termAt d q) (require fails b (next s)) (next s)
+      go : (b : Bool) → alike (termAt d p) (termAt d q) ≡ b → GoesIf (termAt d p ≡ termAt d q) (require fails b (next s)) (next s)
       go true t = holds (alike-same _ _ t) refl
       go false t = refuted (λ g. let u : alike (termAt d p) (termAt d q) ≡ true = rw g (alike-refl (termAt d q)) in true≢false (sym u ∙ t)) refl
 
@@ -155,14 +155,14 @@ module _ (d : List ℕ) (sequence : List Instr) (js : List ℕ) (s : State) (c :
     (filled : (i : ℕ) → i < length puts → getD (s .puts) i none ≡ some (getD poss i 0)) where
   -- one of the Compares
   one : (m k : ℕ) → m < length puts → k < length puts
-      → Decided (termAt d (getD poss m 0) ≡ termAt d (getD poss k 0)) (step d (Compare m k) s) (next s)
+      → GoesIf (termAt d (getD poss m 0) ≡ termAt d (getD poss k 0)) (step d (Compare m k) s) (next s)
   one m k i j = step-compare d s c at m k (getD poss m 0) (getD poss k 0) (omega arith) (omega arith) (filled m i) (filled k j)
 
   all-pass : (from : ℕ) → Consistent d puts poss from → All (Passes d s) (compares puts from)
   all-pass from h =
       compares-all puts from λ m k i j e.
       let (a, b, f) = repeats-true puts from m k e in
-      decided-then (one m k i j) (rw f at (h k a j))
+      goes-if-then (one m k i j) (rw f at (h k a j))
 
   consistent : (from : ℕ) → All (Passes d s) (compares puts from) → Consistent d puts poss from
   consistent from p k h j = go (ℕ-discrete (first (getD puts k 0) puts) k)
@@ -172,9 +172,9 @@ module _ (d : List ℕ) (sequence : List Instr) (js : List ℕ) (s : State) (c :
       go (no n) =
           let g : first (getD puts k 0) puts < k = omega (arith, first-le puts k j) in
           let e = compares-each puts from p (first (getD puts k 0) puts) k (omega arith) j (repeats-first puts from k h g) in
-          decided-next (one (first (getD puts k 0) puts) k (omega arith) j) e
+          goes-if-next (one (first (getD puts k 0) puts) k (omega arith) j) e
 
-  pub run-compares : (from : ℕ) → Decided (Consistent d puts poss from) (run d (map Do (compares puts from) ++ sequence) js s) (run d sequence js s)
+  pub run-compares : (from : ℕ) → GoesIf (Consistent d puts poss from) (run d (map Do (compares puts from) ++ sequence) js s) (run d sequence js s)
   run-compares from =
-      decided-iff (consistent from) (all-pass from)
-      (run-tests d sequence js s (compares-all puts from λ m k i j e. decided-iff (λ h. decided-then (one m k i j) h) (λ h. decided-next (one m k i j) h) (one m k i j)))
+      goes-if-iff (consistent from) (all-pass from)
+      (run-tests d sequence js s (compares-all puts from λ m k i j e. goes-if-iff (λ h. goes-if-then (one m k i j) h) (λ h. goes-if-next (one m k i j) h) (one m k i j)))

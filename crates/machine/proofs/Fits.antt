@@ -24,13 +24,13 @@ abbrev pub chosen : List ℕ → ℕ → List ℕ
 chosen d j = getD (literals d) j []
 
 -- each literal matches the chosen one, the variables standing for the same terms throughout
-pub data Fits (d : List ℕ) : (ls : List (List ℕ)) (js puts poss : List ℕ) → Type 0 where
-  fits-none : {puts poss : List ℕ} → Fits d [] [] puts poss
+pub data FitsChosen (d : List ℕ) : (ls : List (List ℕ)) (js puts poss : List ℕ) → Type 0 where
+  fits-none : {puts poss : List ℕ} → FitsChosen d [] [] puts poss
   fits-also : {l : List ℕ} {ls : List (List ℕ)} {j : ℕ} {js puts poss ps : List ℕ} → flat d l (startOf d j) ≡ some ps
-      → Consistent d (puts ++ vars l) (poss ++ ps) (length puts) → Fits d ls js (puts ++ vars l) (poss ++ ps) → Fits d (l ∷ ls) (j ∷ js) puts poss
+      → Consistent d (puts ++ vars l) (poss ++ ps) (length puts) → FitsChosen d ls js (puts ++ vars l) (poss ++ ps) → FitsChosen d (l ∷ ls) (j ∷ js) puts poss
 
 -- the positions of all variables in the end
-unfoldable pub places : {d : List ℕ} {ls : List (List ℕ)} {js puts poss : List ℕ} → Fits d ls js puts poss → List ℕ
+unfoldable pub places : {d : List ℕ} {ls : List (List ℕ)} {js puts poss : List ℕ} → FitsChosen d ls js puts poss → List ℕ
 places (fits-none {poss = poss}) = poss
 places (fits-also f c F) = places F
 
@@ -66,7 +66,7 @@ module _ (d : List ℕ) (D : Clause d) where
     pub agrees : Agree replace d puts poss
     pub made : map (inst replace) ls ≡ map (chosen d) js
 
-  pub fits-replaces : {ls : List (List ℕ)} {js puts poss : List ℕ} (F : Fits d ls js puts poss) → All IsLiteral ls
+  pub fits-replaces : {ls : List (List ℕ)} {js puts poss : List ℕ} (F : FitsChosen d ls js puts poss) → All IsLiteral ls
       → All (λ j. j < length (literals d)) js
       → length puts ≡ length poss → Consistent d puts poss 0 → All (λ p. IsTerm (termAt d p)) poss
       → (R : Replaces ls js puts poss) × Agree (R .replace) d (puts ++ vars (flatten ls)) (places F)
@@ -87,7 +87,7 @@ module _ (d : List ℕ) (D : Clause d) where
       )
 
   pub replaces-fits : (ls : List (List ℕ)) (js puts poss : List ℕ) → All (λ j. j < length (literals d)) js → Replaces ls js puts poss
-      → Fits d ls js puts poss
+      → FitsChosen d ls js puts poss
   replaces-fits [] [] puts poss J R = fits-none
   replaces-fits [] (j ∷ js) puts poss J R = absurd (nil≢cons (R .made))
   replaces-fits (l ∷ ls) [] puts poss J R = absurd (cons≢nil (R .made))

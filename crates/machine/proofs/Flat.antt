@@ -21,7 +21,7 @@ use Rattle.clause.proofs.Skip.{Enough}
 use Rattle.clause.proofs.Literals.{Clause}
 use Rattle.clause.proofs.Terms.{if-other, variable-arity}
 use Rattle.clause.proofs.Jump.{jump-zero, jump-word, enough-here, enough-word, enough-term}
-use Rattle.machine.proofs.Way.{need, after, need-way, Stands, Keeps, Moved, Onto, move}
+use Rattle.machine.proofs.Way.{need, after, need-way, StandsAt, KeepsPuts, Moved, Onto, move}
 use Rattle.clause.specs.Positions.{jump}
 
 -- the words of a literal matched at p word by word, a variable with the whole term there: the positions of the variables
@@ -88,7 +88,7 @@ module _ (d rest : List ℕ) (from : ℕ) (js : List ℕ) where
   pub record Aligned (ws : List ℕ) (place : Place) (puts : List ℕ) (n p : ℕ) (s : State) : Type 0 where
     pub shaped : Shaped (need place) ws
     pub enough : Enough (need place) (drop p d)
-    pub stands : Stands d s n p place
+    pub stands : StandsAt d s n p place
     pub put-room : length puts + length (ws ++ rest) ≤ slots
     pub push-room : n + length (ws ++ rest) ≤ slots
     pub pushes : length (s .pushes) ≡ slots
@@ -97,7 +97,7 @@ module _ (d rest : List ℕ) (from : ℕ) (js : List ℕ) where
   Reaches ws = (place : Place) (puts : List ℕ) (n p : ℕ) (s : State) → Aligned ws place puts n p s
       → Agrees s (length puts) (putsAll puts ws) (run d (map Do (closing place puts from) ++ sequenceFrom (ws ++ rest) place puts from n) js s) (flat d ws p)
 
-  unmoved : {s : State} → Keeps s s
+  unmoved : {s : State} → KeepsPuts s s
   unmoved = record { chosen = refl; puts = refl; pushes = refl }
 
   -- what comes after a later state comes after an earlier one
@@ -116,7 +116,7 @@ module _ (d rest : List ℕ) (from : ℕ) (js : List ℕ) where
         room = a .room;
       }
 
-  agrees-kept : {r : Option (List ℕ)} {s t : State} {k : ℕ} {puts : List ℕ} {o o′ : Outcome State} → Keeps s t → o ≡ o′ → Agrees t k puts o′ r
+  agrees-kept : {r : Option (List ℕ)} {s t : State} {k : ℕ} {puts : List ℕ} {o o′ : Outcome State} → KeepsPuts s t → o ≡ o′ → Agrees t k puts o′ r
       → Agrees s k puts o r
   agrees-kept K e (miss f) = miss (e ∙ f)
   agrees-kept K e (hit {ps} a) = hit {ps = ps} (after-from ps ps e (K .chosen) (rw (K .puts) refl) a)
@@ -156,7 +156,7 @@ module _ (d rest : List ℕ) (from : ℕ) (js : List ℕ) where
     reach-variable : (s : State) → sort w ≡ variable → Aligned (w ∷ ws) (inside l saved) puts n p s
         → Agrees s (length puts) (putsAll (puts ++ (w ∷ [])) ws) (run d (Do (Put (length puts)) ∷ onward (puts ++ (w ∷ []))) js s)
         (Option·map (λ ps. p ∷ ps) (flat d ws (jump d 1 p)))
-    unfolding need Stands
+    unfolding need StandsAt
     reach-variable s e r =
         let z : arity w ≡ 0 = variable-arity w e in
         let o : Onto d (arity w) p (jump d 1 p) = record { spans = rw z (jump-zero d (jump d 1 p)); steps = λ b f. absurd (omega arith) } in
@@ -167,7 +167,7 @@ module _ (d rest : List ℕ) (from : ℕ) (js : List ℕ) where
     -- another word is at p, or does not match
     reach-other : (s : State) (b : Bool) → eqb (getD d p 0) w ≡ b → Aligned (w ∷ ws) (inside l saved) puts n p s
         → Agrees s (length puts) (putsAll puts ws) (run d (Do (Check w) ∷ onward puts) js s) (cond b (flat d ws (suc p)) none)
-    unfolding need Stands
+    unfolding need StandsAt
     reach-other s false e r = miss (run-miss d (onward puts) js s (r .stands .0) w e)
     reach-other s true e r =
         let m : getD d p 0 ≡ w = eqb-true (getD d p 0) w e in
@@ -187,7 +187,7 @@ module _ (d rest : List ℕ) (from : ℕ) (js : List ℕ) where
         go (no e) = simp (if-other, e, append-nil) (reach-other s (eqb (getD d p 0) w) refl r)
 
   pub reach : Clause d → (ws : List ℕ) → Reaches ws
-  unfolding flat putsAll closing need Stands
+  unfolding flat putsAll closing need StandsAt
   reach D [] ended puts n p s r =
       hit record { state = s; pushed = n; goes = refl; chosen = refl; stored = refl; pushes = r .pushes; cursor = r .stands .0; placed = r .stands .1; room = r .push-room }
   reach D [] (inside l saved) puts n p s r = absurd (omega (arith, shaped-nil (r .shaped)))

@@ -15,7 +15,7 @@ use Rattle.machine.proofs.Outcomes.{fails≢next}
 use Rattle.machine.proofs.Agree.{Agree, no-more}
 use Rattle.machine.proofs.Table.{filled, length-unfilled}
 use Rattle.machine.proofs.Fits.{chosen, places, fits-replaces, replaces-fits}
-use Rattle.machine.proofs.Run.{Ended, succeeds, mismatch, Begins, run-literals}
+use Rattle.machine.proofs.Run.{Ended, succeeds, mismatch, AboutToMatch, run-literals}
 
 -- one replacement that makes the literals of c the chosen ones
 pub record Makes (c d js : List ℕ) : Type 0 where
@@ -30,7 +30,7 @@ pub data Result (c d js : List ℕ) (o : Outcome State) : Type 0 where
   misses : (Makes c d js → ⊥) → o ≡ fails → Result c d js o
 
 module _ (c d : List ℕ) (C : Clause c) (D : Clause d) (js : List ℕ) (J : Choice c d js) where
-  begins : Begins (literals c) [] [] 0 initial
+  begins : AboutToMatch (literals c) [] [] 0 initial
   unfolding filled flatten
   begins =
       record {

@@ -18,12 +18,12 @@ use Rattle.clause.specs.Accepted.{IsLiteral}
 use Rattle.clause.proofs.Literals.{literal-shaped, Clause}
 use Rattle.clause.proofs.Starts.{found}
 use Rattle.clause.proofs.Siblings.{rights-start}
-use Rattle.machine.proofs.Way.{need, after, Stands}
+use Rattle.machine.proofs.Way.{need, after, StandsAt}
 use Rattle.machine.proofs.Flat.{flat, putsAll, After, Agrees, miss, hit, reach}
-use Rattle.machine.proofs.Compares.{Decided, holds, refuted, decided-from, Consistent, run-compares}
+use Rattle.machine.proofs.Compares.{GoesIf, holds, refuted, goes-if-from, Consistent, run-compares}
 use Rattle.machine.proofs.Replace.{length-vars, match-length}
 use Rattle.machine.proofs.Table.{filled, filled-more, filled-get}
-use Rattle.machine.proofs.Fits.{literal-match, Fits, fits-none, fits-also, places}
+use Rattle.machine.proofs.Fits.{literal-match, FitsChosen, fits-none, fits-also, places}
 use Rattle.clause.proofs.Apart.{apart}
 
 -- the variables put after some words
@@ -49,9 +49,9 @@ run-success d js s c e = rw e
 
 -- the literals fit the chosen ones, and their variables are put, or they do not fit
 pub data Ended (d : List ℕ) (ls : List (List ℕ)) (js puts poss taken : List ℕ) (o : Outcome State) : Type 0 where
-  succeeds : (F : Fits d ls js puts poss) (s : State) → o ≡ next s → s .chosen ≡ taken ++ js → s .puts ≡ filled (places F)
+  succeeds : (F : FitsChosen d ls js puts poss) (s : State) → o ≡ next s → s .chosen ≡ taken ++ js → s .puts ≡ filled (places F)
       → Ended d ls js puts poss taken o
-  mismatch : (Fits d ls js puts poss → ⊥) → o ≡ fails → Ended d ls js puts poss taken o
+  mismatch : (FitsChosen d ls js puts poss → ⊥) → o ≡ fails → Ended d ls js puts poss taken o
 
 ended-from : {d : List ℕ} {ls : List (List ℕ)} {js puts poss taken : List ℕ} {o o′ : Outcome State} → o ≡ o′ → Ended d ls js puts poss taken o′
     → Ended d ls js puts poss taken o
@@ -59,7 +59,7 @@ ended-from e (succeeds F s f c g) = succeeds F s (e ∙ f) c g
 ended-from e (mismatch n f) = mismatch n (e ∙ f)
 
 -- the machine is about to match the literals ls with the chosen ones
-pub record Begins (ls : List (List ℕ)) (puts poss : List ℕ) (n : ℕ) (s : State) : Type 0 where
+pub record AboutToMatch (ls : List (List ℕ)) (puts poss : List ℕ) (n : ℕ) (s : State) : Type 0 where
   pub few : length (s .chosen) + length ls ≤ maxLiterals
   pub stored : s .puts ≡ filled poss
   pub equal : length puts ≡ length poss
@@ -70,13 +70,13 @@ pub record Begins (ls : List (List ℕ)) (puts poss : List ℕ) (n : ℕ) (s : S
 
 -- what fits begins with the positions of the first literal
 fits-first : {d l : List ℕ} {ls : List (List ℕ)} {j : ℕ} {js puts poss : List ℕ} (ps : List ℕ) → flat d l (startOf d j) ≡ some ps
-    → Fits d (l ∷ ls) (j ∷ js) puts poss
-    → Consistent d (puts ++ vars l) (poss ++ ps) (length puts) × Fits d ls js (puts ++ vars l) (poss ++ ps)
+    → FitsChosen d (l ∷ ls) (j ∷ js) puts poss
+    → Consistent d (puts ++ vars l) (poss ++ ps) (length puts) × FitsChosen d ls js (puts ++ vars l) (poss ++ ps)
 fits-first {d} {l} {ls} {js = js} {puts} {poss} ps e (fits-also {ps = qs} f c F) =
     let g : qs ≡ ps = cc in
     (rw g at c, rw g at F)
 
-fits-some : {d l : List ℕ} {ls : List (List ℕ)} {j : ℕ} {js puts poss : List ℕ} → flat d l (startOf d j) ≡ none → Fits d (l ∷ ls) (j ∷ js) puts poss
+fits-some : {d l : List ℕ} {ls : List (List ℕ)} {j : ℕ} {js puts poss : List ℕ} → flat d l (startOf d j) ≡ none → FitsChosen d (l ∷ ls) (j ∷ js) puts poss
     → ⊥
 fits-some e (fits-also f c F) = apart cc
 
@@ -84,11 +84,11 @@ module _ (d : List ℕ) (D : Clause d) where
   abbrev Runs : List (List ℕ) → Type 0
   Runs ls =
       (js : List ℕ) → All IsLiteral ls → All (λ j. j < length (literals d)) js → length ls ≡ length js → (puts poss : List ℕ) (from n : ℕ) (s : State)
-      → Begins ls puts poss n s → Ended d ls js puts poss (s .chosen) (run d (sequenceFrom (flatten ls) ended puts from n) js s)
+      → AboutToMatch ls puts poss n s → Ended d ls js puts poss (s .chosen) (run d (sequenceFrom (flatten ls) ended puts from n) js s)
 
   -- one literal, against literal j of the query
   module _ (l : List ℕ) (ls : List (List ℕ)) (j : ℕ) (js puts poss : List ℕ) (n : ℕ) (s : State)
-      (L : IsLiteral l) (J : j < length (literals d)) (B : Begins (l ∷ ls) puts poss n s) where
+      (L : IsLiteral l) (J : j < length (literals d)) (B : AboutToMatch (l ∷ ls) puts poss n s) where
     literal-starts : (from : ℕ)
         → run d (sequenceFrom (l ++ flatten ls) ended puts from n) (j ∷ js) s ≡ run d (sequenceFrom (l ++ flatten ls) (inside 0 []) puts (length puts) n) js (starting d s j)
     literal-starts from =
@@ -97,7 +97,7 @@ module _ (d : List ℕ) (D : Clause d) where
 
     literal-reached : Agrees d (flatten ls) (length puts) js (starting d s j) (length puts) (putsAll puts l)
         (run d (sequenceFrom (l ++ flatten ls) (inside 0 []) puts (length puts) n) js (starting d s j)) (flat d l (startOf d j))
-    unfolding need after Stands closing flatten
+    unfolding need after StandsAt closing flatten
     literal-reached =
         let (r, f) = found d j J in
         reach d (flatten ls) (length puts) js D l (inside 0 []) puts n (startOf d j) (starting d s j)
@@ -115,7 +115,7 @@ module _ (d : List ℕ) (D : Clause d) where
       stored-more : A .state .puts ≡ filled (poss ++ ps)
       stored-more = A .stored ∙ rw (B .stored, B .equal) (filled-more poss ps)
 
-      begins-next : Begins ls (puts ++ vars l) (poss ++ ps) (A .pushed) (A .state)
+      begins-next : AboutToMatch ls (puts ++ vars l) (poss ++ ps) (A .pushed) (A .state)
       unfolding flatten
       begins-next =
           record {
@@ -128,10 +128,10 @@ module _ (d : List ℕ) (D : Clause d) where
             placed = λ e. (A .cursor, A .placed);
           }
 
-      literal-compares : Decided (Consistent d (puts ++ vars l) (poss ++ ps) (length puts)) o
+      literal-compares : GoesIf (Consistent d (puts ++ vars l) (poss ++ ps) (length puts)) o
           (run d (sequenceFrom (flatten ls) ended (puts ++ vars l) (length puts) (A .pushed)) js (A .state))
       literal-compares =
-          decided-from (rw puts-vars at (A .goes))
+          goes-if-from (rw puts-vars at (A .goes))
           (run-compares d _ js (A .state) (A .cursor) (A .placed) (puts ++ vars l) (poss ++ ps) (omega (arith, begins-next .put-room))
           (λ i h. rw stored-more (filled-get (poss ++ ps) i (omega (arith, begins-next .put-room, begins-next .equal)) (omega (arith, begins-next .equal)))) (length puts))
 
@@ -145,7 +145,7 @@ module _ (d : List ℕ) (D : Clause d) where
       literal-goes o (some ps) f (hit A) =
           go (literal-compares o ps f A) (rest js Ls Js e (puts ++ vars l) (poss ++ ps) (length puts) (A .pushed) (A .state) (begins-next o ps f A))
         where
-          go : {o′ : Outcome State} → Decided (Consistent d (puts ++ vars l) (poss ++ ps) (length puts)) o o′
+          go : {o′ : Outcome State} → GoesIf (Consistent d (puts ++ vars l) (poss ++ ps) (length puts)) o o′
               → Ended d ls js (puts ++ vars l) (poss ++ ps) (A .state .chosen) o′ → Ended d (l ∷ ls) (j ∷ js) puts poss (s .chosen) o
           go (refuted n g) h = mismatch (λ F. n (fits-first ps f F .0)) g
           go (holds c g) (succeeds F t h q p) = succeeds (fits-also f c F) t (g ∙ h) (q ∙ rw (A .chosen) (append-assoc (s .chosen) (j ∷ []) js)) p

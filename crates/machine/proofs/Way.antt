@@ -58,9 +58,9 @@ stacked-push d pushes n e (v ∷ saved) c h =
     (omega arith, rw getD-set-other (h .1), h .2, stacked-push d pushes n (jump d (suc (v .left)) e) saved c (h .3))
 
 -- the machine stands at position p, at a place of the literal
-unfoldable pub Stands : List ℕ → State → (n p : ℕ) → Place → Type 0
-Stands d s n p ended = (c : ℕ) × (s .head ≡ some c)
-Stands d s n p (inside l saved) = (s .head ≡ some p) × (rights d p ≡ l) × Stacked d (s .pushes) n (jump d (suc l) p) saved
+unfoldable pub StandsAt : List ℕ → State → (n p : ℕ) → Place → Type 0
+StandsAt d s n p ended = (c : ℕ) × (s .head ≡ some c)
+StandsAt d s n p (inside l saved) = (s .head ≡ some p) × (rights d p ≡ l) × Stacked d (s .pushes) n (jump d (suc l) p) saved
 
 -- one instruction of a way
 module _ (d : List ℕ) (sequence : List Instr) (js : List ℕ) (s : State) {c c′ : ℕ} (at : s .head ≡ some c) where
@@ -81,7 +81,7 @@ module _ (d : List ℕ) (sequence : List Instr) (js : List ℕ) (s : State) {c c
   run-pop n h e = rw (at, lt-ltb n slots h, e)
 
 -- what no way changes
-pub record Keeps (s t : State) : Type 0 where
+pub record KeepsPuts (s t : State) : Type 0 where
   pub chosen : t .chosen ≡ s .chosen
   pub puts : t .puts ≡ s .puts
   pub pushes : length (t .pushes) ≡ length (s .pushes)
@@ -90,8 +90,8 @@ pub record Keeps (s t : State) : Type 0 where
 pub record Moved (d : List ℕ) (s : State) (q : ℕ) (w : Way) : Type 0 where
   pub state : State
   pub moves : (sequence : List Instr) (js : List ℕ) → run d (map Do (w .steps) ++ sequence) js s ≡ run d sequence js state
-  pub stands : Stands d state (w .pushed) q (w .place)
-  pub keeps : Keeps s state
+  pub stands : StandsAt d state (w .pushed) q (w .place)
+  pub keeps : KeepsPuts s state
 
 -- q is where the next word is, from a word with arity a at p
 pub record Onto (d : List ℕ) (a p q : ℕ) : Type 0 where
@@ -109,13 +109,13 @@ right-is d p l e = rw e
 lands : {d : List ℕ} {p q : ℕ} → Onto d 0 p q → q ≡ jump d 1 p
 lands {d} {p} {q} o = sym (jump-zero d q) ∙ o .spans
 
-kept : (s : State) (c : ℕ) → Keeps s (headed s c)
+kept : (s : State) (c : ℕ) → KeepsPuts s (headed s c)
 kept s c = record { chosen = refl; puts = refl; pushes = refl }
 
 module _ (d : List ℕ) (D : Clause d) (s : State) (p q n : ℕ) (h : p < length d) where
-  pub move : (a l : ℕ) (saved : List Saved) → Onto d a p q → n < slots → length (s .pushes) ≡ slots → Stands d s n p (inside l saved)
+  pub move : (a l : ℕ) (saved : List Saved) → Onto d a p q → n < slots → length (s .pushes) ≡ slots → StandsAt d s n p (inside l saved)
       → Moved d s q (way a l saved n)
-  unfolding Stands way
+  unfolding StandsAt way
   move (suc a) (suc l) saved o room g st =
       let r = jump d 1 p in
       let (is-next, is-arity) = o .steps a refl in

@@ -41,16 +41,16 @@ first-some (suc k) at h = let e : suc k - 1 ≡ k = omega arith in rw e
 
 -- the first argument of the term at a cursor: none past the end, and none where the arity is 0
 module _ (q : List ℕ) (c : Cursor) where
-  pub down-end : length q ≤ c .at → Nowhere ≡ goDown q c
+  pub goDown-end : length q ≤ c .at → Nowhere ≡ goDown q c
   unfolding arity
-  down-end h = rw (List·getD-eq-default q 0 h)
+  goDown-end h = rw (List·getD-eq-default q 0 h)
 
   module _ (n : ℕ) (is : n ≡ arity (getD q (c .at) 0)) where
-    pub down-none : n ≡ 0 → Nowhere ≡ goDown q c
-    down-none h = rw (← is, h)
+    pub goDown-none : n ≡ 0 → Nowhere ≡ goDown q c
+    goDown-none h = rw (← is, h)
 
-    pub down-some : (n ≡ 0 → ⊥) → To (record { at = c .at + 1; left = n - 1 }) ≡ goDown q c
-    down-some h = rw (← is, add-one) (first-some n (suc (c .at)) h)
+    pub goDown-some : (n ≡ 0 → ⊥) → To (record { at = c .at + 1; left = n - 1 }) ≡ goDown q c
+    goDown-some h = rw (← is, add-one) (first-some n (suc (c .at)) h)
 
 -- ---- one word
 

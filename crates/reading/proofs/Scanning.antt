@@ -46,9 +46,9 @@ module _ (q : List ℕ) (c : Cursor) (lits : ℕ) where
 module _ (q : List ℕ) (at : ℕ) where
   module _ (lits : ℕ) where
     -- the end
-    pub scan-end : length q ≤ at → scan (drop at q) 0 lits at ≡ Whole lits
+    pub scan-none : length q ≤ at → scan (drop at q) 0 lits at ≡ Whole lits
     unfolding scan
-    scan-end h = rw (drop-of-length-le q h)
+    scan-none h = rw (drop-of-length-le q h)
 
     module _ (inside : at < length q) where
       scan-here : scan (drop at q) 0 lits at ≡ scanWord (sort (getD q at 0)) (arity (getD q at 0)) 0 lits at (scan (drop (suc at) q))

@@ -6,12 +6,12 @@ use borrow.Author.Needs.{needs}
 use lib.ListN.{length}
 use Rattle.compiling.specs.inner.Compiling.{Stored}
 use Rattle.compiling.proofs.Stores.{stored-none, stored-length}
-use Rattle.compiling.proofs.Rows.{rows, rows-none, rows-room, rows-stored, rows-whole}
+use Rattle.compiling.proofs.Rows.{rowsTo, rows-none, rows-room, rows-stored, rowsTo-whole}
 use Rattle.compiling.proofs.compare_all.Statement.{statement}
 use Rattle.compiling.proofs.compare_all.Tie as tie
 
 abbrev Inv-loop : tie.InvT-loop
-Inv-loop firsts from keys₀ written at₀ m₀ keys at m = (m ≤ length firsts) × (length keys ≡ length keys₀) × Stored (rows firsts from m) keys₀ written keys at
+Inv-loop firsts from keys₀ written at₀ m₀ keys at m = (m ≤ length firsts) × (length keys ≡ length keys₀) × Stored (rowsTo firsts from m) keys₀ written keys at
 
 abbrev μ-loop : tie.MeasureT-loop
 μ-loop firsts from keys₀ written at₀ m₀ keys at m = length firsts - m
@@ -48,7 +48,7 @@ returns : tie.Need-returns Inv-loop μ-loop
 returns c =
     let a = c .before .before .before .before .args in
     let e : c .before .loop .m ≡ length (a .firsts .now) = omega arith in
-    rw (rows-whole, ← e) (c .before .loop .inv .2)
+    rw (rowsTo-whole, ← e) (c .before .loop .inv .2)
 
 pub compare-all-spec : {M : Type 1} → statement M
 compare-all-spec =

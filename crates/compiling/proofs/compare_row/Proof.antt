@@ -6,7 +6,7 @@ use native.Mathlib.Omega.{arith}
 use borrow.Author.Needs.{needs}
 use lib.ListN.{length, length-set}
 use Rattle.compiling.specs.inner.Compiling.{Stored}
-use Rattle.compiling.proofs.Rows.{row, row-from, row-above, row-room, row-start, row-stored, row-over, row-whole}
+use Rattle.compiling.proofs.Rows.{rowTo, row-from, row-above, row-room, row-start, row-stored, row-over, rowTo-whole}
 use Rattle.compiling.proofs.compare_row.Statement.{statement}
 use Rattle.compiling.proofs.compare_row.Tie as tie
 use Rattle.compiling.proofs.compare_row.Reads as reads
@@ -14,7 +14,7 @@ use Rattle.compiling.proofs.compare_row.Lts as lts
 
 abbrev Inv-loop : tie.InvT-loop
 Inv-loop firsts from m keys₀ written at₀ k₀ keys at k =
-    (from ≤ k) × (m < k) × (k ≤ length firsts) × (length keys ≡ length keys₀) × Stored (row firsts from m k) keys₀ written keys at
+    (from ≤ k) × (m < k) × (k ≤ length firsts) × (length keys ≡ length keys₀) × Stored (rowTo firsts from m k) keys₀ written keys at
 
 abbrev μ-loop : tie.MeasureT-loop
 μ-loop firsts from m keys₀ written at₀ k₀ keys at k = length firsts - k
@@ -85,7 +85,7 @@ returns : tie.Need-returns Inv-loop μ-loop
 returns c =
     let a = c .before .before .before .args in
     let e : c .before .loop .k ≡ length (a .firsts .now) = omega arith in
-    rw (row-whole, ← e) (c .before .loop .inv .4)
+    rw (rowTo-whole, ← e) (c .before .loop .inv .4)
 
 pub compare-row-spec : {M : Type 1} → statement M
 compare-row-spec =

@@ -13,7 +13,7 @@ use Rattle.reading.specs.declared.Cursor.{Cursor}
 use Rattle.reading.specs.declared.Move.the-variants.{To}
 use Rattle.clause.proofs.Apart.{apart}
 use Rattle.reading.proofs.Past.{past-on}
-use Rattle.reading.proofs.Scanning.{readOn, first-at, read-off, read-right, scan-end, scan-other, scan-ninth, scan-down}
+use Rattle.reading.proofs.Scanning.{readOn, first-at, read-off, read-right, scan-none, scan-other, scan-ninth, scan-down}
 use Rattle.reading.proofs.literals.Statement.{statement}
 use Rattle.reading.proofs.literals.Tie as tie
 
@@ -93,7 +93,7 @@ enum-told-2 : tie.Need-enum-told-2 Inv-loop μ-loop
 enum-told-2 c = search needs
 
 returns-2 : tie.Need-returns-2 Inv-loop μ-loop
-returns-2 c = sym (none (c .before) ∙ scan-end _ _ _ (c .if1 .taken))
+returns-2 c = sym (none (c .before) ∙ scan-none _ _ _ (c .if1 .taken))
 
 mul-is-head : tie.Need-mul-is-head Inv-loop μ-loop
 mul-is-head c = search needs

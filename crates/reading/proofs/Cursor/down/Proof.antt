@@ -1,11 +1,11 @@
 -- `down` goes to the first argument of the term at the cursor, if it has one.
 use borrow.Author.Needs.{needs}
-use Rattle.reading.proofs.Past.{down-end, down-none, down-some}
+use Rattle.reading.proofs.Past.{goDown-end, goDown-none, goDown-some}
 use Rattle.reading.proofs.Cursor.down.Statement.{statement}
 use Rattle.reading.proofs.Cursor.down.Tie as tie
 
 returns : tie.Need-returns
-returns c = let a = c .before .before .args in down-end (a .words .now) (a .self) (c .if1 .taken)
+returns c = let a = c .before .before .args in goDown-end (a .words .now) (a .self) (c .if1 .taken)
 
 mul-arity : tie.Need-mul-arity
 mul-arity c = search needs
@@ -17,7 +17,7 @@ arity-requires : tie.Need-arity-requires
 arity-requires c κs = search needs
 
 returns-2 : tie.Need-returns-2
-returns-2 c = let a = c .before .before .before .before .before .args in down-none (a .words .now) (a .self) _ (c .before .arity .ensures) (c .if2 .taken)
+returns-2 c = let a = c .before .before .before .before .before .args in goDown-none (a .words .now) (a .self) _ (c .before .arity .ensures) (c .if2 .taken)
 
 add-t5 : tie.Need-add-t5
 add-t5 c = search needs
@@ -26,7 +26,7 @@ sub-t9 : tie.Need-sub-t9
 sub-t9 c = search needs
 
 returns-3 : tie.Need-returns-3
-returns-3 c = let a = c .before .before .before .before .before .args in down-some (a .words .now) (a .self) _ (c .before .arity .ensures) (c .if2 .left)
+returns-3 c = let a = c .before .before .before .before .before .args in goDown-some (a .words .now) (a .self) _ (c .before .arity .ensures) (c .if2 .left)
 
 pub down-spec : {M : Type 1} → statement M
 down-spec =
