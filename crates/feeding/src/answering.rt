@@ -1,7 +1,7 @@
 // What becomes of one record.
 use compiling::compile;
-use insertion::insert_new;
 use machine::Sequence;
+use merging::insert_new;
 use query::query;
 use record::Outcome;
 use tree::CallAnswer;

@@ -1,6 +1,6 @@
 -- What the functions within insertion ask of their callers, and what they tell them.
 use mathlib.Core.Path.{_≡_}
-use mathlib.Core.Bool.{Bool, true, false}
+use mathlib.Core.Bool.{true}
 use mathlib.Core.Option.{Option, none, some}
 use mathlib.Core.List.{List}
 use Prim.Native.Nat.{ℕ, _≤_}
@@ -10,14 +10,9 @@ use Rattle.machine.specs.Compiled.{maxKeys}
 use Rattle.tree.specs.Forest.{Body}
 use Rattle.tree.specs.Laid.{sized, row, rows, wellLaid, region}
 use Rattle.tree.specs.inner.Merge.{seek, hold}
-use Rattle.insertion.specs.declared.Holder.{Holder}
-use Rattle.insertion.specs.declared.Holder.the-variants.{Nobody, Clause}
-use Rattle.insertion.specs.declared.Place.{Place}
-
--- whether there is something
-abbrev pub isSome : {A : Type 0} → Option A → Bool
-isSome none = false
-isSome (some a) = true
+use Rattle.merging.specs.declared.Holder.{Holder}
+use Rattle.merging.specs.declared.Holder.the-variants.{Nobody, Clause}
+use Rattle.merging.specs.declared.Place.{Place}
 
 -- the number of the clause that keeps a sequence, if one does
 abbrev pub holderOf : Holder → Option ℕ

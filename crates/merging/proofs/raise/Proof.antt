@@ -1,4 +1,4 @@
--- `insertion::raise` meets its contract: the words before `at` are raised, those from there on are as they were.
+-- `merging::raise` meets its contract: the words before `at` are raised, those from there on are as they were.
 use mathlib.Core.Logic.{inl, inr}
 use Prim.Native.Nat.{_-_}
 use native.Mathlib.Omega.{arith}
@@ -6,9 +6,9 @@ use lib.Arith.{lt-of-le-ne}
 use lib.ListN.{length}
 use borrow.Author.Needs.{needs}
 use borrow.Author.Tests.{ltb-true, ltb-false}
-use Rattle.insertion.proofs.Raising.{Raising, raising-start, lift-some, lift-fits, lift-small, raising-stop, raising-dive, raising-hop, raising-end}
-use Rattle.insertion.proofs.raise.Statement.{statement}
-use Rattle.insertion.proofs.raise.Tie as tie
+use Rattle.merging.proofs.Raising.{Raising, raising-start, lift-some, lift-fits, lift-small, raising-stop, raising-dive, raising-hop, raising-end}
+use Rattle.merging.proofs.raise.Statement.{statement}
+use Rattle.merging.proofs.raise.Tie as tie
 
 abbrev Inv-loop : tie.InvT-loop
 Inv-loop words₀ keys new at₀ end₀ shared₀ words at end shared = Raising words₀ keys new words at end shared

@@ -9,7 +9,7 @@ use lib.Seq.{take-suc, drop-cons, set-at, append-snoc, length-take-le, take-all}
 use Rattle.machine.specs.Compiled.{maxKeys}
 use Rattle.tree.specs.Forest.{size, encode, chain, Body}
 use Rattle.tree.specs.inner.Merge.{newWords}
-use Rattle.insertion.specs.inner.Inserting.{Writable}
+use Rattle.merging.specs.inner.Inserting.{Writable}
 use Rattle.tree.proofs.Keys.{lawful-small}
 use Rattle.tree.proofs.Words.{length-encode}
 use Rattle.tree.proofs.InsertWords.{chain-size}

@@ -1,4 +1,4 @@
--- `insertion::write_chain` meets its contract: the first `i` of the new words are written.
+-- `merging::write_chain` meets its contract: the first `i` of the new words are written.
 use mathlib.Core.Path.{_≡_, refl, sym, ap₂, _∙_}
 use mathlib.Core.List.{List}
 use Prim.Native.Nat.{ℕ, _-_, _≤_}
@@ -6,9 +6,9 @@ use native.Mathlib.Omega.{arith}
 use lib.ListN.{length, set, length-set}
 use borrow.Author.Needs.{needs}
 use Rattle.tree.specs.inner.Merge.{newWords}
-use Rattle.insertion.proofs.Chain.{over, over-set, new-length, new-key, written, body-small}
-use Rattle.insertion.proofs.write_chain.Statement.{statement}
-use Rattle.insertion.proofs.write_chain.Tie as tie
+use Rattle.merging.proofs.Chain.{over, over-set, new-length, new-key, written, body-small}
+use Rattle.merging.proofs.write_chain.Statement.{statement}
+use Rattle.merging.proofs.write_chain.Tie as tie
 
 abbrev Inv-loop : tie.InvT-loop
 Inv-loop words₀ keys number count i₀ words i =

@@ -1,4 +1,4 @@
--- `insertion::place_of` meets its contract: the keys from `shared` on are looked for in the row from `at` up to `end`.
+-- `merging::place_of` meets its contract: the keys from `shared` on are looked for in the row from `at` up to `end`.
 use mathlib.Core.Logic.{_⊎_, inl, inr, ⊎-elim}
 use Prim.Native.Nat.{_-_, _≤_}
 use native.Mathlib.Omega.{arith}
@@ -6,9 +6,9 @@ use lib.Arith.{lt-of-le-ne}
 use lib.ListN.{length}
 use borrow.Author.Needs.{needs}
 use borrow.Author.Tests.{ltb-true, ltb-false}
-use Rattle.insertion.proofs.Seeking.{Seeking, seeking-start, firm-some, firm-fits, stop-placed, seeking-dive, seeking-hop, end-placed}
-use Rattle.insertion.proofs.place_of.Statement.{statement}
-use Rattle.insertion.proofs.place_of.Tie as tie
+use Rattle.merging.proofs.Seeking.{Seeking, seeking-start, firm-some, firm-fits, stop-placed, seeking-dive, seeking-hop, end-placed}
+use Rattle.merging.proofs.place_of.Statement.{statement}
+use Rattle.merging.proofs.place_of.Tie as tie
 
 abbrev Inv-loop : tie.InvT-loop
 Inv-loop words keys at₀ end₀ shared₀ at end shared = Seeking words keys at end shared

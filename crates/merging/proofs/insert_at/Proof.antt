@@ -1,13 +1,13 @@
--- `insertion::insert_at` meets its contract.
+-- `merging::insert_at` meets its contract.
 use mathlib.Core.Path.{ap, _∙_}
 use Prim.Native.Nat.{_+_, _≤_}
 use native.Mathlib.Omega.{arith}
 use lib.ListN.{length, length-set}
-use Rattle.insertion.proofs.Chain.{tail-writable}
-use Rattle.insertion.proofs.InsertCases.{endOf, newOf, ready-parts, insert-cramped, insert-room, insert-kept}
+use Rattle.merging.proofs.Chain.{tail-writable}
+use Rattle.merging.proofs.InsertCases.{endOf, newOf, ready-parts, insert-cramped, insert-room, insert-kept}
 use borrow.Author.Needs.{needs}
-use Rattle.insertion.proofs.insert_at.Statement.{statement}
-use Rattle.insertion.proofs.insert_at.Tie as tie
+use Rattle.merging.proofs.insert_at.Statement.{statement}
+use Rattle.merging.proofs.insert_at.Tie as tie
 
 slice-read-header : tie.Need-slice-read-header
 slice-read-header c = omega (arith, ready-parts (c .before .before .before .pre .0) .room)

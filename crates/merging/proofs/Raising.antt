@@ -12,7 +12,7 @@ use lib.Seq.{drop-cons, drop-drop, drop-set-lt}
 use Rattle.tree.specs.Keys.{nextKey}
 use Rattle.tree.specs.Laid.{mostWords, row, rows}
 use Rattle.tree.specs.inner.Merge.{lift}
-use Rattle.insertion.specs.inner.Inserting.{Rows}
+use Rattle.merging.specs.inner.Inserting.{Rows}
 use Rattle.tree.proofs.Keys.{Tri, less, same, more, tri}
 use Rattle.tree.proofs.Grow.{rows-drop}
 use Rattle.tree.proofs.Hops.{keyAt, extentAt, Steady, steady, lifted, lifted-stop, lifted-dive, lifted-hop, lifted-found, lifted-done}

@@ -5,9 +5,9 @@ use Prim.Native.Nat.{ℕ, _+_, _-_, _≤_}
 use native.Mathlib.Omega.{arith}
 use lib.ListN.{set, getD, length, length-set}
 use borrow.Author.Needs.{needs}
-use Rattle.insertion.proofs.ShiftRight.{shifted, shifted-none, shifted-read, shifted-set}
-use Rattle.insertion.proofs.moves.open_up.Statement.{statement}
-use Rattle.insertion.proofs.moves.open_up.Tie as tie
+use Rattle.merging.proofs.ShiftRight.{shifted, shifted-none, shifted-read, shifted-set}
+use Rattle.merging.proofs.moves.open_up.Statement.{statement}
+use Rattle.merging.proofs.moves.open_up.Tie as tie
 
 abbrev Inv-loop : tie.InvT-loop
 Inv-loop words₀ gap at₀ words at = (length words ≡ length words₀) × (at + gap ≤ length words₀) × (words ≡ shifted words₀ gap at)

@@ -15,7 +15,7 @@ use Rattle.tree.specs.Laid.{leastWords, mostWords, sized, usedOf, wellLaid, reg
 use Rattle.tree.specs.Laws.{Stands}
 use Rattle.tree.specs.inner.Merge.{seek, hold, lift}
 use Rattle.tree.specs.inner.Cut.{locate}
-use Rattle.insertion.specs.inner.Inserting.{Rows}
+use Rattle.merging.specs.inner.Inserting.{Rows}
 use Rattle.tree.proofs.Keys.{Tri, less, same, more, tri}
 use Rattle.tree.proofs.Words.{first-key, first-below, first-right, length-encode, header-layout, region-layout, row-whole, rows-whole}
 use Rattle.tree.proofs.Grow.{laid-decode}

@@ -14,9 +14,9 @@ use Rattle.tree.specs.Keys.{inner, nextKey}
 use Rattle.tree.specs.Forest.{success}
 use Rattle.tree.specs.Laid.{row, rows}
 use Rattle.tree.specs.inner.Merge.{Gap, seek, hold}
-use Rattle.insertion.specs.inner.Inserting.{Rows, LeadsTo, holderOf}
-use Rattle.insertion.specs.declared.Holder.{Holder}
-use Rattle.insertion.specs.declared.Holder.the-variants.{Nobody}
+use Rattle.merging.specs.inner.Inserting.{Rows, LeadsTo, holderOf}
+use Rattle.merging.specs.declared.Holder.{Holder}
+use Rattle.merging.specs.declared.Holder.the-variants.{Nobody}
 use Rattle.tree.proofs.Keys.{Tri, less, same, more, tri}
 use Rattle.tree.proofs.Grow.{rows-drop}
 use Rattle.tree.proofs.Hops.{keyAt, extentAt, Steady, steady, seek-stop, seek-dive, seek-hop, seek-found, seek-done, hold-stop, hold-dive, hold-hop, hold-done}

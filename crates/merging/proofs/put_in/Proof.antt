@@ -1,4 +1,4 @@
--- `insertion::put_in` meets its contract: the gap is opened, then filled.
+-- `merging::put_in` meets its contract: the gap is opened, then filled.
 use mathlib.Core.Path.{sym, ap, ap₂, _∙_}
 use mathlib.Core.List.{_++_}
 use Prim.Native.Nat.{_+_, _-_, _≤_}
@@ -6,8 +6,8 @@ use native.Mathlib.Omega.{arith}
 use lib.ListN.{length, take, drop}
 use lib.Seq.{length-take-le, drop-at}
 use borrow.Author.Needs.{needs}
-use Rattle.insertion.proofs.put_in.Statement.{statement}
-use Rattle.insertion.proofs.put_in.Tie as tie
+use Rattle.merging.proofs.put_in.Statement.{statement}
+use Rattle.merging.proofs.put_in.Tie as tie
 
 add-new : tie.Need-add-new
 add-new c = search needs

@@ -1,12 +1,12 @@
--- `insertion::first_success` meets its contract.
+-- `merging::first_success` meets its contract.
 use mathlib.Core.Path.{sym, _∙_}
 use mathlib.Core.List.{[]}
 use native.Mathlib.Omega.{arith}
 use Rattle.tree.proofs.Hops.{keyAt, hold-found, hold-done}
-use Rattle.insertion.proofs.Seeking.{is-success, not-success}
+use Rattle.merging.proofs.Seeking.{is-success, not-success}
 use borrow.Author.Needs.{needs}
-use Rattle.insertion.proofs.first_success.Statement.{statement}
-use Rattle.insertion.proofs.first_success.Tie as tie
+use Rattle.merging.proofs.first_success.Statement.{statement}
+use Rattle.merging.proofs.first_success.Tie as tie
 
 returns : tie.Need-returns
 returns c = let a = c .before .before .args in sym (hold-done (a .words .now) (a .at) (a .end) (omega arith) [])

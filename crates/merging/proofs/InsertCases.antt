@@ -1,6 +1,5 @@
 -- Insertion on a well-laid slice T, case by case.
 use mathlib.Core.Path.{_≡_, refl, sym, ap, ap₂, _∙_}
-use mathlib.Core.Bool.{true}
 use mathlib.Core.Option.{Option, none, some}
 use mathlib.Core.List.{List, _∷_, _++_}
 use Prim.Native.Nat.{ℕ, suc, _+_, _-_, _*_, _^_, _≤_, _<_}
@@ -15,13 +14,13 @@ use Rattle.tree.specs.inner.Merge.{Gap, seek, lift, hold, newWords}
 use Rattle.tree.specs.inner.Cut.{Span, locate}
 use Rattle.tree.specs.Calls.{Called, refused}
 use Rattle.tree.specs.inner.ByWords.{insertAt, insertUnless, insertByWords}
-use Rattle.insertion.specs.inner.Inserting.{isSome, Ready, LeadsTo, InsertHere}
-use Rattle.insertion.specs.declared.Place.{Place}
+use Rattle.merging.specs.inner.Inserting.{Ready, LeadsTo, InsertHere}
+use Rattle.merging.specs.declared.Place.{Place}
 use Rattle.tree.specs.declared.Refusal.the-variants.{NumberTaken, Held, ListFull, NoRoom}
 use Rattle.tree.specs.declared.CallAnswer.the-variants.{Kept}
-use Rattle.insertion.proofs.Chain.{new-length}
-use Rattle.insertion.proofs.UsedWords.{Parts, parts, spare}
-use Rattle.insertion.proofs.Fitted.{fitted}
+use Rattle.merging.proofs.Chain.{new-length}
+use Rattle.merging.proofs.UsedWords.{Parts, parts, spare}
+use Rattle.merging.proofs.Fitted.{fitted}
 
 -- a slice and keys to insert
 pub ready-parts : {T cs : List ℕ} → Ready T cs → Parts T
@@ -39,10 +38,6 @@ by-words-cons : (h : ℕ) (ws : List ℕ) (e : Entry)
     → insertByWords (h ∷ ws) e ≡ insertUnless h ws e (locate (region (h ∷ ws)) (e .number) 0 0 0) (hold ws 0 (usedOf h) (e .keys))
 unfolding insertByWords region
 by-words-cons h ws e = refl
-
-unless-some : (h : ℕ) (ws : List ℕ) (e : Entry) (o : Option Span) (m : Option ℕ) → isSome o ≡ true → insertUnless h ws e o m ≡ refused NumberTaken (h ∷ ws)
-unless-some h ws e none m t = cc
-unless-some h ws e (some s) m t = refl
 
 -- ---- what is asked before the place
 
@@ -67,9 +62,9 @@ module _ {T cs : List ℕ} (r : Ready T cs) (n : ℕ) where
       ∙ ap₂ (insertUnless (getD T 0 0) (drop 1 T) (entryOf n cs)) (ap (λ (l : List ℕ). numberAt l n) (P .split)) (P .holds cs)
 
   -- the number is taken
-  pub insert-taken : true ≡ isSome (numberAt T n) → refused NumberTaken T ≡ insertByWords T (entryOf n cs)
-  insert-taken t =
-      sym (by-words ∙ unless-some (getD T 0 0) (drop 1 T) (entryOf n cs) (numberAt T n) (holderIn T cs) (sym t) ∙ ap (refused NumberTaken) (P .split))
+  pub insert-taken : (s : Span) → numberAt T n ≡ some s → refused NumberTaken T ≡ insertByWords T (entryOf n cs)
+  insert-taken s t =
+      sym (by-words ∙ ap (λ (o : Option Span). insertUnless (getD T 0 0) (drop 1 T) (entryOf n cs) o (holderIn T cs)) t ∙ ap (refused NumberTaken) (P .split))
 
   module _ (free : numberAt T n ≡ none) where
     by-holder : (o : Option ℕ) → holderIn T cs ≡ o → insertByWords T (entryOf n cs) ≡ insertUnless (getD T 0 0) (drop 1 T) (entryOf n cs) none o
