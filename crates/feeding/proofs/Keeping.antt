@@ -18,7 +18,7 @@ use Rattle.tree.specs.inner.Cut.{locate}
 use Rattle.tree.specs.Refusal.{codeOf}
 use Rattle.tree.specs.Calls.{Called, insertion}
 use Rattle.tree.specs.inner.ByWords.{insertByWords}
-use Rattle.merging.specs.inner.Inserting.{Ready}
+use Rattle.merging.specs.inner.Inserting.{Insertable}
 use Rattle.tree.specs.declared.Refusal.{Refusal}
 use Rattle.tree.specs.declared.Refusal.the-variants.{BadSlice}
 use Rattle.tree.specs.declared.CallAnswer.{CallAnswer}
@@ -44,7 +44,7 @@ pub clause-short : (c : List ℕ) → Accepted c → length c ≤ maxWords
 clause-short c a = accepted c a .fits
 
 module _ {S K : List ℕ} (h : Steady S K) (c : List ℕ) (a : Accepted c) (u : Words c) (n : ℕ) (l : n < numberCount) where
-  pub ready : {ks : List ℕ} → ks ≡ keys c → Ready S ks
+  pub ready : {ks : List ℕ} → ks ≡ keys c → Insertable S ks
   ready e = rw e (record { size = steady-sized h; laid = h .laid; body = plain-body (sequence-plain c (accepted c a) u); few = keys-few c a })
 
   pub number-new : getD K n 0 ≤ 0 → locate (region S) n 0 0 0 ≡ none

@@ -16,7 +16,7 @@ ghost use Rattle.tree.specs.inner.Cut.{locate};
 ghost use Rattle.clause.specs.Clause.{Accepted};
 ghost use Rattle.tree.specs.Calls.{insertion};
 ghost use Rattle.tree.specs.inner.ByWords.{insertByWords};
-ghost use Rattle.merging.specs.inner.Inserting.{Ready};
+ghost use Rattle.merging.specs.inner.Inserting.{Insertable};
 ghost use Rattle.insertion.specs.inner.Taken.{isSome};
 
 // Whether one of the words is the Success of a number.
@@ -43,7 +43,7 @@ fn taken(tree: &[u64], number: u32) -> bool
 
 // Inserts a sequence under any number. The caller holds the slice well laid.
 fn insert_laid(tree: &mut [u64], keys: &[u64], number: u32) -> CallAnswer
-    requires { ⌜ Ready (now tree) (now keys) ⌝ }
+    requires { ⌜ Insertable (now tree) (now keys) ⌝ }
     ensures { λ r. ⌜ record { answer = r; slice = now (tree .exit) }
         ≡ insertByWords (now (tree .entry)) (record { number = number; keys = now (keys .entry) }) ⌝ }
 {
