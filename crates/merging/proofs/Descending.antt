@@ -15,7 +15,7 @@ use Rattle.tree.specs.Keys.{inner, nextKey}
 use Rattle.tree.specs.Forest.{success}
 use Rattle.tree.specs.Laid.{mostWords, row, rows}
 use Rattle.tree.specs.inner.Merge.{Descent, stop, behind, descend, fromTop}
-use Rattle.merging.specs.inner.Inserting.{Rows, LeadsTo, holderOf}
+use Rattle.merging.specs.inner.Inserting.{Nested, LeadsTo, holderOf}
 use Rattle.merging.specs.declared.Holder.{Holder}
 use Rattle.tree.proofs.Keys.{Tri, less, same, more, tri}
 use Rattle.tree.proofs.Grow.{rows-drop}
@@ -49,7 +49,7 @@ pub record Raising (W cs : List ℕ) (r : ℕ) (U : List ℕ) (p t k : ℕ) : Ty
   pub many : length U ≡ length W
   pub words : U ≡ on .done r ++ drop p W
 
-start : (W cs : List ℕ) → Rows W → Descending W cs 0 (length W) 0
+start : (W cs : List ℕ) → Nested W → Descending W cs 0 (length W) 0
 start W cs r =
     let all : length W - 0 ≡ length W = omega arith in
     record {
@@ -64,10 +64,10 @@ start W cs r =
       goes = rw all (behind-none (fromTop W cs));
     }
 
-pub descending-start : (W cs : List ℕ) → Rows W → Descending W cs 0 (length W) 0
+pub descending-start : (W cs : List ℕ) → Nested W → Descending W cs 0 (length W) 0
 descending-start W cs r = start W cs r
 
-pub raising-start : (W cs : List ℕ) (r : ℕ) → Rows W → Raising W cs r W 0 (length W) 0
+pub raising-start : (W cs : List ℕ) (r : ℕ) → Nested W → Raising W cs r W 0 (length W) 0
 unfolding start
 raising-start W cs r u = record { on = start W cs u; many = refl; words = refl }
 

@@ -2,7 +2,7 @@
 use mathlib.Core.Path.{_≡_, refl, sym, ap, ap₂, _∙_}
 use mathlib.Core.Option.{Option, none, some}
 use mathlib.Core.List.{List, _∷_, _++_}
-use Prim.Native.Nat.{ℕ, suc, _+_, _-_, _≤_, _<_}
+use Prim.Native.Nat.{ℕ, _+_, _-_, _≤_, _<_}
 use native.Mathlib.Omega.{arith}
 use lib.ListN.{length, getD, take, drop, set, length-take, length-drop, length-append}
 use lib.Seq.{take-all, drop-drop}
@@ -18,7 +18,6 @@ use Rattle.merging.specs.inner.Inserting.{Insertable, LeadsTo}
 use Rattle.merging.specs.declared.Place.{Place}
 use Rattle.tree.specs.declared.Refusal.the-variants.{NumberTaken, Held, ListFull, NoRoom}
 use Rattle.tree.specs.declared.CallAnswer.the-variants.{Kept}
-use Rattle.merging.proofs.Chain.{new-length}
 use Rattle.merging.proofs.UsedWords.{Parts, parts}
 use Rattle.merging.proofs.Fitted.{fitted}
 

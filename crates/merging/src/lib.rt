@@ -16,7 +16,7 @@ ghost use Rattle.tree.specs.Laid.{mostWords, region};
 ghost use Rattle.tree.specs.inner.Merge.{descend, fromTop, newWords};
 ghost use Rattle.tree.specs.inner.Cut.{locate};
 ghost use Rattle.tree.specs.inner.ByWords.{insertAt, insertByWords};
-ghost use Rattle.merging.specs.inner.Inserting.{holderOf, Rows, LeadsTo, Insertable, Writable};
+ghost use Rattle.merging.specs.inner.Inserting.{holderOf, Nested, LeadsTo, Insertable, Writable};
 
 mod moves;
 
@@ -52,7 +52,7 @@ fn first_success(words: &[u64], at: usize, end: usize) -> Holder
 // Follows the keys down the tree: in each row it hops over the siblings with smaller keys, and goes below the one with the key.
 // The caller's words are the used ones of a well-laid slice.
 fn place_of(words: &[u64], keys: &[u64]) -> Place
-    requires { ⌜ Rows (now words) ⌝ }
+    requires { ⌜ Nested (now words) ⌝ }
     ensures { λ r. ⌜ LeadsTo (now (words .entry)) (now (keys .entry)) r ⌝ }
 {
     let mut at: usize = 0;
@@ -87,7 +87,7 @@ fn place_of(words: &[u64], keys: &[u64]) -> Place
 // Raises the extents on the way of the keys by `new`.
 // The caller's words are the used ones of a well-laid slice, and the slice has room for `new` more.
 fn raise(words: &mut [u64], keys: &[u64], new: u64)
-    requires { ⌜ Rows (now words) × (new < mostWords) ⌝ }
+    requires { ⌜ Nested (now words) × (new < mostWords) ⌝ }
     ensures { λ _. ⌜ now (words .exit) ≡ fromTop (now (words .entry)) (now (keys .entry)) .raised new ⌝ }
 {
     let mut at: usize = 0;

@@ -106,8 +106,9 @@ put-in-requires c κs =
 
 one-more-requires : tie.Need-one-more-requires
 one-more-requires c κs =
-    let u = c .before .before .before .before .before .before .before .before .before .before in
-    omega (arith, c .before .before .before .before .before .before .before .before .before .if1 .left, u .used .ensures, slice-parts (u .before .before .before .before .pre .0) .short)
+    let i = c .before .before .before .before .before .before .before .before .before in
+    let u = i .before in
+    omega (arith, i .if1 .left, u .used .ensures, slice-parts (u .before .before .before .before .pre .0) .short)
 
 slice-write-tree : tie.Need-slice-write-tree
 slice-write-tree c = search needs
@@ -126,7 +127,8 @@ returns-2 c =
     let room : endOf (s .args .tree .now) + newOf (s .args .keys .now) (s .args .shared) ≤ length (s .args .tree .now) =
     omega (arith, a .before .before .if1 .left, e) in
     rw (c .one-more .ensures, e)
-    (insert-kept (s .args .number) (s .args .shared) (s .pre .0) (s .pre .1) room (a .raise .last .0) long _ (rw (e, P .part) at (a .raise .ensures)) (rw e at (c .before .before .before .put-in .ensures)))
+    (insert-kept (s .args .number) (s .args .shared) (s .pre .0) (s .pre .1) room (a .raise .last .0) long _
+    (rw (e, P .part) at (a .raise .ensures)) (rw e at (c .before .before .before .put-in .ensures)))
 
 pub insert-at-spec : {M : Type 1} → statement M
 insert-at-spec =

@@ -81,7 +81,8 @@ returns-2 : tie.Need-returns-2
 returns-2 c =
     let p = c .before .before .before in
     let s = p .before .before .before .before .before .before .before in
-    insert-held (s .args .tree .now) (s .args .keys .now) (s .args .number) (s .pre .1) (c .before .holder .given .0 .0) (placed p .holder ∙ ap holderOf (c .before .holder .given .1))
+    insert-held (s .args .tree .now) (s .args .keys .now) (s .args .number) (s .pre .1) (c .before .holder .given .0 .0)
+    (placed p .holder ∙ ap holderOf (c .before .holder .given .1))
 
 same-length-3 : tie.Need-same-length-3
 same-length-3 c = search needs

@@ -20,7 +20,7 @@ holderOf Nobody = none
 holderOf (Clause number) = some number
 
 -- the words are siblings one after another, and so are those below each of them
-pub record Rows (words : List ℕ) : Type 0 where
+pub record Nested (words : List ℕ) : Type 0 where
   pub top : T (row words 0 0 (length words))
   pub inside : T (rows words)
 
