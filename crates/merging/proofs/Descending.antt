@@ -49,8 +49,8 @@ pub record Raising (W cs : List ℕ) (r : ℕ) (U : List ℕ) (p t k : ℕ) : Ty
   pub many : length U ≡ length W
   pub words : U ≡ on .done r ++ drop p W
 
-start : (W cs : List ℕ) → Nested W → Descending W cs 0 (length W) 0
-start W cs r =
+pub descending-start : (W cs : List ℕ) → Nested W → Descending W cs 0 (length W) 0
+descending-start W cs r =
     let all : length W - 0 ≡ length W = omega arith in
     record {
       order = omega arith;
@@ -64,12 +64,9 @@ start W cs r =
       goes = rw all (behind-none (fromTop W cs));
     }
 
-pub descending-start : (W cs : List ℕ) → Nested W → Descending W cs 0 (length W) 0
-descending-start W cs r = start W cs r
-
 pub raising-start : (W cs : List ℕ) (r : ℕ) → Nested W → Raising W cs r W 0 (length W) 0
-unfolding start
-raising-start W cs r u = record { on = start W cs u; many = refl; words = refl }
+unfolding descending-start
+raising-start W cs r u = record { on = descending-start W cs u; many = refl; words = refl }
 
 -- ---- a turn
 
@@ -95,6 +92,13 @@ module _ {W cs : List ℕ} {p t k : ℕ} (s : Descending W cs p t k) where
       here : drop k cs ≡ getD cs k 0 ∷ drop (suc k) cs
       here = drop-cons cs k 0 m
 
+      -- the descent goes on behind further words
+      onto : (n : ℕ) (xs : ℕ → List ℕ) (d : Descent) → descend (drop p W) 0 (t - p) (getD cs k 0 ∷ drop (suc k) cs) ≡ behind n xs d
+          → fromTop W cs ≡ behind (p + n) (λ r. s .done r ++ xs r) d
+      onto n xs d e =
+          s .goes ∙ ap (λ (l : List ℕ). behind p (s .done) (descend (drop p W) 0 (t - p) l)) here
+          ∙ ap (behind p (s .done)) e ∙ behind-behind p n (s .done) xs d
+
       -- the next key comes before the word at p
       pub at-stop : getD cs k 0 < keyAt W p → onward ≡ stop (drop p W) (drop k cs) none
       at-stop u = rw here (descend-stop W p t (s .room) l (getD cs k 0) (drop (suc k) cs) u)
@@ -102,6 +106,8 @@ module _ {W cs : List ℕ} {p t k : ℕ} (s : Descending W cs p t k) where
       -- it is the key of that word
       dive : getD cs k 0 ≡ keyAt W p → Descending W cs (suc p) (p + extentAt W p) (suc k)
       dive u =
+          let w = getD W p 0 in
+          let d = descend (drop (suc p) W) 0 (p + extentAt W p - suc p) (drop (suc k) cs) in
           record {
             order = omega (arith, firm-some);
             room = omega (arith, firm-fits, s .room);
@@ -109,13 +115,11 @@ module _ {W cs : List ℕ} {p t k : ℕ} (s : Descending W cs p t k) where
             bound = 0;
             inRow = firm .below;
             inRows = s .inRows;
-            done = λ r. s .done r ++ ((getD W p 0 + r) ∷ []);
-            long = λ r. rw (length-append (s .done r) ((getD W p 0 + r) ∷ []), s .long r) (omega arith);
+            done = λ r. s .done r ++ ((w + r) ∷ []);
+            long = λ r. rw (length-append (s .done r) ((w + r) ∷ []), s .long r) (omega arith);
             goes =
-                s .goes ∙ ap (λ (l : List ℕ). behind p (s .done) (descend (drop p W) 0 (t - p) l)) here
-                ∙ ap (behind p (s .done)) (descend-dive W p t (s .room) l (getD cs k 0) (drop (suc k) cs) u)
-                ∙ behind-behind p 1 (s .done) (λ r. (getD W p 0 + r) ∷ []) (descend (drop (suc p) W) 0 (p + extentAt W p - suc p) (drop (suc k) cs))
-                ∙ ap (λ (n : ℕ). behind n (λ r. s .done r ++ ((getD W p 0 + r) ∷ [])) (descend (drop (suc p) W) 0 (p + extentAt W p - suc p) (drop (suc k) cs))) (add-one p);
+                onto 1 (λ r. (w + r) ∷ []) d (descend-dive W p t (s .room) l (getD cs k 0) (drop (suc k) cs) u)
+                ∙ ap (λ (n : ℕ). behind n (λ r. s .done r ++ ((w + r) ∷ [])) d) (add-one p);
           }
 
       pub descending-dive : (x : ℕ) → x ≡ extentAt W p → getD cs k 0 ≡ keyAt W p → Descending W cs (p + 1) (p + x) (k + 1)
@@ -136,9 +140,8 @@ module _ {W cs : List ℕ} {p t k : ℕ} (s : Descending W cs p t k) where
             done = λ r. s .done r ++ take x (drop p W);
             long = λ r. rw (length-append (s .done r) (take x (drop p W)), s .long r, over);
             goes =
-                s .goes ∙ ap (λ (l : List ℕ). behind p (s .done) (descend (drop p W) 0 (t - p) l)) here
-                ∙ ap (behind p (s .done)) (descend-hop W p t (s .room) l (getD cs k 0) (drop (suc k) cs) u (firm .some) (firm .fits))
-                ∙ behind-behind p x (s .done) (λ r. take x (drop p W)) (descend (drop (p + x) W) 0 (t - (p + x)) (getD cs k 0 ∷ drop (suc k) cs))
+                onto x (λ r. take x (drop p W)) (descend (drop (p + x) W) 0 (t - (p + x)) (getD cs k 0 ∷ drop (suc k) cs))
+                (descend-hop W p t (s .room) l (getD cs k 0) (drop (suc k) cs) u (firm .some) (firm .fits))
                 ∙ ap (λ (l : List ℕ). behind (p + x) (λ r. s .done r ++ take x (drop p W)) (descend (drop (p + x) W) 0 (t - (p + x)) l)) (sym here);
           }
 

@@ -8,7 +8,7 @@ use lib.ListN.{length, getD, take, drop, set, length-take, length-drop, length-a
 use lib.Seq.{take-all, drop-drop}
 use borrow.Author.Tests.{lt-ltb, le-ltb, le-leb, lt-leb}
 use borrow.Rule.Slice.PartMut.{putMid}
-use Rattle.tree.specs.Laid.{oneMore, maxKept, usedOf, keptOf, region}
+use Rattle.tree.specs.Laid.{mostWords, oneMore, maxKept, usedOf, keptOf, region}
 use Rattle.tree.specs.Entries.{Entry}
 use Rattle.tree.specs.inner.Merge.{Descent, fromTop, newWords, splice}
 use Rattle.tree.specs.inner.Cut.{Span, locate}
@@ -28,6 +28,10 @@ slice-parts {T} r = parts T (r .size) (r .laid)
 -- the end of the used words, in the slice
 abbrev pub endOf : List ℕ → ℕ
 endOf T = usedOf (getD T 0 0) + 1
+
+-- a place among the used words is in the slice
+pub place-inside : {T cs : List ℕ} {p : ℕ} → Insertable T cs → p ≤ length (region T) → (p < endOf T) × (endOf T ≤ length T) × (length T ≤ mostWords)
+place-inside r h = let P = slice-parts r in (omega (arith, P .many), omega (arith, P .room), P .short)
 
 -- the place that was found in the part of the used words
 pub in-region : {T cs : List ℕ} {q : Place} → Insertable T cs → LeadsTo (take (endOf T - 1) (drop 1 T)) cs q → LeadsTo (region T) cs q

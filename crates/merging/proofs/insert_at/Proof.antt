@@ -4,7 +4,7 @@ use Prim.Native.Nat.{_+_, _≤_}
 use native.Mathlib.Omega.{arith}
 use lib.ListN.{length, length-set}
 use Rattle.merging.proofs.Chain.{tail-writable}
-use Rattle.merging.proofs.InsertCases.{endOf, newOf, slice-parts, insert-cramped, insert-room, insert-kept}
+use Rattle.merging.proofs.InsertCases.{endOf, newOf, slice-parts, place-inside, insert-cramped, insert-room, insert-kept}
 use borrow.Author.Needs.{needs}
 use Rattle.merging.proofs.insert_at.Statement.{statement}
 use Rattle.merging.proofs.insert_at.Tie as tie
@@ -53,30 +53,22 @@ raise-requires c κs =
 
 add-from : tie.Need-add-from
 add-from c =
-    let s = c .before .before .before .before .before .before .before .before .before in
-    let P = slice-parts (s .pre .0) in
-    omega (arith, P .room, P .many, P .short, s .pre .1)
+    let s = c .before .before .before .before .before .before .before .before .before in omega (arith, place-inside (s .pre .0) (s .pre .1))
 
 add-to : tie.Need-add-to
 add-to c = search needs
 
 mul-put-in : tie.Need-mul-put-in
 mul-put-in c =
-    let s = c .before .before .before .before .before .before .before .before .before in
-    let P = slice-parts (s .pre .0) in
-    omega (arith, P .room, P .many, P .short, s .pre .1)
+    let s = c .before .before .before .before .before .before .before .before .before in omega (arith, place-inside (s .pre .0) (s .pre .1))
 
 sub-put-in : tie.Need-sub-put-in
 sub-put-in c =
-    let s = c .before .before .before .before .before .before .before .before .before in
-    let P = slice-parts (s .pre .0) in
-    omega (arith, P .room, P .many, P .short, s .pre .1)
+    let s = c .before .before .before .before .before .before .before .before .before in omega (arith, place-inside (s .pre .0) (s .pre .1))
 
 part-put-in-start : tie.Need-part-put-in-start
 part-put-in-start c =
-    let s = c .before .before .before .before .before .before .before .before .before in
-    let P = slice-parts (s .pre .0) in
-    omega (arith, P .room, P .many, P .short, s .pre .1)
+    let s = c .before .before .before .before .before .before .before .before .before in omega (arith, place-inside (s .pre .0) (s .pre .1))
 
 part-put-in-end : tie.Need-part-put-in-end
 part-put-in-end c = search needs
