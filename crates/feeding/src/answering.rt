@@ -1,7 +1,7 @@
 // What becomes of one record.
+use insertion::insert_new;
 use machine::Sequence;
 use machine::compile;
-use merging::insert_new;
 use query::query;
 use record::Outcome;
 use tree::CallAnswer;

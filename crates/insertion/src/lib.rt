@@ -4,13 +4,16 @@ use clause::read;
 use laid::well_laid;
 use machine::Sequence;
 use machine::compile;
-use merging::insert_new;
+use merging::Holder;
+use merging::insert_at;
+use merging::place_of;
 use tree::CallAnswer;
 use tree::Refusal;
 use tree::Tree;
 use tree::key;
 ghost use mathlib.Core.Path.{_≡_};
 ghost use mathlib.Core.Bool.{true};
+ghost use mathlib.Core.Option.{none};
 ghost use Rattle.tree.specs.Laid.{sized, wellLaid, region};
 ghost use Rattle.tree.specs.inner.Cut.{locate};
 ghost use Rattle.clause.specs.Clause.{Accepted};
@@ -18,6 +21,27 @@ ghost use Rattle.tree.specs.Calls.{insertion};
 ghost use Rattle.tree.specs.inner.ByWords.{insertByWords};
 ghost use Rattle.merging.specs.inner.Inserting.{Insertable};
 ghost use Rattle.insertion.specs.inner.Taken.{isSome};
+
+// Inserts a sequence under a number that no Success has: the caller holds the slice well laid, and knows the numbers in it.
+pub fn insert_new(tree: &mut [u64], keys: &[u64], number: u32) -> CallAnswer
+    requires { ⌜ Insertable (now tree) (now keys) × (locate (region (now tree)) number 0 0 0 ≡ none) ⌝ }
+    ensures { λ r. ⌜ record { answer = r; slice = now (tree .exit) }
+        ≡ insertByWords (now (tree .entry)) (record { number = number; keys = now (keys .entry) }) ⌝ }
+{
+    let header = tree[0];
+    let end = Tree::used(header) + 1;
+    let place = place_of(&tree[1..end], keys);
+    let holder = place.holder;
+    match holder {
+        Holder::Clause(held) => CallAnswer::Refused(Refusal::Held(held)),
+        Holder::Nobody => {
+            if Tree::kept(header) >= Tree::CLAUSES {
+                return CallAnswer::Refused(Refusal::ListFull);
+            }
+            insert_at(tree, keys, number, place.at, place.shared)
+        }
+    }
+}
 
 // Whether one of the words is the Success of a number.
 fn has_number(words: &[u64], number: u32) -> bool

@@ -3,5 +3,5 @@ pub mod ShiftRight
 pub mod Chain
 pub mod UsedWords
 pub mod Fitted
-pub mod InsertCases
+pub mod Putting
 pub mod KeysOf

@@ -1,4 +1,4 @@
-// Merging: a sequence of keys goes into the words of a well-laid slice, in place (document 01, "Insertion, ceiling, removal").
+// Merging: where the keys of a sequence lead in the words of a well-laid slice, and their words put in there, in place.
 use crate::moves::open_up;
 use machine::Key;
 use tree::CallAnswer;
@@ -9,13 +9,11 @@ use tree::key;
 use tree::word;
 ghost use mathlib.Core.Path.{_≡_};
 ghost use mathlib.Core.List.{[], _++_};
-ghost use mathlib.Core.Option.{none};
 ghost use Prim.Native.Nat.{_+_, _-_, _<_, _≤_};
 ghost use lib.ListN.{length, take, drop};
 ghost use Rattle.tree.specs.Laid.{mostWords, region};
 ghost use Rattle.tree.specs.inner.Merge.{descend, fromTop, newWords};
-ghost use Rattle.tree.specs.inner.Cut.{locate};
-ghost use Rattle.tree.specs.inner.ByWords.{insertAt, insertByWords};
+ghost use Rattle.tree.specs.inner.ByWords.{insertAt};
 ghost use Rattle.merging.specs.inner.Inserting.{holderOf, Nested, LeadsTo, Insertable, Writable};
 
 mod moves;
@@ -51,7 +49,7 @@ fn first_success(words: &[u64], at: usize, end: usize) -> Holder
 
 // Follows the keys down the tree: in each row it hops over the siblings with smaller keys, and goes below the one with the key.
 // The caller's words are the used ones of a well-laid slice.
-fn place_of(words: &[u64], keys: &[u64]) -> Place
+pub fn place_of(words: &[u64], keys: &[u64]) -> Place
     requires { ⌜ Nested (now words) ⌝ }
     ensures { λ r. ⌜ LeadsTo (now (words .entry)) (now (keys .entry)) r ⌝ }
 {
@@ -138,7 +136,13 @@ fn put_in(words: &mut [u64], keys: &[u64], number: u32)
 
 // Inserts a sequence at its place, if there is room: only the used words after the place move.
 // The caller has found the place in a well-laid slice.
-fn insert_at(tree: &mut [u64], keys: &[u64], number: u32, at: usize, shared: usize) -> CallAnswer
+pub fn insert_at(
+    tree: &mut [u64],
+    keys: &[u64],
+    number: u32,
+    at: usize,
+    shared: usize,
+) -> CallAnswer
     requires { ⌜ Insertable (now tree) (now keys) × (at ≤ length (region (now tree))) × (shared ≤ length (now keys)) ⌝ }
     ensures { λ r. ⌜ record { answer = r; slice = now (tree .exit) }
         ≡ insertAt (now (tree .entry)) number at (drop shared (now (keys .entry))) (fromTop (region (now (tree .entry))) (now (keys .entry)) .raised) ⌝ }
@@ -155,25 +159,4 @@ fn insert_at(tree: &mut [u64], keys: &[u64], number: u32, at: usize, shared: usi
     put_in(&mut tree[from..to], &keys[shared..], number);
     tree[0] = Tree::one_more(header, new);
     CallAnswer::Kept
-}
-
-// Inserts a sequence under a number that no Success has: the caller holds the slice well laid, and knows the numbers in it.
-pub fn insert_new(tree: &mut [u64], keys: &[u64], number: u32) -> CallAnswer
-    requires { ⌜ Insertable (now tree) (now keys) × (locate (region (now tree)) number 0 0 0 ≡ none) ⌝ }
-    ensures { λ r. ⌜ record { answer = r; slice = now (tree .exit) }
-        ≡ insertByWords (now (tree .entry)) (record { number = number; keys = now (keys .entry) }) ⌝ }
-{
-    let header = tree[0];
-    let end = Tree::used(header) + 1;
-    let place = place_of(&tree[1..end], keys);
-    let holder = place.holder;
-    match holder {
-        Holder::Clause(held) => CallAnswer::Refused(Refusal::Held(held)),
-        Holder::Nobody => {
-            if Tree::kept(header) >= Tree::CLAUSES {
-                return CallAnswer::Refused(Refusal::ListFull);
-            }
-            insert_at(tree, keys, number, place.at, place.shared)
-        }
-    }
 }

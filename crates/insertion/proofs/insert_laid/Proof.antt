@@ -1,7 +1,7 @@
 -- `insertion::insert_laid` meets its contract.
 use mathlib.Core.Path.{sym, _∙_}
 use Rattle.insertion.proofs.Scanning.{is-none, is-some}
-use Rattle.merging.proofs.InsertCases.{insert-taken}
+use Rattle.insertion.proofs.InsertCases.{insert-taken}
 use borrow.Author.Needs.{needs}
 use Rattle.insertion.proofs.insert_laid.Statement.{statement}
 use Rattle.insertion.proofs.insert_laid.Tie as tie

@@ -4,7 +4,7 @@ use Prim.Native.Nat.{_+_, _≤_}
 use native.Mathlib.Omega.{arith}
 use lib.ListN.{length, length-set}
 use Rattle.merging.proofs.Chain.{tail-writable}
-use Rattle.merging.proofs.InsertCases.{endOf, newOf, slice-parts, place-inside, insert-cramped, insert-room, insert-kept}
+use Rattle.merging.proofs.Putting.{endOf, newOf, slice-parts, place-inside, insert-cramped, insert-room, insert-kept}
 use borrow.Author.Needs.{needs}
 use Rattle.merging.proofs.insert_at.Statement.{statement}
 use Rattle.merging.proofs.insert_at.Tie as tie

@@ -1,22 +1,18 @@
--- Insertion on a well-laid slice T, case by case.
-use mathlib.Core.Path.{_≡_, refl, sym, ap, ap₂, _∙_}
-use mathlib.Core.Option.{Option, none, some}
+-- The words of a sequence put in at a place of a well-laid slice T, or no room for them.
+use mathlib.Core.Path.{_≡_, sym, ap, ap₂, _∙_}
 use mathlib.Core.List.{List, _∷_, _++_}
 use Prim.Native.Nat.{ℕ, _+_, _-_, _≤_, _<_}
 use native.Mathlib.Omega.{arith}
 use lib.ListN.{length, getD, take, drop, set, length-take, length-drop, length-append}
 use lib.Seq.{take-all, drop-drop}
-use borrow.Author.Tests.{lt-ltb, le-ltb, le-leb, lt-leb}
+use borrow.Author.Tests.{lt-ltb, le-ltb}
 use borrow.Rule.Slice.PartMut.{putMid}
-use Rattle.tree.specs.Laid.{mostWords, oneMore, maxKept, usedOf, keptOf, region}
-use Rattle.tree.specs.Entries.{Entry}
+use Rattle.tree.specs.Laid.{mostWords, oneMore, usedOf, region}
 use Rattle.tree.specs.inner.Merge.{Descent, fromTop, newWords, splice}
-use Rattle.tree.specs.inner.Cut.{Span, locate}
 use Rattle.tree.specs.Calls.{Called, refused}
-use Rattle.tree.specs.inner.ByWords.{insertAt, insertUnless, insertByWords}
-use Rattle.merging.specs.inner.Inserting.{Insertable, LeadsTo}
-use Rattle.merging.specs.declared.Place.{Place}
-use Rattle.tree.specs.declared.Refusal.the-variants.{NumberTaken, Held, ListFull, NoRoom}
+use Rattle.tree.specs.inner.ByWords.{insertAt}
+use Rattle.merging.specs.inner.Inserting.{Insertable}
+use Rattle.tree.specs.declared.Refusal.the-variants.{NoRoom}
 use Rattle.tree.specs.declared.CallAnswer.the-variants.{Kept}
 use Rattle.merging.proofs.UsedWords.{Parts, parts}
 use Rattle.merging.proofs.Fitted.{fitted}
@@ -33,52 +29,11 @@ endOf T = usedOf (getD T 0 0) + 1
 pub place-inside : {T cs : List ℕ} {p : ℕ} → Insertable T cs → p ≤ length (region T) → (p < endOf T) × (endOf T ≤ length T) × (length T ≤ mostWords)
 place-inside r h = let P = slice-parts r in (omega (arith, P .many), omega (arith, P .room), P .short)
 
--- the place that was found in the part of the used words
-pub in-region : {T cs : List ℕ} {q : Place} → Insertable T cs → LeadsTo (take (endOf T - 1) (drop 1 T)) cs q → LeadsTo (region T) cs q
-in-region r h = rw (slice-parts r .part) at h
-
--- ---- what is asked before the place
-
--- a number and its keys
-abbrev pub entryOf : ℕ → List ℕ → Entry
-entryOf n cs = record { number = n; keys = cs }
-
--- where the number stands, and where the keys lead, by the used words
-abbrev numberAt : List ℕ → ℕ → Option Span
-numberAt T n = locate (region T) n 0 0 0
-
-abbrev way : List ℕ → List ℕ → Descent
-way T cs = fromTop (region T) cs
-
-module _ (T cs : List ℕ) (n : ℕ) where
-  by-words : insertByWords T (entryOf n cs) ≡ insertUnless T n (way T cs) (numberAt T n) (way T cs .holder)
-  unfolding insertByWords
-  by-words = refl
-
-  -- the number is taken
-  pub insert-taken : (s : Span) → numberAt T n ≡ some s → refused NumberTaken T ≡ insertByWords T (entryOf n cs)
-  insert-taken s t = sym (by-words ∙ ap (λ (o : Option Span). insertUnless T n (way T cs) o (way T cs .holder)) t)
-
-  module _ (free : numberAt T n ≡ none) where
-    -- a variant is kept
-    pub insert-held : (m : ℕ) → way T cs .holder ≡ some m → refused (Held m) T ≡ insertByWords T (entryOf n cs)
-    insert-held m q = sym (by-words ∙ ap₂ (insertUnless T n (way T cs)) free q)
-
-    module _ (new : way T cs .holder ≡ none) where
-      by-kept : insertByWords T (entryOf n cs) ≡ insertUnless T n (way T cs) none none
-      by-kept = by-words ∙ ap₂ (insertUnless T n (way T cs)) free new
-
-      -- the list is full
-      pub insert-full : maxKept ≤ keptOf (getD T 0 0) → refused ListFull T ≡ insertByWords T (entryOf n cs)
-      insert-full u = sym (by-kept ∙ rw (le-leb maxKept (keptOf (getD T 0 0)) u))
-
-      -- it goes to its place, if there is room
-      pub insert-there : (p : ℕ) (left : List ℕ) → keptOf (getD T 0 0) < maxKept → way T cs .place ≡ p → way T cs .left ≡ left
-          → insertAt T n p left (way T cs .raised) ≡ insertByWords T (entryOf n cs)
-      insert-there p left u a b =
-          sym (by-kept ∙ rw (lt-leb maxKept (keptOf (getD T 0 0)) u) (ap₂ (λ (i : ℕ) (l : List ℕ). insertAt T n i l (way T cs .raised)) a b))
-
 -- ---- at the place p, where k keys have a word
+
+-- where the keys lead, by the used words
+abbrev pub way : List ℕ → List ℕ → Descent
+way T cs = fromTop (region T) cs
 
 -- the words that are new
 abbrev pub newOf : List ℕ → ℕ → ℕ

@@ -1,18 +1,19 @@
--- `merging::insert_new` meets its contract.
+-- `insertion::insert_new` meets its contract.
 use mathlib.Core.Path.{ap, _∙_}
 use native.Mathlib.Omega.{arith}
 use Rattle.tree.specs.Laid.{region}
 use Rattle.merging.specs.inner.Inserting.{holderOf, LeadsTo}
-use Rattle.merging.proofs.InsertCases.{slice-parts, in-region, insert-held, insert-full, insert-there}
+use Rattle.merging.proofs.Putting.{slice-parts}
+use Rattle.insertion.proofs.InsertCases.{in-region, insert-held, insert-full, insert-there}
 use borrow.Author.Needs.{needs}
-use Rattle.merging.proofs.insert_new.Statement.{statement}
-use Rattle.merging.proofs.insert_new.Tie as tie
-use Rattle.merging.proofs.insert_new.Reads as reads
-use Rattle.merging.proofs.insert_new.Lts as lts
+use Rattle.insertion.proofs.insert_new.Statement.{statement}
+use Rattle.insertion.proofs.insert_new.Tie as tie
+use Rattle.insertion.proofs.insert_new.Reads as reads
+use Rattle.insertion.proofs.insert_new.Lts as lts
 use Rattle.tree.proofs.Tree.used.Reads as used-reads
 use Rattle.tree.proofs.Tree.kept.Reads as kept-reads
 use Rattle.merging.proofs.place_of.Reads as place-of-reads
 use Rattle.merging.proofs.insert_at.Reads as insert-at-reads
 
 -- what the callees ask and tell
 abbrev rs : lts.Claims
