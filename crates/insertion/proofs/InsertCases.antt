@@ -10,13 +10,13 @@ use Rattle.tree.specs.Entries.{Entry}
 use Rattle.tree.specs.inner.Cut.{Span, locate}
 use Rattle.tree.specs.Calls.{refused}
 use Rattle.tree.specs.inner.ByWords.{insertAt, insertUnless, insertByWords}
-use Rattle.merging.specs.inner.Inserting.{Insertable, LeadsTo}
+use Rattle.merging.specs.inner.Inserting.{Mergeable, LeadsTo}
 use Rattle.merging.specs.declared.Place.{Place}
 use Rattle.tree.specs.declared.Refusal.the-variants.{NumberTaken, Held, ListFull}
 use Rattle.merging.proofs.Putting.{slice-parts, endOf, way}
 
 -- the place that was found in the part of the used words
-pub in-region : {T cs : List ℕ} {q : Place} → Insertable T cs → LeadsTo (take (endOf T - 1) (drop 1 T)) cs q → LeadsTo (region T) cs q
+pub in-region : {T cs : List ℕ} {q : Place} → Mergeable T cs → LeadsTo (take (endOf T - 1) (drop 1 T)) cs q → LeadsTo (region T) cs q
 in-region r h = rw (slice-parts r .part) at h
 
 -- a number and its keys

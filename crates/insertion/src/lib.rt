@@ -1,12 +1,12 @@
 // Insertion of a clause into a slice of any words (document 01, "Insertion, ceiling, removal").
 use clause::Shape;
-use clause::read;
+use compiling::compile;
 use laid::well_laid;
 use machine::Sequence;
-use machine::compile;
 use merging::Holder;
 use merging::insert_at;
 use merging::place_of;
+use reading::read;
 use tree::CallAnswer;
 use tree::Refusal;
 use tree::Tree;
@@ -19,12 +19,12 @@ ghost use Rattle.tree.specs.inner.Cut.{locate};
 ghost use Rattle.clause.specs.Clause.{Accepted};
 ghost use Rattle.tree.specs.Calls.{insertion};
 ghost use Rattle.tree.specs.inner.ByWords.{insertByWords};
-ghost use Rattle.merging.specs.inner.Inserting.{Insertable};
+ghost use Rattle.merging.specs.inner.Inserting.{Mergeable};
 ghost use Rattle.insertion.specs.inner.Taken.{isSome};
 
 // Inserts a sequence under a number that no Success has: the caller holds the slice well laid, and knows the numbers in it.
 pub fn insert_new(tree: &mut [u64], keys: &[u64], number: u32) -> CallAnswer
-    requires { ⌜ Insertable (now tree) (now keys) × (locate (region (now tree)) number 0 0 0 ≡ none) ⌝ }
+    requires { ⌜ Mergeable (now tree) (now keys) × (locate (region (now tree)) number 0 0 0 ≡ none) ⌝ }
     ensures { λ r. ⌜ record { answer = r; slice = now (tree .exit) }
         ≡ insertByWords (now (tree .entry)) (record { number = number; keys = now (keys .entry) }) ⌝ }
 {
@@ -67,7 +67,7 @@ fn taken(tree: &[u64], number: u32) -> bool
 
 // Inserts a sequence under any number. The caller holds the slice well laid.
 fn insert_laid(tree: &mut [u64], keys: &[u64], number: u32) -> CallAnswer
-    requires { ⌜ Insertable (now tree) (now keys) ⌝ }
+    requires { ⌜ Mergeable (now tree) (now keys) ⌝ }
     ensures { λ r. ⌜ record { answer = r; slice = now (tree .exit) }
         ≡ insertByWords (now (tree .entry)) (record { number = number; keys = now (keys .entry) }) ⌝ }
 {

@@ -11,14 +11,14 @@ use Rattle.tree.specs.Laid.{mostWords, oneMore, usedOf, region}
 use Rattle.tree.specs.inner.Merge.{Descent, fromTop, newWords, splice}
 use Rattle.tree.specs.Calls.{Called, refused}
 use Rattle.tree.specs.inner.ByWords.{insertAt}
-use Rattle.merging.specs.inner.Inserting.{Insertable}
+use Rattle.merging.specs.inner.Inserting.{Mergeable}
 use Rattle.tree.specs.declared.Refusal.the-variants.{NoRoom}
 use Rattle.tree.specs.declared.CallAnswer.the-variants.{Kept}
 use Rattle.merging.proofs.UsedWords.{Parts, parts}
 use Rattle.merging.proofs.Fitted.{fitted}
 
 -- a slice and keys to insert
-pub slice-parts : {T cs : List ℕ} → Insertable T cs → Parts T
+pub slice-parts : {T cs : List ℕ} → Mergeable T cs → Parts T
 slice-parts {T} r = parts T (r .size) (r .laid)
 
 -- the end of the used words, in the slice
@@ -26,7 +26,7 @@ abbrev pub endOf : List ℕ → ℕ
 endOf T = usedOf (getD T 0 0) + 1
 
 -- a place among the used words is in the slice
-pub place-inside : {T cs : List ℕ} {p : ℕ} → Insertable T cs → p ≤ length (region T) → (p < endOf T) × (endOf T ≤ length T) × (length T ≤ mostWords)
+pub place-inside : {T cs : List ℕ} {p : ℕ} → Mergeable T cs → p ≤ length (region T) → (p < endOf T) × (endOf T ≤ length T) × (length T ≤ mostWords)
 place-inside r h = let P = slice-parts r in (omega (arith, P .many), omega (arith, P .room), P .short)
 
 -- ---- at the place p, where k keys have a word
@@ -57,7 +57,7 @@ partAt T cs L p k = take (endOf T + newOf cs k - (p + 1)) (drop (p + 1) (backIn 
 abbrev restOf : List ℕ → ℕ → List ℕ
 restOf cs k = take (length cs - k) (drop k cs)
 
-module _ {T cs : List ℕ} {p : ℕ} (n k : ℕ) (r : Insertable T cs) (within : p ≤ length (region T)) where
+module _ {T cs : List ℕ} {p : ℕ} (n k : ℕ) (r : Mergeable T cs) (within : p ≤ length (region T)) where
   P : Parts T
   P = slice-parts r
 

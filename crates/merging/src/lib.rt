@@ -14,7 +14,7 @@ ghost use lib.ListN.{length, take, drop};
 ghost use Rattle.tree.specs.Laid.{mostWords, region};
 ghost use Rattle.tree.specs.inner.Merge.{descend, fromTop, newWords};
 ghost use Rattle.tree.specs.inner.ByWords.{insertAt};
-ghost use Rattle.merging.specs.inner.Inserting.{holderOf, Nested, LeadsTo, Insertable, Writable};
+ghost use Rattle.merging.specs.inner.Inserting.{holderOf, Nested, LeadsTo, Mergeable, Writable};
 
 mod moves;
 
@@ -143,7 +143,7 @@ pub fn insert_at(
     at: usize,
     shared: usize,
 ) -> CallAnswer
-    requires { ⌜ Insertable (now tree) (now keys) × (at ≤ length (region (now tree))) × (shared ≤ length (now keys)) ⌝ }
+    requires { ⌜ Mergeable (now tree) (now keys) × (at ≤ length (region (now tree))) × (shared ≤ length (now keys)) ⌝ }
     ensures { λ r. ⌜ record { answer = r; slice = now (tree .exit) }
         ≡ insertAt (now (tree .entry)) number at (drop shared (now (keys .entry))) (fromTop (region (now (tree .entry))) (now (keys .entry)) .raised) ⌝ }
 {

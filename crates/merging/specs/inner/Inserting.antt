@@ -38,7 +38,7 @@ pub record Writable (keys : List ℕ) : Type 0 where
   pub few : length keys ≤ maxKeys
 
 -- a well-laid slice, and keys of a sequence that may go into it
-pub record Insertable (tree keys : List ℕ) : Type 0 where
+pub record Mergeable (tree keys : List ℕ) : Type 0 where
   pub size : sized tree ≡ true
   pub laid : wellLaid tree ≡ true
   pub body : Body keys
