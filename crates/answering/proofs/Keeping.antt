@@ -20,7 +20,7 @@ use Rattle.tree.specs.inner.Cut.{locate}
 use Rattle.tree.specs.Refusal.{codeOf}
 use Rattle.tree.specs.Calls.{Called, insertion}
 use Rattle.tree.specs.inner.ByWords.{insertByWords}
-use Rattle.merging.specs.inner.Inserting.{Ready}
+use Rattle.merging.specs.inner.Inserting.{Mergeable}
 use Rattle.tree.specs.declared.Refusal.{Refusal}
 use Rattle.tree.specs.declared.Refusal.the-variants.{BadSlice}
 use Rattle.tree.specs.declared.CallAnswer.{CallAnswer}
@@ -56,7 +56,7 @@ pub insertable : {S K c : List ℕ} (n : ℕ) → Steady S K → Accepted c → 
 insertable {c = c} n h a u l = record { steady = h; accepts = a; words = all-below (2 ^ 16) c u; number = l }
 
 module _ {S K c : List ℕ} {n : ℕ} (g : Insertable S K c n) where
-  pub ready : {ks : List ℕ} → ks ≡ keys c → Ready S ks
+  pub ready : {ks : List ℕ} → ks ≡ keys c → Mergeable S ks
   ready e =
       let a = g .accepts in
       rw e (record { size = steady-sized (g .steady); laid = g .steady .laid; body = plain-body (sequence-plain c (accepted c a) (g .words)); few = keys-few c a })

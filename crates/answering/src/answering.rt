@@ -1,8 +1,8 @@
 // What becomes of one record.
 use crate::Budget;
 use compiling::compile;
+use insertion::insert_new;
 use machine::Sequence;
-use merging::insert_new;
 use query::query;
 use record::Outcome;
 use tree::CallAnswer;

@@ -3,7 +3,9 @@ use clause::Shape;
 use compiling::compile;
 use laid::well_laid;
 use machine::Sequence;
-use merging::insert_new;
+use merging::Holder;
+use merging::insert_at;
+use merging::place_of;
 use reading::read;
 use tree::CallAnswer;
 use tree::Refusal;
@@ -11,13 +13,35 @@ use tree::Tree;
 use tree::key;
 ghost use mathlib.Core.Path.{_≡_};
 ghost use mathlib.Core.Bool.{true};
+ghost use mathlib.Core.Option.{none};
 ghost use Rattle.tree.specs.Laid.{sized, wellLaid, region};
 ghost use Rattle.tree.specs.inner.Cut.{locate};
 ghost use Rattle.clause.specs.Clause.{Accepted};
 ghost use Rattle.tree.specs.Calls.{insertion};
 ghost use Rattle.tree.specs.inner.ByWords.{insertByWords};
-ghost use Rattle.merging.specs.inner.Inserting.{Ready};
+ghost use Rattle.merging.specs.inner.Inserting.{Mergeable};
 ghost use Rattle.insertion.specs.inner.Taken.{isSome};
+
+// Inserts a sequence under a number that no Success has: the caller holds the slice well laid, and knows the numbers in it.
+pub fn insert_new(tree: &mut [u64], keys: &[u64], number: u32) -> CallAnswer
+    requires { ⌜ Mergeable (now tree) (now keys) × (locate (region (now tree)) number 0 0 0 ≡ none) ⌝ }
+    ensures { λ r. ⌜ record { answer = r; slice = now (tree .exit) }
+        ≡ insertByWords (now (tree .entry)) (record { number = number; keys = now (keys .entry) }) ⌝ }
+{
+    let header = tree[0];
+    let end = Tree::used(header) + 1;
+    let place = place_of(&tree[1..end], keys);
+    let holder = place.holder;
+    match holder {
+        Holder::Clause(held) => CallAnswer::Refused(Refusal::Held(held)),
+        Holder::Nobody => {
+            if Tree::kept(header) >= Tree::CLAUSES {
+                return CallAnswer::Refused(Refusal::ListFull);
+            }
+            insert_at(tree, keys, number, place.at, place.shared)
+        }
+    }
+}
 
 // Whether one of the words is the Success of a number.
 fn has_number(words: &[u64], number: u32) -> bool
@@ -43,7 +67,7 @@ fn taken(tree: &[u64], number: u32) -> bool
 
 // Inserts a sequence under any number. The caller holds the slice well laid.
 fn insert_laid(tree: &mut [u64], keys: &[u64], number: u32) -> CallAnswer
-    requires { ⌜ Ready (now tree) (now keys) ⌝ }
+    requires { ⌜ Mergeable (now tree) (now keys) ⌝ }
     ensures { λ r. ⌜ record { answer = r; slice = now (tree .exit) }
         ≡ insertByWords (now (tree .entry)) (record { number = number; keys = now (keys .entry) }) ⌝ }
 {

@@ -1,8 +1,7 @@
-pub mod Seeking
-pub mod Raising
+pub mod Descending
 pub mod ShiftRight
 pub mod Chain
 pub mod UsedWords
 pub mod Fitted
-pub mod InsertCases
+pub mod Putting
 pub mod KeysOf

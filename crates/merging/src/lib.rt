@@ -1,4 +1,4 @@
-// Merging: a sequence of keys goes into the words of a well-laid slice, in place (document 01, "Insertion, ceiling, removal").
+// Merging: where the keys of a sequence lead in the words of a well-laid slice, and their words put in there, in place.
 use crate::moves::open_up;
 use machine::Key;
 use tree::CallAnswer;
@@ -9,14 +9,12 @@ use tree::key;
 use tree::word;
 ghost use mathlib.Core.Path.{_≡_};
 ghost use mathlib.Core.List.{[], _++_};
-ghost use mathlib.Core.Option.{none};
 ghost use Prim.Native.Nat.{_+_, _-_, _<_, _≤_};
-ghost use lib.ListN.{length, take, drop, getD};
+ghost use lib.ListN.{length, take, drop};
 ghost use Rattle.tree.specs.Laid.{mostWords, region};
-ghost use Rattle.tree.specs.inner.Merge.{hold, lift, newWords};
-ghost use Rattle.tree.specs.inner.Cut.{locate};
-ghost use Rattle.tree.specs.inner.ByWords.{insertAt, insertByWords};
-ghost use Rattle.merging.specs.inner.Inserting.{holderOf, Rows, LeadsTo, Ready, Writable, InsertHere};
+ghost use Rattle.tree.specs.inner.Merge.{descend, fromTop, newWords};
+ghost use Rattle.tree.specs.inner.ByWords.{insertAt};
+ghost use Rattle.merging.specs.inner.Inserting.{holderOf, Nested, LeadsTo, Mergeable, Writable};
 
 mod moves;
 
@@ -37,7 +35,7 @@ pub struct Place {
 // The caller's rows end within the words.
 fn first_success(words: &[u64], at: usize, end: usize) -> Holder
     requires { ⌜ end ≤ length (now words) ⌝ }
-    ensures { λ r. ⌜ holderOf r ≡ hold (drop at (now (words .entry))) 0 (end - at) [] ⌝ }
+    ensures { λ r. ⌜ holderOf r ≡ descend (drop at (now (words .entry))) 0 (end - at) [] .holder ⌝ }
 {
     if at >= end {
         return Holder::Nobody;
@@ -51,8 +49,8 @@ fn first_success(words: &[u64], at: usize, end: usize) -> Holder
 
 // Follows the keys down the tree: in each row it hops over the siblings with smaller keys, and goes below the one with the key.
 // The caller's words are the used ones of a well-laid slice.
-fn place_of(words: &[u64], keys: &[u64]) -> Place
-    requires { ⌜ Rows (now words) ⌝ }
+pub fn place_of(words: &[u64], keys: &[u64]) -> Place
+    requires { ⌜ Nested (now words) ⌝ }
     ensures { λ r. ⌜ LeadsTo (now (words .entry)) (now (keys .entry)) r ⌝ }
 {
     let mut at: usize = 0;
@@ -87,8 +85,8 @@ fn place_of(words: &[u64], keys: &[u64]) -> Place
 // Raises the extents on the way of the keys by `new`.
 // The caller's words are the used ones of a well-laid slice, and the slice has room for `new` more.
 fn raise(words: &mut [u64], keys: &[u64], new: u64)
-    requires { ⌜ Rows (now words) × (new < mostWords) ⌝ }
-    ensures { λ _. ⌜ now (words .exit) ≡ lift (now (words .entry)) new 0 (length (now (words .entry))) (now (keys .entry)) ⌝ }
+    requires { ⌜ Nested (now words) × (new < mostWords) ⌝ }
+    ensures { λ _. ⌜ now (words .exit) ≡ fromTop (now (words .entry)) (now (keys .entry)) .raised new ⌝ }
 {
     let mut at: usize = 0;
     let mut end = words.len();
@@ -138,11 +136,16 @@ fn put_in(words: &mut [u64], keys: &[u64], number: u32)
 
 // Inserts a sequence at its place, if there is room: only the used words after the place move.
 // The caller has found the place in a well-laid slice.
-fn insert_at(tree: &mut [u64], keys: &[u64], number: u32, at: usize, shared: usize) -> CallAnswer
-    requires { ⌜ Ready (now tree) (now keys) × InsertHere (now tree) (now keys) at shared ⌝ }
+pub fn insert_at(
+    tree: &mut [u64],
+    keys: &[u64],
+    number: u32,
+    at: usize,
+    shared: usize,
+) -> CallAnswer
+    requires { ⌜ Mergeable (now tree) (now keys) × (at ≤ length (region (now tree))) × (shared ≤ length (now keys)) ⌝ }
     ensures { λ r. ⌜ record { answer = r; slice = now (tree .exit) }
-        ≡ insertAt (getD (now (tree .entry)) 0 0) (drop 1 (now (tree .entry)))
-        (record { number = number; keys = now (keys .entry) }) (record { place = at; left = drop shared (now (keys .entry)) }) ⌝ }
+        ≡ insertAt (now (tree .entry)) number at (drop shared (now (keys .entry))) (fromTop (region (now (tree .entry))) (now (keys .entry)) .raised) ⌝ }
 {
     let header = tree[0];
     let end = Tree::used(header) + 1;
@@ -156,25 +159,4 @@ fn insert_at(tree: &mut [u64], keys: &[u64], number: u32, at: usize, shared: usi
     put_in(&mut tree[from..to], &keys[shared..], number);
     tree[0] = Tree::one_more(header, new);
     CallAnswer::Kept
-}
-
-// Inserts a sequence under a number that no Success has: the caller holds the slice well laid, and knows the numbers in it.
-pub fn insert_new(tree: &mut [u64], keys: &[u64], number: u32) -> CallAnswer
-    requires { ⌜ Ready (now tree) (now keys) × (locate (region (now tree)) number 0 0 0 ≡ none) ⌝ }
-    ensures { λ r. ⌜ record { answer = r; slice = now (tree .exit) }
-        ≡ insertByWords (now (tree .entry)) (record { number = number; keys = now (keys .entry) }) ⌝ }
-{
-    let header = tree[0];
-    let end = Tree::used(header) + 1;
-    let place = place_of(&tree[1..end], keys);
-    let holder = place.holder;
-    match holder {
-        Holder::Clause(held) => CallAnswer::Refused(Refusal::Held(held)),
-        Holder::Nobody => {
-            if Tree::kept(header) >= Tree::CLAUSES {
-                return CallAnswer::Refused(Refusal::ListFull);
-            }
-            insert_at(tree, keys, number, place.at, place.shared)
-        }
-    }
 }

@@ -5,7 +5,7 @@ use Prim.Native.Nat.{ℕ, suc, _+_, _-_, _≤_, _<_}
 use native.Mathlib.Omega.{arith}
 use native.Mathlib.Numerals.{add-one}
 use native.Mathlib.Nat.{add-comm}
-use lib.ListN.{length, getD, take, drop, set, length-append, length-drop, replicate}
+use lib.ListN.{length, getD, take, drop, set, length-drop, replicate}
 use lib.Seq.{take-suc, drop-cons, set-at, append-snoc, length-take-le, getD-append-add, getD-drop, take-at, drop-at, drop-drop}
 use borrow.Rule.Slice.PartMut.{putMid}
 use Rattle.removal.specs.inner.Close.{closeUp}
@@ -17,9 +17,6 @@ left s k i = take i (drop k s) ++ drop i s
 module _ (s : List ℕ) (k i : ℕ) (fits : i + k ≤ length s) where
   moved : length (take i (drop k s)) ≡ i
   moved = length-take-le i (drop k s) (simp length-drop (omega arith))
-
-  pub length-left : length (left s k i) ≡ length s
-  length-left = length-append (take i (drop k s)) (drop i s) ∙ ap₂ (λ (a b : ℕ). a + b) moved (length-drop i s) ∙ omega arith
 
   pub left-read : getD (left s k i) (i + k) 0 ≡ getD s (i + k) 0
   left-read =

@@ -3,7 +3,7 @@ use mathlib.Core.Path.{_≡_, refl, sym, ap, ap₂, subst, _∙_}
 use mathlib.Core.List.{List, [], _∷_, _++_, append-nil, append-assoc}
 use mathlib.Core.Bool.{true, and-eq-true-iff}
 use mathlib.Core.Option.{Option, none, some}
-use Prim.Native.Nat.{ℕ, zero, suc, _+_, _-_, _*_, _/_, _^_, _≤_, _<_}
+use Prim.Native.Nat.{ℕ, zero, suc, _+_, _-_, _/_, _^_, _≤_, _<_}
 use native.Mathlib.Numerals.{add-one}
 use native.Mathlib.Nat.{add-comm}
 use native.Mathlib.Omega.{arith}
@@ -176,7 +176,8 @@ removed (h ∷ ws) n s l w e =
     let f : Hit h ws n s = hit h ws n s l w e in
     let many : s .last + 1 - s .place ≡ suc (s .last) - s .place = omega arith in
     let closed =
-    cut-closed ws (s .place) (usedOf h) (suc (s .last) - s .place) (length (drop (usedOf h) ws)) (omega (arith, f .order, f .inside)) (zeros-replicated (drop (usedOf h) ws) (f .laid .after)) in
+    cut-closed ws (s .place) (usedOf h) (suc (s .last) - s .place) (length (drop (usedOf h) ws)) (omega (arith, f .order, f .inside))
+    (zeros-replicated (drop (usedOf h) ws) (f .laid .after)) in
     rw (f .at, many, closed)
 
 -- a number that is not found is refused

@@ -83,7 +83,7 @@ fn take_out(tree: &mut [u64], place: usize, gone: usize)
 }
 
 // The removal of a number from a slice that the caller holds well laid.
-pub fn remove_laid(tree: &mut [u64], number: u32) -> CallAnswer
+fn remove_laid(tree: &mut [u64], number: u32) -> CallAnswer
     requires { ⌜ (sized (now tree) ≡ true) × (wellLaid (now tree) ≡ true) ⌝ }
     ensures { λ r. ⌜ record { answer = r; slice = now (tree .exit) } ≡ removeByWords (now (tree .entry)) number ⌝ }
 {

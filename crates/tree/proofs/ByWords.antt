@@ -1,19 +1,19 @@
 -- Insertion and removal on the words themselves are insertion and removal.
-use mathlib.Core.Path.{_≡_, refl, sym}
+use mathlib.Core.Path.{_≡_, refl, sym, ap, ap₂, _∙_}
 use mathlib.Core.Bool.{Bool, true, false, and-eq-true-iff}
 use mathlib.Core.Option.{Option, none, some}
-use mathlib.Core.List.{List, _∷_}
-use Prim.Native.Nat.{ℕ, suc, _+_, _-_, _*_, _^_, _≤_, _<_}
+use mathlib.Core.List.{List, _∷_, _++_}
+use Prim.Native.Nat.{ℕ, suc, _+_, _-_, _^_, _≤_, _<_}
 use native.Mathlib.Omega.{arith}
 use lib.Dec.{T, leb, ltb}
-use lib.ListN.{length, replicate, length-append, length-replicate}
+use lib.ListN.{length, getD, drop}
 use borrow.Author.Tests.{leb-true, leb-false, lt-ltb, le-ltb}
 use Rattle.clause.specs.Clause.{shape}
 use Rattle.tree.specs.Keys.{inner}
 use Rattle.tree.specs.Forest.{headerOf, Forest, size, leaves, encode, layout, ins, del, find, holder, WellFormed, Body}
 use Rattle.tree.specs.Laid.{leastWords, mostWords, maxKept, sized, usedOf, wellLaid, decode}
 use Rattle.tree.specs.Entries.{Entry, Pair, entry}
-use Rattle.tree.specs.inner.Merge.{Gap, seek}
+use Rattle.tree.specs.inner.Merge.{Descent, fromTop}
 use Rattle.tree.specs.inner.Cut.{locate}
 use Rattle.tree.specs.Changes.{refuse, change, insertInto, removeFrom}
 use Rattle.tree.specs.Laws.{Stands}
@@ -22,10 +22,10 @@ use Rattle.tree.specs.inner.ByWords.{insertAt, insertUnless, insertByWor
 use Rattle.clause.proofs.Literals.{accepted}
 use Rattle.machine.proofs.Codes.{sequence-plain}
 use Rattle.tree.proofs.Plain.{plain-body}
-use Rattle.tree.proofs.Words.{used-layout, kept-layout, take-layout, length-layout, length-encode}
-use Rattle.tree.proofs.InsertWords.{filled, ins-size, ins-filled, ins-leaves}
+use Rattle.tree.proofs.Words.{used-layout, header-layout, count-layout, region-layout, take-layout, length-layout}
+use Rattle.tree.proofs.InsertWords.{filled, ins-size, ins-words, over-filled, ins-leaves}
 use Rattle.tree.proofs.RemoveWords.{Closes, closes, locate-none, del-leaves, del-filled}
-use Rattle.tree.proofs.Held.{hold-encode}
+use Rattle.tree.proofs.Held.{hold-top}
 use Rattle.tree.proofs.Grow.{laid-decode}
 use Rattle.clause.specs.declared.Shape.the-variants.{Whole}
 use Rattle.clause.specs.Word.{Words}
@@ -43,9 +43,6 @@ module _ (len : ℕ) (F : Forest) (f : WellFormed F) (room : size F < len) (high
   abbrev header : ℕ
   header = headerOf (size F) (leaves F)
 
-  length-filled : length (filled len F) ≡ len - 1
-  length-filled = simp (length-append, length-encode, length-replicate) (omega arith)
-
   -- a new tree in the slice
   changes-to : (G : Forest) (a : CallAnswer) (h : ℕ) (ws : List ℕ) → h ≡ headerOf (size G) (leaves G) → ws ≡ filled len G
       → _≡_ {A = Called} (record { answer = a; slice = h ∷ ws }) (changed (layout len F) a (change G))
@@ -57,50 +54,62 @@ module _ (len : ℕ) (F : Forest) (f : WellFormed F) (room : size F < len) (high
     abbrev G : Forest
     G = ins (e .keys) (e .number) F
 
-    abbrev spot : Gap
-    spot = seek (filled len F) 0 (size F) 0 (e .keys)
+    abbrev D : Descent
+    D = fromTop (encode F) (e .keys)
 
-    larger : size G ≡ size F + suc (length (spot .left))
-    larger = ins-size (e .keys) (e .number) F (replicate (len - suc (size F)) 0) (omega arith)
+    -- the words that are new
+    abbrev new : ℕ
+    new = length (D .left) + 1
+
+    larger : size G ≡ size F + new
+    larger = ins-size (e .keys) F (omega arith) (e .number)
+
+    abbrev placed : Called
+    placed = insertAt (layout len F) (e .number) (D .place) (D .left) (D .raised)
 
     -- there is room
-    insert-room : leb len (size G) ≡ false → insertAt header (filled len F) e spot ≡ changed (layout len F) Kept (change G)
+    insert-room : leb len (size G) ≡ false → placed ≡ changed (layout len F) Kept (change G)
     insert-room q =
         let small : size G < len = leb-false len (size G) q in
-        let fits : ltb (length (filled len F)) (usedOf header + suc (length (spot .left))) ≡ false =
-        rw (length-filled, used-layout len F (omega arith)) (le-ltb (len - 1) (size F + suc (length (spot .left))) (omega (arith, larger))) in
+        let S = layout len F in
+        let next : size F + 1 + new ≡ suc (size F + new) = omega arith in
+        let fits : ltb (length S) (usedOf (getD S 0 0) + 1 + new) ≡ false =
+        rw (length-layout len F room, header-layout len F (omega arith)) (le-ltb len (size F + 1 + new) (omega (arith, larger))) in
+        let rest : drop (usedOf (getD S 0 0) + 1 + new) S ≡ drop (size F + new) (filled len F) = rw (header-layout len F (omega arith), next, laid-words len F) in
         rw fits
-        (changes-to G Kept _ _ (omega (arith, larger, ins-leaves (e .keys) (e .number) F b l))
-        (rw (length-filled, used-layout len F (omega arith)) (sym (ins-filled (e .keys) (e .number) F len (omega arith) room small))))
+        (changes-to G Kept _ _ (rw (laid-words len F) (omega (arith, larger, ins-leaves (e .keys) (e .number) F b l)))
+        (ap₂ _++_ (ins-words (e .keys) F (omega arith) (e .number)) rest ∙ over-filled len new F G larger small))
 
     -- there is none
-    insert-full : leb len (size G) ≡ true → insertAt header (filled len F) e spot ≡ changed (layout len F) Kept (refuse NoRoom)
+    insert-full : leb len (size G) ≡ true → placed ≡ changed (layout len F) Kept (refuse NoRoom)
     insert-full q =
         let large : len ≤ size G = leb-true len (size G) q in
-        let over : ltb (length (filled len F)) (usedOf header + suc (length (spot .left))) ≡ true =
-        rw (length-filled, used-layout len F (omega arith)) (lt-ltb (len - 1) (size F + suc (length (spot .left))) (omega (arith, larger))) in
-        rw (over, laid-words len F)
+        rw (length-layout len F room, header-layout len F (omega arith), lt-ltb len (size F + 1 + new) (omega (arith, larger)))
 
     insert-at : find (e .number) F ≡ none → holder (e .keys) F ≡ none → (s t : Bool) → leb maxKept (leaves F) ≡ s → leb len (size G) ≡ t
-        → insertUnless header (filled len F) e none none ≡ changed (layout len F) Kept (insertInto len F e)
+        → insertUnless (layout len F) (e .number) D none none ≡ changed (layout len F) Kept (insertInto len F e)
     unfolding insertInto
-    insert-at u v true t p q = rw (kept-layout len F (omega arith), p) (rw (u, v, p, insertInto) (rw (laid-words len F)))
-    insert-at u v false true p q =
-        rw (kept-layout len F (omega arith), p, used-layout len F (omega arith)) (rw (u, v, p, q, insertInto) (rw (used-layout len F (omega arith)) at (insert-full q)))
-    insert-at u v false false p q =
-        rw (kept-layout len F (omega arith), p, used-layout len F (omega arith)) (rw (u, v, p, q, insertInto) (rw (used-layout len F (omega arith)) at (insert-room q)))
+    insert-at u v true t p q = rw (count-layout len F (omega arith), p) (rw (u, v, p, insertInto))
+    insert-at u v false true p q = rw (count-layout len F (omega arith), p) (rw (u, v, p, q, insertInto) (insert-full q))
+    insert-at u v false false p q = rw (count-layout len F (omega arith), p) (rw (u, v, p, q, insertInto) (insert-room q))
 
     -- by where the number stands and who holds the sequence
+    by-words : insertByWords (layout len F) e ≡ insertUnless (layout len F) (e .number) D (locate (encode F) (e .number) 0 0 0) (holder (e .keys) F)
+    unfolding insertByWords
+    by-words =
+        let S = layout len F in
+        let n = e .number in
+        ap (λ (l : List ℕ). insertUnless S n (fromTop l (e .keys)) (locate l n 0 0 0) (fromTop l (e .keys) .holder)) (region-layout len F (omega arith))
+        ∙ ap (insertUnless S n D (locate (encode F) n 0 0 0)) (hold-top (e .keys) F (omega arith))
+
     pub insert-laid : insertByWords (layout len F) e ≡ changed (layout len F) Kept (insertInto len F e)
-    unfolding insertByWords insertInto
-    insert-laid =
-        rw (laid-words len F, used-layout len F (omega arith), take-layout len F (omega arith), hold-encode (e .keys) F (replicate (len - suc (size F)) 0) (omega arith))
-        (rw (← laid-words len F) (go (find (e .number) F) refl (holder (e .keys) F) refl))
+    unfolding insertInto
+    insert-laid = by-words ∙ go (find (e .number) F) refl (holder (e .keys) F) refl
       where
         go : (o : Option (List ℕ)) → find (e .number) F ≡ o → (m : Option ℕ) → holder (e .keys) F ≡ m
-            → insertUnless header (filled len F) e (locate (encode F) (e .number) 0 0 0) m ≡ changed (layout len F) Kept (insertInto len F e)
-        go (some cs) u m v = rw (closes (e .number) F l f (omega arith) cs u .found) (rw (u, insertInto) (rw (laid-words len F)))
-        go none u (some m) v = rw (locate-none (e .number) F l f (omega arith) u) (rw (u, v, insertInto) (rw (laid-words len F)))
+            → insertUnless (layout len F) (e .number) D (locate (encode F) (e .number) 0 0 0) m ≡ changed (layout len F) Kept (insertInto len F e)
+        go (some cs) u m v = rw (closes (e .number) F l f (omega arith) cs u .found) (rw (u, insertInto))
+        go none u (some m) v = rw (locate-none (e .number) F l f (omega arith) u) (rw (u, v, insertInto))
         go none u none v = rw (locate-none (e .number) F l f (omega arith) u) (insert-at u v (leb maxKept (leaves F)) (leb len (size G)) refl refl)
 
   -- ---- removal

@@ -205,7 +205,8 @@ module _ (len : ℕ) (e : Entry) (F : Forest) (K : List Entry) (b : Body (e .key
       insert-new true t p q = refused ListFull (rw (u, v, p, insertInto)) (rw (same-room, p))
       insert-new false true p q = refused NoRoom (rw (u, v, p, q, insertInto)) (rw (same-room, p, q))
       insert-new false false p q =
-          grown (rw (u, v, p, q, insertInto)) (rw (same-room, p, q)) larger new-keys (leb-false len (size (ins (e .keys) (e .number) F)) q) (rw (← k .count) (leb-false maxKept (leaves F) p))
+          grown (rw (u, v, p, q, insertInto)) (rw (same-room, p, q)) larger new-keys (leb-false len (size (ins (e .keys) (e .number) F)) q)
+          (rw (← k .count) (leb-false maxKept (leaves F) p))
 
   pub inserts : Inserts len F K e
   inserts = go (find (e .number) F) refl (holder (e .keys) F) refl (holding 0 (e .keys) F (k .mirrors .formed))

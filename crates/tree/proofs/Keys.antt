@@ -1,12 +1,13 @@
 -- Comparing two keys.
 use mathlib.Core.Path.{_≡_, refl, ap, _∙_}
-use mathlib.Core.Logic.{_⊎_, inl, inr}
-use Prim.Native.Nat.{ℕ, zero, suc, _*_, _^_, _<_, zero-le, suc-le-suc, compare, Ordering·lt, Ordering·eq, Ordering·gt, compare·zero-zero, compare·zero-suc, compare·suc-zero, compare·suc-suc}
+use mathlib.Core.Logic.{_↔_, _⊎_, inl, inr}
+use Prim.Native.Nat.{ℕ, zero, suc, _*_, _^_, _<_, zero-le, suc-le-suc, compare, Ordering·lt, Ordering·eq, Ordering·gt}
+use Prim.Native.Nat.{compare·zero-zero, compare·zero-suc, compare·suc-zero, compare·suc-suc}
 use native.Mathlib.Nat.{le-of-suc-le-suc, not-suc-le-zero}
 use native.Mathlib.Omega.{arith}
 use lib.Dec.{T, ltb→lt}
 use Rattle.machine.specs.Instr.{instr}
-use Rattle.tree.specs.Keys.{lawful}
+use Rattle.tree.specs.Keys.{inner, lawful}
 use Rattle.clause.proofs.Tests.{and-l}
 
 -- how two numbers lie, with the proof
@@ -44,18 +45,18 @@ compare-more zero b h = absurd (not-suc-le-zero h)
 compare-more (suc a) zero h = compare·suc-zero a
 compare-more (suc a) (suc b) h = compare·suc-suc a b ∙ compare-more a b (le-of-suc-le-suc h)
 
--- ---- the order of the keys is by operation, then by operand
-pub instr-less : (o a p b : ℕ) → a < 2 ^ 32 → b < 2 ^ 32 → (o < p) ⊎ ((o ≡ p) × (a < b)) → instr o a < instr p b
-instr-less o a p b ha hb (inl h) = omega arith
-instr-less o a p b ha hb (inr h) = omega arith
-
-pub less-instr : (o a p b : ℕ) → a < 2 ^ 32 → b < 2 ^ 32 → instr o a < instr p b → (o < p) ⊎ ((o ≡ p) × (a < b))
-less-instr o a p b ha hb h = go (tri o p)
+-- the order of the keys is by operation, then by operand
+pub instr-order : (o a p b : ℕ) → a < inner → b < inner → (instr o a < instr p b) ↔ ((o < p) ⊎ ((o ≡ p) × (a < b)))
+instr-order o a p b ha hb = (λ h. to h (tri o p), from)
   where
-    go : Tri o p → (o < p) ⊎ ((o ≡ p) × (a < b))
-    go (less l) = inl l
-    go (same e) = inr (e, omega arith)
-    go (more l) = absurd (omega arith)
+    to : instr o a < instr p b → Tri o p → (o < p) ⊎ ((o ≡ p) × (a < b))
+    to h (less l) = inl l
+    to h (same e) = inr (e, omega arith)
+    to h (more l) = absurd (omega arith)
+
+    from : (o < p) ⊎ ((o ≡ p) × (a < b)) → instr o a < instr p b
+    from (inl h) = omega arith
+    from (inr h) = omega arith
 
 -- a key that the tree may hold has an operation up to 8
 pub lawful-small : (k : ℕ) → T (lawful k) → k < 9 * 2 ^ 32

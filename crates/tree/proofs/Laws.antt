@@ -16,6 +16,7 @@ use Rattle.tree.specs.Laid.{wellLaid, decode}
 use Rattle.tree.specs.Entries.{Entry}
 use Rattle.tree.specs.Laws.{Slices, under, pathsOf, firstWith, Paths, TreeLaws}
 use Rattle.clause.proofs.Tests.{T-true}
+use Rattle.tree.proofs.Keys.{instr-order}
 use Rattle.tree.proofs.Paths.{same-paths}
 use Rattle.tree.proofs.InsertForest.{ins-formed, ins-paths}
 use Rattle.tree.proofs.Delete.{find-none, find-some, del-formed, del-paths}
@@ -95,4 +96,4 @@ unfolding key
 success n = omega arith
 
 pub tree-laws : TreeLaws
-tree-laws = record { success = success; slices = slices; paths = paths }
+tree-laws = record { success = success; order = instr-order; slices = slices; paths = paths }

@@ -5,6 +5,7 @@ pub mod Delete
 pub mod Mirror
 pub mod Words
 pub mod Grow
+pub mod Descend
 pub mod InsertWords
 pub mod RemoveWords
 pub mod Count

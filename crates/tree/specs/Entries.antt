@@ -2,7 +2,7 @@
 use mathlib.Core.Path.{_≡_}
 use mathlib.Core.List.{List, [], _∷_}
 use mathlib.Core.Logic.{_↔_, _⊎_}
-use Prim.Native.Nat.{ℕ, _^_, _<_}
+use Prim.Native.Nat.{ℕ, _<_}
 use mathlib.Core.Bool.{true, false}
 use lib.Dec.{eqb}
 use Rattle.clause.specs.Word.{Words}
@@ -25,7 +25,7 @@ pub record Pair : Type 0 where
 pub record Sound (p : Pair) : Type 0 where
   pub accepted : Accepted (p .clause)
   pub words : Words (p .clause)
-  pub number : p .number < 2 ^ 32
+  pub number : p .number < inner
 
 -- a pair as the tree holds it
 abbrev pub entry : Pair → Entry

@@ -5,12 +5,12 @@ use mathlib.Core.Logic.{_↔_, _⊎_}
 use mathlib.Core.Bool.{true, cond}
 use mathlib.Core.Option.{Option, none, some}
 use mathlib.Core.List.{List, [], _∷_, _++_, map}
-use Prim.Native.Nat.{ℕ, _^_, _≤_, _<_}
+use Prim.Native.Nat.{ℕ, _≤_, _<_}
 use lib.Dec.{eqb}
 use lib.ListN.{length}
-use Rattle.machine.specs.Instr.{key, Success}
+use Rattle.machine.specs.Instr.{instr, key, Success}
 use Rattle.tree.specs.Keys.{inner}
-use Rattle.tree.specs.Forest.{Forest, empty, node, size, leaves, layout, WellFormed, Has, ins, find, del, Body, Free, holder}
+use Rattle.tree.specs.Forest.{Forest, empty, node, size, leaves, extentLimit, layout, WellFormed, Has, ins, find, del, Body, Free, holder}
 use Rattle.tree.specs.Laid.{maxKept, wellLaid, decode}
 use Rattle.tree.specs.Entries.{Entry, Mirrors}
 use Rattle.tree.specs.Beginnings.{beginnings, different}
@@ -66,5 +66,7 @@ pub record Paths (F : Forest) : Type 0 where
 pub record TreeLaws : Type 0 where
   -- the key of Success n is n itself
   pub success : (n : ℕ) → key (Success n) ≡ n
-  pub slices : (s : List ℕ) → length s ≤ 2 ^ 28 → Slices s
+  -- keys are in order by operation, then by operand
+  pub order : (o a p b : ℕ) → a < inner → b < inner → (instr o a < instr p b) ↔ ((o < p) ⊎ ((o ≡ p) × (a < b)))
+  pub slices : (s : List ℕ) → length s ≤ extentLimit → Slices s
   pub paths : (F : Forest) → WellFormed F → Paths F

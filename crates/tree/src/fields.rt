@@ -1,8 +1,8 @@
 // The fields of a tree word: the key (operation and operand, `machine::Key`), the extent.
 use crate::Tree;
 ghost use mathlib.Core.Path.{_≡_};
-ghost use Prim.Native.Nat.{_^_, _<_};
-ghost use Rattle.tree.specs.Forest.{word as Forest·word};
+ghost use Prim.Native.Nat.{_<_};
+ghost use Rattle.tree.specs.Forest.{word as Forest·word, keyLimit, extentLimit};
 ghost use Rattle.tree.specs.Laid.{keyOf, extentOf};
 
 // The key of a tree word: operation and operand, its upper 36 bits.
@@ -21,7 +21,7 @@ pub fn extent(w: u64) -> usize
 
 // The tree word of a key and an extent that fit into its fields.
 pub fn word(key: u64, extent: usize) -> u64
-    requires { ⌜ (key < 2 ^ 36) × (extent < 2 ^ 28) ⌝ }
+    requires { ⌜ (key < keyLimit) × (extent < extentLimit) ⌝ }
     ensures { λ r. ⌜ r ≡ Forest·word key extent ⌝ }
 {
     key * Tree::EXTENTS + extent as u64

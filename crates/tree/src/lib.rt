@@ -1,9 +1,9 @@
 // Tree words (document 01, "Tree words"): the fields of a word and of a header, the size of a slice; what calls answer.
 ghost use mathlib.Core.Path.{_≡_};
 ghost use mathlib.Core.Bool.{_&&_};
-ghost use Prim.Native.Nat.{_^_, _≤_, _<_};
+ghost use Prim.Native.Nat.{_≤_, _<_};
 ghost use lib.Dec.{leb};
-ghost use Rattle.tree.specs.Forest.{headerOf};
+ghost use Rattle.tree.specs.Forest.{wordLimit, headerOf};
 ghost use Rattle.tree.specs.Laid.{leastWords, mostWords, usedOf, keptOf, oneMore, oneLess};
 use clause::Fault;
 
@@ -84,7 +84,7 @@ impl Tree {
 
     // The header with `new` used words more and one clause more, for which it has room.
     pub fn one_more(word: u64, new: usize) -> u64
-        requires { ⌜ oneMore word new < 2 ^ 64 ⌝ }
+        requires { ⌜ oneMore word new < wordLimit ⌝ }
         ensures { λ r. ⌜ r ≡ oneMore word new ⌝ }
     {
         word + (new as u64 * Self::KEPT + 1)

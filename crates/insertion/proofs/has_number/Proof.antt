@@ -36,7 +36,9 @@ loop-less : tie.Need-loop-less Inv-loop μ-loop
 loop-less c = search needs
 
 loop-again : tie.Need-loop-again Inv-loop μ-loop
-loop-again c = let s = c .before .before .before .before .loop in (search needs, search needs, scanned-miss (s .inv .2) (omega arith) (λ e. c .if1 .left (c .before .key .ensures ∙ e)))
+loop-again c =
+    let s = c .before .before .before .before .loop in
+    (search needs, search needs, scanned-miss (s .inv .2) (omega arith) (λ e. c .if1 .left (c .before .key .ensures ∙ e)))
 
 returns-2 : tie.Need-returns-2 Inv-loop μ-loop
 returns-2 c = scanned-end (c .before .loop .inv .2) (omega arith)

@@ -29,9 +29,10 @@ fault-requires c κs = search needs
 returns-2 : tie.Need-returns-2
 unfolding insertion
 returns-2 c =
+    let t = c .before .enum-told2 .given .1 in
     let r = c .before .before .before in
     let z = r .before in
-    rw (← z .before .sized .ensures, not-false (z .before .sized .result) (z .if1 .left), ← r .read .ensures, c .before .enum-told2 .given .1, c .fault .ensures, c .before .enum-told2 .given .1)
+    rw (← z .before .sized .ensures, not-false (z .before .sized .result) (z .if1 .left), ← r .read .ensures, t, c .fault .ensures, t)
 
 well-laid-requires : tie.Need-well-laid-requires
 well-laid-requires c κs = search needs
@@ -62,7 +63,9 @@ insert-read-requires c κs =
     let t = l .before .before in
     let r = t .before .before in
     let z = r .before in
-    (sym (z .before .sized .ensures) ∙ not-false _ (z .if1 .left), sym (l .well-laid .ensures) ∙ not-false _ (c .before .if2 .left), (_, sym (r .read .ensures) ∙ t .enum-told .given .1))
+    let size = sym (z .before .sized .ensures) ∙ not-false _ (z .if1 .left) in
+    let laid = sym (l .well-laid .ensures) ∙ not-false _ (c .before .if2 .left) in
+    (size, laid, (_, sym (r .read .ensures) ∙ t .enum-told .given .1))
 
 same-length-2 : tie.Need-same-length-2
 same-length-2 c = search needs

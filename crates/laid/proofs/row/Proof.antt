@@ -37,24 +37,27 @@ key-requires c κs = search needs
 
 returns-2 : tie.Need-returns-2 Inv-loop μ-loop
 returns-2 c =
-    let s = c .before .before .before .before .before in
-    let a = s .before .before .before .args in
-    sym (s .loop .inv .2 ∙ row-low (a .words .now) (s .loop .at) (a .count) (s .loop .inv .1) (c .before .before .before .before .loop-test .taken) (s .loop .least) (omega arith))
+    let t = c .before .before .before .before in
+    let s = t .before .loop in
+    let a = t .before .before .before .before .args in
+    sym (s .inv .2 ∙ row-low (a .words .now) (s .at) (a .count) (s .inv .1) (t .loop-test .taken) (s .least) (omega arith))
 
 returns-3 : tie.Need-returns-3 Inv-loop μ-loop
 returns-3 c =
-    let s = c .before .before .before .before .before .before in
-    let a = s .before .before .before .args in
-    sym (s .loop .inv .2 ∙ row-none (a .words .now) (s .loop .at) (a .count) (s .loop .inv .1) (c .before .before .before .before .before .loop-test .taken) (s .loop .least) (omega arith))
+    let t = c .before .before .before .before .before in
+    let s = t .before .loop in
+    let a = t .before .before .before .before .args in
+    sym (s .inv .2 ∙ row-none (a .words .now) (s .at) (a .count) (s .inv .1) (t .loop-test .taken) (s .least) (omega arith))
 
 sub-if4 : tie.Need-sub-if4 Inv-loop μ-loop
 sub-if4 c = search needs
 
 returns-4 : tie.Need-returns-4 Inv-loop μ-loop
 returns-4 c =
-    let s = c .before .before .before .before .before .before .before in
-    let a = s .before .before .before .args in
-    sym (s .loop .inv .2 ∙ row-wide (a .words .now) (s .loop .at) (a .count) (s .loop .inv .1) (c .before .before .before .before .before .before .loop-test .taken) (s .loop .least) (omega arith))
+    let t = c .before .before .before .before .before .before in
+    let s = t .before .loop in
+    let a = t .before .before .before .before .args in
+    sym (s .inv .2 ∙ row-wide (a .words .now) (s .at) (a .count) (s .inv .1) (t .loop-test .taken) (s .least) (omega arith))
 
 next-key-requires : tie.Need-next-key-requires Inv-loop μ-loop
 next-key-requires c κs = search needs

@@ -43,7 +43,8 @@ wordsAt s = s .before .before .args .words .now
 
 -- what the test of the row below a word tells
 tested : (c : lts.After-row rs reads.Pre reads.Post Inv-loop μ-loop)
-    → let s = c .before .before .before .before .before .before .before .before .before in c .row .result ≡ row (drop (s .loop .at + 1) (wordsAt s)) 0 0 (extentAt (wordsAt s) (s .loop .at) - 1)
+    → let s = c .before .before .before .before .before .before .before .before .before in
+    c .row .result ≡ row (drop (s .loop .at + 1) (wordsAt s)) 0 0 (extentAt (wordsAt s) (s .loop .at) - 1)
 tested c = c .row .ensures ∙ rw (tail-part, c .before .below .ensures)
 
 -- the Success words found, the word at hand among them

@@ -1,15 +1,16 @@
 -- `merging::first_success` meets its contract.
-use mathlib.Core.Path.{sym, _∙_}
+use mathlib.Core.Path.{sym, ap, _∙_}
 use mathlib.Core.List.{[]}
 use native.Mathlib.Omega.{arith}
-use Rattle.tree.proofs.Hops.{keyAt, hold-found, hold-done}
-use Rattle.merging.proofs.Seeking.{is-success, not-success}
+use Rattle.tree.specs.inner.Merge.{Descent}
+use Rattle.tree.proofs.Hops.{keyAt, descend-found, descend-done}
+use Rattle.merging.proofs.Descending.{is-success, not-success}
 use borrow.Author.Needs.{needs}
 use Rattle.merging.proofs.first_success.Statement.{statement}
 use Rattle.merging.proofs.first_success.Tie as tie
 
 returns : tie.Need-returns
-returns c = let a = c .before .before .args in sym (hold-done (a .words .now) (a .at) (a .end) (omega arith) [])
+returns c = let a = c .before .before .args in sym (ap (λ (d : Descent). d .holder) (descend-done (a .words .now) (a .at) (a .end) (omega arith) []))
 
 mul-key : tie.Need-mul-key
 mul-key c = search needs
@@ -23,7 +24,8 @@ key-requires c κs = search needs
 returns-2 : tie.Need-returns-2
 returns-2 c =
     let a = c .before .before .before .before .before .args in
-    sym (hold-found (a .words .now) (a .at) (a .end) (omega arith) (omega arith) ∙ not-success (keyAt (a .words .now) (a .at)) (omega (arith, c .before .key .ensures)))
+    sym (ap (λ (d : Descent). d .holder) (descend-found (a .words .now) (a .at) (a .end) (omega arith) (omega arith))
+    ∙ not-success (keyAt (a .words .now) (a .at)) (omega (arith, c .before .key .ensures)))
 
 cast-t9 : tie.Need-cast-t9
 cast-t9 c = search needs
@@ -31,7 +33,8 @@ cast-t9 c = search needs
 returns-3 : tie.Need-returns-3
 returns-3 c =
     let a = c .before .before .before .before .before .args in
-    sym (hold-found (a .words .now) (a .at) (a .end) (omega arith) (omega arith) ∙ is-success _ (keyAt (a .words .now) (a .at)) (c .before .key .ensures) (omega arith))
+    sym (ap (λ (d : Descent). d .holder) (descend-found (a .words .now) (a .at) (a .end) (omega arith) (omega arith))
+    ∙ is-success _ (keyAt (a .words .now) (a .at)) (c .before .key .ensures) (omega arith))
 
 pub first-success-spec : {M : Type 1} → statement M
 first-success-spec =

@@ -6,7 +6,7 @@ use lib.Arith.{lt-of-le-ne}
 use lib.ListN.{length}
 use borrow.Author.Needs.{needs}
 use borrow.Author.Tests.{ltb-true, ltb-false}
-use Rattle.merging.proofs.Raising.{Raising, raising-start, lift-some, lift-fits, lift-small, raising-stop, raising-dive, raising-hop, raising-end}
+use Rattle.merging.proofs.Descending.{Raising, raising-start, firm-some, firm-fits, firm-small, as-was, at-stop, at-end, raising-dive, raising-hop, all-raised}
 use Rattle.merging.proofs.raise.Statement.{statement}
 use Rattle.merging.proofs.raise.Tie as tie
 
@@ -38,12 +38,14 @@ same-length : tie.Need-same-length Inv-loop μ-loop
 same-length c = search needs
 
 returns : tie.Need-returns Inv-loop μ-loop
-returns c = let s = c .before .before .before .before .before .before .loop .inv in raising-stop s (omega arith) (omega (arith, ltb-true)) (omega arith)
+returns c =
+    let s = c .before .before .before .before .before .before .loop .inv in
+    all-raised (s .on) (at-stop (s .on) (omega arith) (omega (arith, ltb-true)) (omega (arith, as-was s (omega arith)))) _ (s .words)
 
 add-words : tie.Need-add-words Inv-loop μ-loop
 add-words c =
     let s = c .before .before .before .before .before .before .before .loop .inv in
-    omega (arith, lift-small s (omega arith) (c .before .before .before .before .before .before .before .before .before .before .pre .1))
+    omega (arith, as-was s (omega arith), firm-small (s .on) (omega arith) _ (c .before .before .before .before .before .before .before .before .before .before .pre .1))
 
 mul-words : tie.Need-mul-words Inv-loop μ-loop
 mul-words c = search needs
@@ -57,7 +59,7 @@ extent-requires c κs = search needs
 add-end : tie.Need-add-end Inv-loop μ-loop
 add-end c =
     let s = c .before .before .before .before .before .before .before .before .loop .inv in
-    omega (arith, c .extent .ensures, lift-fits s (omega arith), s .room)
+    omega (arith, c .extent .ensures, as-was s (omega arith), firm-fits (s .on) (omega arith), s .on .room)
 
 add-at : tie.Need-add-at Inv-loop μ-loop
 add-at c = search needs
@@ -79,12 +81,12 @@ extent-requires-2 c κs = search needs
 add-at-2 : tie.Need-add-at-2 Inv-loop μ-loop
 add-at-2 c =
     let s = c .before .before .before .before .before .before .before .before .loop .inv in
-    omega (arith, c .extent2 .ensures, lift-fits s (omega arith), s .room)
+    omega (arith, c .extent2 .ensures, as-was s (omega arith), firm-fits (s .on) (omega arith), s .on .room)
 
 loop-less-2 : tie.Need-loop-less-2 Inv-loop μ-loop
 loop-less-2 c =
     let s = c .before .before .before .before .before .before .before .before .loop .inv in
-    omega (arith, c .extent2 .ensures, lift-some s (omega arith), lift-fits s (omega arith), s .room, s .long)
+    omega (arith, c .extent2 .ensures, as-was s (omega arith), firm-some (s .on) (omega arith), firm-fits (s .on) (omega arith), s .on .room, s .many)
 
 loop-again-2 : tie.Need-loop-again-2 Inv-loop μ-loop
 loop-again-2 c =
@@ -95,13 +97,13 @@ same-length-2 : tie.Need-same-length-2 Inv-loop μ-loop
 same-length-2 c = search needs
 
 returns-2 : tie.Need-returns-2 Inv-loop μ-loop
-returns-2 c = raising-end (c .before .before .loop .inv) (inr (omega (arith, ltb-false)))
+returns-2 c = let s = c .before .before .loop .inv in all-raised (s .on) (at-end (s .on) (inr (omega (arith, ltb-false)))) _ (s .words)
 
 same-length-3 : tie.Need-same-length-3 Inv-loop μ-loop
 same-length-3 c = search needs
 
 returns-3 : tie.Need-returns-3 Inv-loop μ-loop
-returns-3 c = raising-end (c .before .loop .inv) (inl (omega arith))
+returns-3 c = let s = c .before .loop .inv in all-raised (s .on) (at-end (s .on) (inl (omega arith))) _ (s .words)
 
 pub raise-spec : {M : Type 1} → statement M
 raise-spec =

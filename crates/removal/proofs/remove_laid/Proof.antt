@@ -19,7 +19,8 @@ abbrev rs : lts.Claims
 rs = (used-reads.Asked, used-reads.Learnt, locate-reads.Asked, locate-reads.Learnt, take-out-reads.Asked, take-out-reads.Learnt)
 
 -- the scan's answer
-scanned : (c : lts.After-locate rs reads.Pre reads.Post) → let s = c .before .before .before .before .before .before in spanOf (c .locate .result) ≡ scan (s .args .tree .now) (s .args .number)
+scanned : (c : lts.After-locate rs reads.Pre reads.Post)
+    → let s = c .before .before .before .before .before .before in spanOf (c .locate .result) ≡ scan (s .args .tree .now) (s .args .number)
 scanned c = rw (c .before .before .before .used .ensures) at (c .locate .ensures)
 
 -- where it is a run
@@ -83,7 +84,8 @@ take-out-requires c κs =
     let l = c .before .before .before in
     let s = l .before .before .before .before .before .before .before .before in
     let r = l .located .given .0 .0 in
-    removable (s .args .tree .now) (s .args .number) (record { place = r .place; last = r .last }) _ (omega arith) (sized-high (s .args .tree .now) (s .pre .0)) (omega arith) (s .pre .1) (run l)
+    removable (s .args .tree .now) (s .args .number) (record { place = r .place; last = r .last }) _ (omega arith)
+    (sized-high (s .args .tree .now) (s .pre .0)) (omega arith) (s .pre .1) (run l)
 
 same-length-2 : tie.Need-same-length-2
 same-length-2 c = search needs

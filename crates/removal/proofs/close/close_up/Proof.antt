@@ -77,7 +77,8 @@ returns : tie.Need-returns Inv-loop μ-loop
 returns c =
     let l = c .before .before .before .before .before in
     let b = l .before .before in
-    left-zeros (b .args .words .now) (l .loop .words) _ (b .args .used) (b .args .gone) (l .loop .i) (b .pre .0) (b .pre .1) (omega arith) (l .loop .inv .2) (c .before .before .clear .ensures)
+    left-zeros (b .args .words .now) (l .loop .words) _ (b .args .used) (b .args .gone) (l .loop .i) (b .pre .0) (b .pre .1) (omega arith)
+    (l .loop .inv .2) (c .before .before .clear .ensures)
 
 pub close-up-spec : {M : Type 1} → statement M
 close-up-spec =

@@ -1,31 +1,32 @@
--- `merging::insert_new` meets its contract.
+-- `insertion::insert_new` meets its contract.
 use mathlib.Core.Path.{ap, _∙_}
 use native.Mathlib.Omega.{arith}
 use Rattle.tree.specs.Laid.{region}
 use Rattle.merging.specs.inner.Inserting.{holderOf, LeadsTo}
-use Rattle.merging.proofs.InsertCases.{ready-parts, in-region, insert-held, insert-full, insert-there}
+use Rattle.merging.proofs.Putting.{slice-parts}
+use Rattle.insertion.proofs.InsertCases.{in-region, insert-held, insert-full, insert-there}
 use borrow.Author.Needs.{needs}
-use Rattle.merging.proofs.insert_new.Statement.{statement}
-use Rattle.merging.proofs.insert_new.Tie as tie
-use Rattle.merging.proofs.insert_new.Reads as reads
-use Rattle.merging.proofs.insert_new.Lts as lts
+use Rattle.insertion.proofs.insert_new.Statement.{statement}
+use Rattle.insertion.proofs.insert_new.Tie as tie
+use Rattle.insertion.proofs.insert_new.Reads as reads
+use Rattle.insertion.proofs.insert_new.Lts as lts
 use Rattle.tree.proofs.Tree.used.Reads as used-reads
 use Rattle.tree.proofs.Tree.kept.Reads as kept-reads
 use Rattle.merging.proofs.place_of.Reads as place-of-reads
 use Rattle.merging.proofs.insert_at.Reads as insert-at-reads
 
 -- what the callees ask and tell
 abbrev rs : lts.Claims
 rs = (used-reads.Asked, used-reads.Learnt, place-of-reads.Asked, place-of-reads.Learnt, kept-reads.Asked, kept-reads.Learnt, insert-at-reads.Asked, insert-at-reads.Learnt)
 
 slice-read-header : tie.Need-slice-read-header
-slice-read-header c = omega (arith, ready-parts (c .before .before .before .pre .0) .room)
+slice-read-header c = omega (arith, slice-parts (c .before .before .before .pre .0) .room)
 
 used-requires : tie.Need-used-requires
 used-requires c κs = search needs
 
 add-end : tie.Need-add-end
-add-end c = omega (arith, ready-parts (c .before .before .before .before .pre .0) .room)
+add-end c = omega (arith, slice-parts (c .before .before .before .before .pre .0) .room)
 
 sub-place-of : tie.Need-sub-place-of
 sub-place-of c = search needs
@@ -34,12 +35,12 @@ part-place-of-start : tie.Need-part-place-of-start
 part-place-of-start c = search needs
 
 part-place-of-end : tie.Need-part-place-of-end
-part-place-of-end c = omega (arith, ready-parts (c .before .before .before .before .before .pre .0) .room)
+part-place-of-end c = omega (arith, slice-parts (c .before .before .before .before .before .pre .0) .room)
 
 place-of-requires : tie.Need-place-of-requires
 place-of-requires c κs =
     let u = c .before .before in
-    let P = ready-parts (u .before .before .before .before .pre .0) in
+    let P = slice-parts (u .before .before .before .before .pre .0) in
     rw (u .used .ensures, P .part) (P .rows)
 
 enum-known-holder : tie.Need-enum-known-holder
@@ -65,14 +66,14 @@ returns : tie.Need-returns
 returns c =
     let p = c .before .before .before .before in
     let s = p .before .before .before .before .before .before .before in
-    insert-full (s .pre .0) (s .args .number) (s .pre .1)
+    insert-full (s .args .tree .now) (s .args .keys .now) (s .args .number) (s .pre .1)
     (placed p .holder ∙ ap holderOf (c .before .before .enum-told .given .1)) (omega (arith, c .if1 .taken, c .before .kept .ensures))
 
 insert-at-requires : tie.Need-insert-at-requires
 insert-at-requires c κs =
     let p = c .before .before .before .before .before in
     let q = placed p in
-    (p .before .before .before .before .before .before .before .pre .0, record { within = q .within; shares = q .shares; spot = q .spot })
+    (p .before .before .before .before .before .before .before .pre .0, q .within, q .shares)
 
 same-length-2 : tie.Need-same-length-2
 same-length-2 c = search needs
@@ -81,7 +82,8 @@ returns-2 : tie.Need-returns-2
 returns-2 c =
     let p = c .before .before .before in
     let s = p .before .before .before .before .before .before .before in
-    insert-held (s .pre .0) (s .args .number) (s .pre .1) (c .before .holder .given .0 .0) (placed p .holder ∙ ap holderOf (c .before .holder .given .1))
+    insert-held (s .args .tree .now) (s .args .keys .now) (s .args .number) (s .pre .1) (c .before .holder .given .0 .0)
+    (placed p .holder ∙ ap holderOf (c .before .holder .given .1))
 
 same-length-3 : tie.Need-same-length-3
 same-length-3 c = search needs
@@ -93,7 +95,8 @@ returns-3 c =
     let s = p .before .before .before .before .before .before .before in
     let new = placed p .holder ∙ ap holderOf (k .before .enum-told .given .1) in
     c .before .before .insert-at .ensures
-    ∙ insert-there (s .pre .0) (s .args .number) (s .pre .1) new _ (omega (arith, c .before .before .before .before .if1 .left, k .kept .ensures)) (placed p .spot)
+    ∙ insert-there (s .args .tree .now) (s .args .keys .now) (s .args .number) (s .pre .1) new _ _
+    (omega (arith, c .before .before .before .before .if1 .left, k .kept .ensures)) (placed p .place) (placed p .left)
 
 pub insert-new-spec : {M : Type 1} → statement M
 insert-new-spec =
