@@ -115,7 +115,7 @@ pub fn query(tree: &[u64], words: &[u16], budget: u64, witness: &mut [u16]) -> Q
     if !Tree::sized(tree.len()) {
         return QueryAnswer::Unanswered(Refusal::BadSlice);
     }
-    let shape = clause::read(words);
+    let shape = reading::read(words);
     let Shape::Whole(_) = shape else {
         return QueryAnswer::Unanswered(refusal(shape));
     };
