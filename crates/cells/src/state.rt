@@ -62,7 +62,7 @@ pub fn unwind(cells: &mut [u8; Path::CELLS], trail: u64)
     }
 }
 
-// Makes place for the candidates of a First: what stood there.
+// Makes place for a candidate, below a First: what stood there.
 pub fn reserve(cells: &mut [u8; Path::CELLS], above: Above) -> u8
     requires { ⌜ (length (now cells) ≡ cellCount) × (above ≡ First → HasPlace (now cells)) ⌝ }
     ensures { λ r. ⌜ (r ≡ keptIn above (now (cells .entry))) × (now (cells .exit) ≡ reserved above (now (cells .entry))) ⌝ }
@@ -78,7 +78,7 @@ pub fn reserve(cells: &mut [u8; Path::CELLS], above: Above) -> u8
     }
 }
 
-// Begins the pass with literal j, of a First, or the only pass of any other node: the head.
+// Begins pass j: below a First literal j is the candidate and has the head, below a step the head is the one handed on.
 pub fn begin(
     query: &[u16],
     tables: &[u8; Clause::TABLES],
@@ -101,7 +101,7 @@ pub fn begin(
     }
 }
 
-// Takes the place of the candidates away again.
+// Takes the place of the candidate away again.
 pub fn release(cells: &mut [u8; Path::CELLS], above: Above, kept: u8)
     requires { ⌜ (length (now cells) ≡ cellCount) × (above ≡ First → HasCandidate (now cells)) ⌝ }
     ensures { λ _. ⌜ now (cells .exit) ≡ released above kept (now (cells .entry)) ⌝ }
@@ -117,7 +117,7 @@ pub fn release(cells: &mut [u8; Path::CELLS], above: Above, kept: u8)
     }
 }
 
-// How many passes a node takes: one for each literal of a First's query, else one.
+// How many passes are made over the words: below a First one for each literal of the query, below a step one.
 pub fn passes(tables: &[u8; Clause::TABLES], above: Above) -> usize
     ensures { λ r. ⌜ r ≡ passesOf above (getD (now (tables .entry)) literalsAt 0) ⌝ }
 {

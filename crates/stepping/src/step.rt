@@ -17,9 +17,8 @@ ghost use Rattle.machine.specs.Machine.{sameTerms};
 ghost use Rattle.machine.specs.Machine as m;
 ghost use Rattle.stepping.specs.declared.Go.the-variants.{Stuck, Tries, Stored};
 ghost use Rattle.cells.specs.inner.Cells.{countAt, cellCount, noPosition, markBase, countIn, positionIn, stateOf, Tables, Walkable};
-ghost use Rattle.stepping.specs.inner.Visits.{Visited};
 ghost use Rattle.stepping.specs.inner.Visits.{metSuccess, metFirst, metDown, metRight, metMoved, metPut, metPush, metPop, metCheck, metCompare};
-ghost use Rattle.stepping.specs.inner.Visits.{withWords, metAs, meeting};
+ghost use Rattle.stepping.specs.inner.Visits.{withWords, metAs, meeting, Visited};
 
 // The operations by number: what their keys have above the operand.
 struct Op {}

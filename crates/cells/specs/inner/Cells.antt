@@ -130,7 +130,7 @@ unfoldable pub keptIn : Above → List ℕ → ℕ
 keptIn First l = getD l (countIn l) 0
 keptIn Step l = 0
 
--- how many passes are made over the words: one for each literal of the query, or one
+-- how many passes are made over the words: below a First one for each literal of the query, below a step one
 unfoldable pub passesOf : Above → ℕ → ℕ
 passesOf First n = n
 passesOf Step n = 1
