@@ -15,7 +15,7 @@ use Rattle.tree.specs.Entries.{Listed, Pair, Sound, entry}
 use Rattle.tree.specs.Laid.{maxKept}
 use Rattle.walk.specs.Walk.{Answer, covered, notCovered, spent, broken, upTo, walk}
 use Rattle.walk.specs.Ceiling.{fullBudget}
-use Rattle.walk.specs.Query.{machine, witnessWords, shown, written, told, query}
+use Rattle.walk.specs.Query.{machine, witnessWords, shown, withShown, told, query}
 use Rattle.walk.specs.Covering.{most, Subsumed, candidates, IsCovered, IsNotCovered, IsSpent, Answers}
 use Rattle.book.specs.Book.{Call, sliceOf, bookOf, treeOf}
 use Rattle.book.specs.Claims.{Run, Under, Renamed, Same, Alone, Demand3}
@@ -93,7 +93,7 @@ renamed-kept K L r cs n k =
     subst₂ (Listed (map entry L)) (ap (map key) h ∙ sym e) (g ∙ sym f) (pair-kept L q m′)
 
 -- what the walk's answer writes into a witness
-told-words : (b : ℕ) (a : Answer State) → (os : List (Option ℕ)) × ((W : List ℕ) → told b W a .witness ≡ written os W)
+told-words : (b : ℕ) (a : Answer State) → (os : List (Option ℕ)) × ((W : List ℕ) → told b W a .witness ≡ withShown os W)
 told-words b (covered n s c) = (shown s, λ W. refl)
 told-words b (notCovered c) = ([], λ W. refl)
 told-words b spent = ([], λ W. refl)

@@ -15,7 +15,7 @@ use Rattle.tree.specs.Laid.{maxKept, decode}
 use Rattle.tree.specs.Entries.{Mirrors, Pair, entry}
 use Rattle.walk.specs.Walk.{upTo, walk}
 use Rattle.walk.specs.Ceiling.{ceiling, fullBudget, ceilingCall}
-use Rattle.walk.specs.Query.{machine, witnessWords, written, told, walkSlice, query}
+use Rattle.walk.specs.Query.{machine, witnessWords, withShown, told, walkSlice, query}
 use Rattle.walk.specs.Covering.{IsCovered, IsNotCovered, Answers}
 use Rattle.tree.specs.Calls.{fresh, insertion, removal}
 use Rattle.book.specs.Table.{ready, kept, removed, returned, saidCeiling, called, asked}
@@ -79,8 +79,8 @@ Renamed K L = (p : Pair) → List·Memᴰ p K → (q : Pair) × List·Memᴰ q L
 pub record Same (S T d : List ℕ) (b : ℕ) : Type 0 where
   pub words : List (Option ℕ)
   pub answer : (U W : List ℕ) → witnessWords ≤ length U → witnessWords ≤ length W → query S d b U .answer ≡ query T d b W .answer
-  pub left : (U : List ℕ) → witnessWords ≤ length U → query S d b U .witness ≡ written words U
-  pub right : (W : List ℕ) → witnessWords ≤ length W → query T d b W .witness ≡ written words W
+  pub left : (U : List ℕ) → witnessWords ≤ length U → query S d b U .witness ≡ withShown words U
+  pub right : (W : List ℕ) → witnessWords ≤ length W → query T d b W .witness ≡ withShown words W
 
 -- what is claimed of one list's queries at the full budget, and of the walk
 pub record Alone (T : List ℕ) (xs : List Call) : Type 0 where

@@ -10,7 +10,7 @@ use Rattle.machine.specs.Machine.{State}
 use Rattle.tree.specs.Forest.{size, leaves, ins, find, holder}
 use Rattle.tree.specs.Laid.{maxKept, sized, usedOf, wellLaid, decode}
 use Rattle.walk.specs.Walk.{Answer, covered, notCovered, spent, broken}
-use Rattle.walk.specs.Query.{witnessWords, shown, written}
+use Rattle.walk.specs.Query.{witnessWords, shown, withShown}
 use Rattle.book.specs.Table.{Title, Said, is-covered, is-not-covered, code, Result}
 use Rattle.clause.specs.declared.Fault.the-variants.{BadLength, Bad, Ninth}
 use Rattle.clause.specs.declared.Shape.{Shape}
@@ -100,7 +100,7 @@ unlessSaid none a = a
 -- what the walk meets: "covered" with the clause's number and the count, and the witness written; "not covered" with the count; 12 with the budget
 -- as the count; or 2
 abbrev pub walkResult : (budget : ℕ) (witness : List ℕ) → Answer State → Result
-walkResult b W (covered n s c) = record { said = record { title = is-covered; values = n ∷ c ∷ [] }; words = written (shown s) W }
+walkResult b W (covered n s c) = record { said = record { title = is-covered; values = n ∷ c ∷ [] }; words = withShown (shown s) W }
 walkResult b W (notCovered c) = record { said = record { title = is-not-covered; values = c ∷ [] }; words = W }
 walkResult b W spent = record { said = record { title = code 12; values = b ∷ [] }; words = W }
 walkResult b W broken = record { said = record { title = code 2; values = [] }; words = W }

@@ -5,11 +5,12 @@ use tree::Tree;
 use walk::CeilingAnswer;
 ghost use mathlib.Core.Path.{_≡_};
 ghost use Prim.Native.Nat.{_≤_};
+ghost use Rattle.clause.specs.Clause.{maxLiterals};
 ghost use Rattle.walk.specs.Ceiling.{powers, ceilingCall};
 
 // q + q² + .. + q^m.
 fn sum_of_powers(q: u64, m: u64) -> u64
-    requires { ⌜ (q ≤ 8) × (m ≤ 8) ⌝ }
+    requires { ⌜ (q ≤ maxLiterals) × (m ≤ maxLiterals) ⌝ }
     ensures { λ r. ⌜ r ≡ powers q m ⌝ }
 {
     let mut sum: u64 = 0;

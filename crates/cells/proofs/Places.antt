@@ -9,14 +9,17 @@ use native.Mathlib.Numerals.{add-one}
 use lib.Dec.{eqb}
 use lib.ListN.{length, getD, take, drop, set, length-take, length-drop, length-set}
 use lib.Seq.{take-set-le, take-set-lt, drop-set-lt, drop-set-add, take-suc-set, getD-take, getD-drop, getD-set-same, getD-set-other, set-set, set-getD, set-comm}
-use borrow.Author.Tests.{eq-eqb, ne-eqb}
+use borrow.Author.Tests.{eqb-true, eq-eqb, ne-eqb}
 use Rattle.clause.specs.Clause.{maxWords, maxLiterals, literals, startOf}
+use Rattle.clause.proofs.Apart.{apart}
 use Rattle.clause.proofs.Lists.{getD-map-lt}
 use Rattle.clause.proofs.Literals.{accepted}
 use Rattle.machine.specs.Machine.{slots}
 use Rattle.machine.proofs.Safe.{start-in}
-use Rattle.cells.specs.inner.Cells.{putsAt, pushesAt, countAt, cellCount, noPosition, countIn, HasPlace, positionIn, placed, stateOf, restored}
-use Rattle.cells.specs.inner.Cells.{unwound, reserved, candidate, released, keptIn, headAt, startAt, Walkable}
+use Rattle.cells.specs.inner.Cells.{putsAt, pushesAt, countAt, cellCount, noPosition, markBase, countIn, HasPlace, positionIn, placed, stateOf, restored}
+use Rattle.cells.specs.inner.Cells.{unwound, aboveOf, reserved, candidate, released, keptIn, passHead, passState, Walkable}
+use Rattle.cells.specs.declared.Above.{Above}
+use Rattle.cells.specs.declared.Above.the-variants.{First, Step}
 
 pub place-none : {x : ℕ} → x ≡ noPosition → positionIn x ≡ none
 unfolding positionIn
@@ -25,6 +28,19 @@ place-none {x} e = rw (eq-eqb x noPosition e)
 pub place-some : {x : ℕ} → (x ≡ noPosition → ⊥) → positionIn x ≡ some x
 unfolding positionIn
 place-some {x} n = rw (ne-eqb x noPosition n)
+
+-- what words stand below, by the test of the head
+pub above-first : (h : ℕ) → aboveOf h ≡ First → h ≡ noPosition
+unfolding aboveOf
+above-first h e = go (eqb h noPosition) refl e
+  where
+    go : (b : Bool) → eqb h noPosition ≡ b → cond b First Step ≡ First → h ≡ noPosition
+    go true f g = eqb-true h noPosition f
+    go false f g = apart cc
+
+pub above-step : (h : ℕ) → aboveOf h ≡ Step → h ≡ noPosition → ⊥
+unfolding aboveOf
+above-step h e z = let f : aboveOf h ≡ First = rw (eq-eqb h noPosition z) in apart cc
 
 map-set : {A B : Type 0} (f : A → B) (l : List A) (i : ℕ) (a : A) → map f (set l i a) ≡ set (map f l) i (f a)
 map-set f [] i a = refl
@@ -65,16 +81,26 @@ module _ (h : ℕ) (l : List ℕ) (few : countIn l ≤ maxLiterals) where
   pub state-put : (k x : ℕ) → k < slots → x < noPosition
       → stateOf h (set l (putsAt + k) x) ≡ record { chosen = take (countIn l) l; head = positionIn h; puts = set (placed putsAt l) k (some x); pushes = placed pushesAt l }
   state-put k x g v =
-      rw (chosen-other (putsAt + k) x (omega arith) (omega arith), placed-at putsAt l k x g, placed-before pushesAt l (putsAt + k) x (omega arith), place-some {x = x} (λ e. omega arith))
+      rw (
+        chosen-other (putsAt + k) x (omega arith) (omega arith),
+        placed-at putsAt l k x g,
+        placed-before pushesAt l (putsAt + k) x (omega arith),
+        place-some {x = x} (λ e. omega arith),
+      )
 
   pub state-push : (n x : ℕ) → n < slots → x < noPosition
       → stateOf h (set l (pushesAt + n) x) ≡ record { chosen = take (countIn l) l; head = positionIn h; puts = placed putsAt l; pushes = set (placed pushesAt l) n (some x) }
   state-push n x g v =
-      rw (chosen-other (pushesAt + n) x (omega arith) (omega arith), placed-behind putsAt l (pushesAt + n) x (omega arith), placed-at pushesAt l n x g, place-some {x = x} (λ e. omega arith))
+      rw (
+        chosen-other (pushesAt + n) x (omega arith) (omega arith),
+        placed-behind putsAt l (pushesAt + n) x (omega arith),
+        placed-at pushesAt l n x g,
+        place-some {x = x} (λ e. omega arith),
+      )
 
 -- the cells while the candidates of a First are tried, with x as the latest
-abbrev pub waiting : Bool → ℕ → List ℕ → List ℕ
-waiting first x l = candidate first x (reserved first l)
+abbrev pub waiting : Above → ℕ → List ℕ → List ℕ
+waiting above x l = candidate above x (reserved above l)
 
 -- the place for a candidate
 module _ (l : List ℕ) (size : length l ≡ cellCount) (few : HasPlace l) where
@@ -82,45 +108,45 @@ module _ (l : List ℕ) (size : length l ≡ cellCount) (few : HasPlace l) where
   open-count = getD-set-same l countAt (countIn l + 1) 0 (omega arith)
 
   -- the place is the one after the earlier candidates
-  waiting-cells : (x : ℕ) → waiting true x l ≡ set (set l countAt (countIn l + 1)) (countIn l) x
+  waiting-cells : (x : ℕ) → waiting First x l ≡ set (set l countAt (countIn l + 1)) (countIn l) x
   unfolding reserved candidate
   waiting-cells x = let e : countIn l + 1 - 1 ≡ countIn l = omega arith in rw (open-count, e)
 
-  waiting-count : (x : ℕ) → countIn (waiting true x l) ≡ countIn l + 1
+  waiting-count : (x : ℕ) → countIn (waiting First x l) ≡ countIn l + 1
   waiting-count x =
       rw (waiting-cells x) (getD-set-other (set l countAt (countIn l + 1)) (countIn l) countAt x 0 (λ e. omega arith) ∙ open-count)
 
 -- a place is made, filled anew, and taken away again
-module _ (first : Bool) (l : List ℕ) (size : length l ≡ cellCount) (few : first ≡ true → HasPlace l) where
-  pub waiting-reserve : reserved first l ≡ waiting first (keptIn first l) l
+module _ (above : Above) (l : List ℕ) (size : length l ≡ cellCount) (few : above ≡ First → HasPlace l) where
+  pub waiting-reserve : reserved above l ≡ waiting above (keptIn above l) l
   unfolding reserved candidate keptIn
-  waiting-reserve = go first refl
+  waiting-reserve = go above refl
     where
-      go : (b : Bool) → first ≡ b → reserved b l ≡ waiting b (keptIn b l) l
-      go false e = refl
-      go true e =
+      go : (b : Above) → above ≡ b → reserved b l ≡ waiting b (keptIn b l) l
+      go Step e = refl
+      go First e =
           let n = countIn l in
           let o : getD (set l countAt (n + 1)) n 0 ≡ getD l n 0 = getD-set-other l countAt n (n + 1) 0 (λ z. omega (arith, few e)) in
           sym (waiting-cells l size (few e) (getD l n 0) ∙ rw (← o, set-getD (set l countAt (n + 1)) n 0))
 
-  pub waiting-next : (x j : ℕ) → candidate first j (waiting first x l) ≡ waiting first j l
+  pub waiting-next : (x j : ℕ) → candidate above j (waiting above x l) ≡ waiting above j l
   unfolding candidate
-  waiting-next x j = go first refl
+  waiting-next x j = go above refl
     where
-      go : (b : Bool) → first ≡ b → candidate b j (waiting b x l) ≡ waiting b j l
-      go false e = refl
-      go true e =
+      go : (b : Above) → above ≡ b → candidate b j (waiting b x l) ≡ waiting b j l
+      go Step e = refl
+      go First e =
           let n = countIn l in
           let z : n + 1 - 1 ≡ n = omega arith in
           rw (waiting-count l size (few e) x, z, waiting-cells l size (few e) x, waiting-cells l size (few e) j, set-set (set l countAt (n + 1)) n x j)
 
-  pub waiting-release : (x : ℕ) → released first (keptIn first l) (waiting first x l) ≡ l
+  pub waiting-release : (x : ℕ) → released above (keptIn above l) (waiting above x l) ≡ l
   unfolding reserved candidate released keptIn
-  waiting-release x = go first refl
+  waiting-release x = go above refl
     where
-      go : (b : Bool) → first ≡ b → released b (keptIn b l) (waiting b x l) ≡ l
-      go false e = refl
-      go true e =
+      go : (b : Above) → above ≡ b → released b (keptIn b l) (waiting b x l) ≡ l
+      go Step e = refl
+      go First e =
           let n = countIn l in
           let z : n + 1 - 1 ≡ n = omega arith in
           rw (
@@ -134,31 +160,32 @@ module _ (first : Bool) (l : List ℕ) (size : length l ≡ cellCount) (few : fi
             set-getD l countAt 0,
           )
 
-  pub waiting-size : (x : ℕ) → length (waiting first x l) ≡ length l
+  pub waiting-size : (x : ℕ) → length (waiting above x l) ≡ length l
   unfolding reserved candidate
-  waiting-size x = go first
+  waiting-size x = go above
     where
-      go : (b : Bool) → length (waiting b x l) ≡ length l
-      go false = refl
-      go true = simp length-set
+      go : (b : Above) → length (waiting b x l) ≡ length l
+      go Step = refl
+      go First = simp length-set
 
-  pub waiting-few : countIn l ≤ maxLiterals → (x : ℕ) → (countIn (waiting first x l) ≤ maxLiterals) × (first ≡ true → 1 ≤ countIn (waiting first x l))
+  pub waiting-few : countIn l ≤ maxLiterals → (x : ℕ) → (countIn (waiting above x l) ≤ maxLiterals) × (above ≡ First → 1 ≤ countIn (waiting above x l))
   unfolding reserved candidate
-  waiting-few low x = go first refl
+  waiting-few low x = go above refl
     where
-      go : (b : Bool) → first ≡ b → (countIn (waiting b x l) ≤ maxLiterals) × (b ≡ true → 1 ≤ countIn (waiting b x l))
-      go false e = (low, λ f. let z : _≡_ {A = ℕ} 0 1 = cc in absurd (omega arith))
-      go true e = let n = waiting-count l size (few e) x in (omega (arith, n, few e), λ f. omega (arith, n))
+      go : (b : Above) → above ≡ b → (countIn (waiting b x l) ≤ maxLiterals) × (b ≡ First → 1 ≤ countIn (waiting b x l))
+      go Step e = (low, λ f. apart cc)
+      go First e = let n = waiting-count l size (few e) x in (omega (arith, n, few e), λ f. omega (arith, n))
 
 -- a candidate begins: its state
 module _ (d t : List ℕ) (h : ℕ) (l : List ℕ) (R : Walkable d t h l) (j : ℕ) where
   pub start-small : j < length (literals d) → startOf d j < maxWords
   start-small g = let C = accepted d (R .whole) in omega (arith, start-in d C j g, C .fits)
 
-  pub waiting-state : (first : Bool) → (first ≡ true → (HasPlace l) × (j < length (literals d))) → stateOf (headAt d first h j) (waiting first j l) ≡ startAt d first j (stateOf h l)
-  unfolding reserved candidate headAt startAt
-  waiting-state false m = refl
-  waiting-state true m =
+  pub waiting-state : (above : Above) → (above ≡ First → (HasPlace l) × (j < length (literals d)))
+      → stateOf (passHead d above h j) (waiting above j l) ≡ passState d above j (stateOf h l)
+  unfolding reserved candidate passHead passState
+  waiting-state Step m = refl
+  waiting-state First m =
       let n = countIn l in
       let s = R .size in
       let g : n < maxLiterals = m refl .0 in
@@ -185,16 +212,16 @@ pub restored-size : (m : ℕ) (l : List ℕ) → length (restored m l) ≡ lengt
 unfolding restored
 restored-size m l = go (eqb m 0)
   where
-    go : (b : Bool) → length (cond b l (set l (m / 256 % 256) (m % 256))) ≡ length l
+    go : (b : Bool) → length (cond b l (set l (m / markBase % markBase) (m % markBase))) ≡ length l
     go true = refl
-    go false = length-set l (m / 256 % 256) (m % 256)
+    go false = length-set l (m / markBase % markBase) (m % markBase)
 
 -- a number that isn't 0 stores back by its lowest 16 bits
 pub restored-low : (t m : ℕ) (l : List ℕ) → m < 2 ^ 16 → (m ≡ 0 → ⊥) → restored (t * 2 ^ 16 + m) l ≡ restored m l
 unfolding restored
 restored-low t m l h n =
-    let e : (t * 2 ^ 16 + m) / 256 % 256 ≡ m / 256 % 256 = omega arith in
-    let f : (t * 2 ^ 16 + m) % 256 ≡ m % 256 = omega arith in
+    let e : (t * 2 ^ 16 + m) / markBase % markBase ≡ m / markBase % markBase = omega arith in
+    let f : (t * 2 ^ 16 + m) % markBase ≡ m % markBase = omega arith in
     rw (ne-eqb (t * 2 ^ 16 + m) 0 (λ z. n (omega arith)), ne-eqb m 0 n, e, f)
 
 pub unwound-none : (l : List ℕ) → unwound 0 l ≡ l

@@ -6,7 +6,6 @@ use clause::Clause;
 pub use row::skip;
 pub use row::wanted;
 pub use state::begin;
-pub use state::is_none;
 pub use state::passes;
 pub use state::release;
 pub use state::reserve;
@@ -14,6 +13,12 @@ pub use state::restore;
 pub use state::trace;
 pub use state::unwind;
 pub use state::wide;
+
+// What words stand below: a First, so that they are walked from each of its candidates, or a step, so that they are walked once.
+pub enum Above {
+    First,
+    Step,
+}
 
 // A path's state in lent cells: the candidates first, then the positions put, the positions pushed, and how many candidates there are.
 pub struct Path {}
@@ -37,6 +42,15 @@ impl Path {
     // What stands for no position.
     pub const NONE: usize = 255;
 
+    // The head that is handed to the words below a First: none, each candidate has its own.
+    pub const BEFORE: usize = Path::NONE;
+
+    // A mark is the index of a cell, times this, and the byte that it held.
+    pub const MARK: u64 = Path::CELLS as u64;
+
+    // Marks are below this.
+    pub const MARKS: u64 = Path::MARK * Path::MARK;
+
     // A trail below this has room for one more mark.
-    pub const TRAIL: u64 = 0x1_0000_0000_0000;
+    pub const TRAIL: u64 = Path::MARKS * Path::MARKS * Path::MARKS;
 }

@@ -1,4 +1,5 @@
 // The words of a row: the Checks that fail among them.
+use machine::Key;
 use tree::extent;
 ghost use mathlib.Core.Path.{_≡_};
 ghost use mathlib.Core.Bool.{true};
@@ -11,7 +12,7 @@ pub fn wanted(query: &[u16], head: usize) -> u64
     requires { ⌜ head < length (now query) ⌝ }
     ensures { λ r. ⌜ (r ≡ wantedAt (now (query .entry)) head) × (r / 2 ^ 32 ≡ 7) ⌝ }
 {
-    0x7_0000_0000 + query[head] as u64
+    Key::CHECK + query[head] as u64
 }
 
 // Whether a word is a Check with another key than this Check's: the operations are the same, the operands are not.

@@ -1,27 +1,33 @@
 // The state of a path in lent cells, laid out as `Path` says.
+use crate::Above;
 use crate::Path;
 use clause::Clause;
 ghost use mathlib.Core.Path.{_≡_};
-ghost use mathlib.Core.Bool.{true};
 ghost use Prim.Native.Nat.{_+_, _*_, _<_, _^_};
-ghost use lib.Dec.{eqb};
 ghost use lib.ListN.{length, getD};
 ghost use Rattle.clause.specs.Clause.{Accepted, literals};
-ghost use Rattle.cells.specs.inner.Cells.{cellCount, noPosition, literalsAt, HasPlace, HasCandidate, Tables};
-ghost use Rattle.cells.specs.inner.Cells.{restored, unwound, reserved, candidate, released, keptIn, headAt, passesOf};
+ghost use Rattle.cells.specs.inner.Cells.{cellCount, literalsAt, HasPlace, HasCandidate, Tables};
+ghost use Rattle.cells.specs.inner.Cells.{restored, unwound, aboveOf, reserved, candidate, released, keptIn, passHead, passesOf};
+ghost use Rattle.cells.specs.declared.Above.the-variants.{First};
 
 // A cell as a position.
 pub fn wide(x: u8) -> usize
-    ensures { λ r. ⌜ (r ≡ x) × (r < 256) ⌝ }
+    ensures { λ r. ⌜ (r ≡ x) × (r < cellCount) ⌝ }
 {
     x as usize
 }
 
-// Whether a position is none.
-pub fn is_none(x: usize) -> bool
-    ensures { λ r. ⌜ r ≡ eqb x noPosition ⌝ }
-{
-    x == Path::NONE
+impl Above {
+    // What words stand below, by the head that is handed to them.
+    pub fn of(head: usize) -> Above
+        ensures { λ r. ⌜ r ≡ aboveOf head ⌝ }
+    {
+        if head == Path::BEFORE {
+            Above::First
+        } else {
+            Above::Step
+        }
+    }
 }
 
 // Stores back what a visit stored over, by the lowest 16 bits of a mark.
@@ -32,8 +38,8 @@ pub fn restore(cells: &mut [u8; Path::CELLS], mark: u64)
     if mark == 0 {
         return;
     }
-    let slot = (mark / 256 % 256) as usize;
-    cells[slot] = (mark % 256) as u8;
+    let slot = (mark / Path::MARK % Path::MARK) as usize;
+    cells[slot] = (mark % Path::MARK) as u8;
 }
 
 // One more mark on a trail with room for it.
@@ -41,7 +47,7 @@ pub fn trace(trail: u64, mark: u64) -> u64
     requires { ⌜ (trail < 2 ^ 48) × (mark < 2 ^ 16) ⌝ }
     ensures { λ r. ⌜ r ≡ trail * 2 ^ 16 + mark ⌝ }
 {
-    trail * 0x1_0000 + mark
+    trail * Path::MARKS + mark
 }
 
 // Stores back what the visits on a trail stored over, the latest first.
@@ -52,67 +58,71 @@ pub fn unwind(cells: &mut [u8; Path::CELLS], trail: u64)
     let mut left = trail;
     while left > 0 {
         restore(cells, left);
-        left /= 0x1_0000;
+        left /= Path::MARKS;
     }
 }
 
-// Makes place for the candidates of a First: what stood there.
-pub fn reserve(cells: &mut [u8; Path::CELLS], first: bool) -> u8
-    requires { ⌜ (length (now cells) ≡ cellCount) × (first ≡ true → HasPlace (now cells)) ⌝ }
-    ensures { λ r. ⌜ (r ≡ keptIn first (now (cells .entry))) × (now (cells .exit) ≡ reserved first (now (cells .entry))) ⌝ }
+// Makes place for a candidate, below a First: what stood there.
+pub fn reserve(cells: &mut [u8; Path::CELLS], above: Above) -> u8
+    requires { ⌜ (length (now cells) ≡ cellCount) × (above ≡ First → HasPlace (now cells)) ⌝ }
+    ensures { λ r. ⌜ (r ≡ keptIn above (now (cells .entry))) × (now (cells .exit) ≡ reserved above (now (cells .entry))) ⌝ }
 {
-    if first {
-        let chosen = cells[Path::CHOSEN];
-        let slot = chosen as usize;
-        cells[Path::CHOSEN] = chosen + 1;
-        cells[slot]
-    } else {
-        0
+    match above {
+        Above::First => {
+            let chosen = cells[Path::CHOSEN];
+            let slot = chosen as usize;
+            cells[Path::CHOSEN] = chosen + 1;
+            cells[slot]
+        }
+        Above::Step => 0,
     }
 }
 
-// Begins the pass with literal j, of a First, or the only pass of any other node: the head.
+// Begins pass j: below a First literal j is the candidate and has the head, below a step the head is the one handed on.
 pub fn begin(
     query: &[u16],
     tables: &[u8; Clause::TABLES],
     cells: &mut [u8; Path::CELLS],
-    first: bool,
+    above: Above,
     head: usize,
     j: usize,
 ) -> usize
     requires { ⌜ Accepted (now query) × Tables (now query) (now tables) × (length (now cells) ≡ cellCount)
-        × (first ≡ true → HasCandidate (now cells) × (j < length (literals (now query)))) ⌝ }
-    ensures { λ r. ⌜ (r ≡ headAt (now (query .entry)) first head j) × (now (cells .exit) ≡ candidate first j (now (cells .entry))) ⌝ }
+        × (above ≡ First → HasCandidate (now cells) × (j < length (literals (now query)))) ⌝ }
+    ensures { λ r. ⌜ (r ≡ passHead (now (query .entry)) above head j) × (now (cells .exit) ≡ candidate above j (now (cells .entry))) ⌝ }
 {
-    if first {
-        let slot = cells[Path::CHOSEN] as usize - 1;
-        cells[slot] = j as u8;
-        wide(tables[j])
-    } else {
-        head
+    match above {
+        Above::First => {
+            let slot = cells[Path::CHOSEN] as usize - 1;
+            cells[slot] = j as u8;
+            wide(tables[j])
+        }
+        Above::Step => head,
     }
 }
 
-// Takes the place of the candidates away again.
-pub fn release(cells: &mut [u8; Path::CELLS], first: bool, kept: u8)
-    requires { ⌜ (length (now cells) ≡ cellCount) × (first ≡ true → HasCandidate (now cells)) ⌝ }
-    ensures { λ _. ⌜ now (cells .exit) ≡ released first kept (now (cells .entry)) ⌝ }
+// Takes the place of the candidate away again.
+pub fn release(cells: &mut [u8; Path::CELLS], above: Above, kept: u8)
+    requires { ⌜ (length (now cells) ≡ cellCount) × (above ≡ First → HasCandidate (now cells)) ⌝ }
+    ensures { λ _. ⌜ now (cells .exit) ≡ released above kept (now (cells .entry)) ⌝ }
 {
-    if first {
-        let chosen = cells[Path::CHOSEN] - 1;
-        let slot = chosen as usize;
-        cells[slot] = kept;
-        cells[Path::CHOSEN] = chosen;
+    match above {
+        Above::First => {
+            let chosen = cells[Path::CHOSEN] - 1;
+            let slot = chosen as usize;
+            cells[slot] = kept;
+            cells[Path::CHOSEN] = chosen;
+        }
+        Above::Step => {}
     }
 }
 
-// How many passes a node takes: one for each literal of a First's query, else one.
-pub fn passes(tables: &[u8; Clause::TABLES], first: bool) -> usize
-    ensures { λ r. ⌜ r ≡ passesOf first (getD (now (tables .entry)) literalsAt 0) ⌝ }
+// How many passes are made over the words: below a First one for each literal of the query, below a step one.
+pub fn passes(tables: &[u8; Clause::TABLES], above: Above) -> usize
+    ensures { λ r. ⌜ r ≡ passesOf above (getD (now (tables .entry)) literalsAt 0) ⌝ }
 {
-    if first {
-        wide(tables[Clause::COUNT])
-    } else {
-        1
+    match above {
+        Above::First => wide(tables[Clause::COUNT]),
+        Above::Step => 1,
     }
 }

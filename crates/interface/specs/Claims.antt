@@ -11,7 +11,7 @@ use Rattle.tree.specs.Forest.{layout}
 use Rattle.tree.specs.Entries.{Pair}
 use Rattle.tree.specs.Calls.{fresh, insertion, removal}
 use Rattle.walk.specs.Ceiling.{ceiling, fullBudget, ceilingCall}
-use Rattle.walk.specs.Query.{witnessWords, written, query}
+use Rattle.walk.specs.Query.{witnessWords, withShown, query}
 use Rattle.walk.specs.Covering.{most, Subsumed, Shows, Untouched, candidates}
 use Rattle.book.specs.Book.{Call, insert, remove, Fit, AllFit, bookStep, bookOf, treeOf}
 use Rattle.book.specs.Claims.{Under, Renamed}
@@ -120,8 +120,8 @@ pub record CtSame (S T d : List ℕ) (b : ℕ) : Type 0 where
   pub number : ℕ
   pub values : List ℕ
   pub words : List (Option ℕ)
-  pub one : (U ts : List ℕ) → witnessWords ≤ length U → ctQuery S d b U ts ≡ record { number = number; words = written words U; told = toldBy values ts }
-  pub other : (U ts : List ℕ) → witnessWords ≤ length U → ctQuery T d b U ts ≡ record { number = number; words = written words U; told = toldBy values ts }
+  pub one : (U ts : List ℕ) → witnessWords ≤ length U → ctQuery S d b U ts ≡ record { number = number; words = withShown words U; told = toldBy values ts }
+  pub other : (U ts : List ℕ) → witnessWords ≤ length U → ctQuery T d b U ts ≡ record { number = number; words = withShown words U; told = toldBy values ts }
 
 -- on a tree a clause is said to be covered at the full budget
 abbrev pub CtCovered : (tree clause witness told : List ℕ) → Type 0

@@ -12,30 +12,30 @@ use borrow.Author.Tests.{lt-ltb, le-ltb}
 use lib.ListN.{length, getD, take, set, length-take, length-append, length-map}
 use lib.Seq.{getD-take, take-all}
 use Rattle.clause.specs.Clause.{maxLiterals}
-use Rattle.walk.specs.Query.{witnessWords, shown, written}
+use Rattle.walk.specs.Query.{witnessWords, shown, withShown}
 use Rattle.cells.specs.inner.Cells.{putsAt, cellCount, noPosition, countIn, positionIn, placed, stateOf}
 use Rattle.walk.proofs.Witnessed.{shown-front, shown-none, shown-position}
 use Rattle.cells.proofs.Places.{placed-get}
 
 -- one more word, where there is nothing to write, and where there is
-pub written-past : (os : List (Option ℕ)) (ws : List ℕ) (i : ℕ) → getD os i none ≡ none → written (take (suc i) os) ws ≡ written (take i os) ws
-written-past [] ws zero e = refl
-written-past [] ws (suc i) e = refl
-written-past (none ∷ os) [] zero e = refl
-written-past (none ∷ os) (w ∷ ws) zero e = refl
-written-past (some x ∷ os) ws zero e = absurd (Option·none-ne-some x (sym e))
-written-past (o ∷ os) [] (suc i) e = refl
-written-past (none ∷ os) (w ∷ ws) (suc i) e = ap (λ (l : List ℕ). w ∷ l) (written-past os ws i e)
-written-past (some x ∷ os) (w ∷ ws) (suc i) e = ap (λ (l : List ℕ). x ∷ l) (written-past os ws i e)
+pub withShown-past : (os : List (Option ℕ)) (ws : List ℕ) (i : ℕ) → getD os i none ≡ none → withShown (take (suc i) os) ws ≡ withShown (take i os) ws
+withShown-past [] ws zero e = refl
+withShown-past [] ws (suc i) e = refl
+withShown-past (none ∷ os) [] zero e = refl
+withShown-past (none ∷ os) (w ∷ ws) zero e = refl
+withShown-past (some x ∷ os) ws zero e = absurd (Option·none-ne-some x (sym e))
+withShown-past (o ∷ os) [] (suc i) e = refl
+withShown-past (none ∷ os) (w ∷ ws) (suc i) e = ap (λ (l : List ℕ). w ∷ l) (withShown-past os ws i e)
+withShown-past (some x ∷ os) (w ∷ ws) (suc i) e = ap (λ (l : List ℕ). x ∷ l) (withShown-past os ws i e)
 
-pub written-on : (os : List (Option ℕ)) (ws : List ℕ) (i x : ℕ) → getD os i none ≡ some x → written (take (suc i) os) ws ≡ set (written (take i os) ws) i x
-written-on [] ws i x e = absurd (Option·none-ne-some x e)
-written-on (none ∷ os) ws zero x e = absurd (Option·none-ne-some x e)
-written-on (some y ∷ os) [] zero x e = refl
-written-on (some y ∷ os) (w ∷ ws) zero x e = ap (λ (z : ℕ). z ∷ ws) (Option·some-injective y x e)
-written-on (o ∷ os) [] (suc i) x e = refl
-written-on (none ∷ os) (w ∷ ws) (suc i) x e = ap (λ (l : List ℕ). w ∷ l) (written-on os ws i x e)
-written-on (some y ∷ os) (w ∷ ws) (suc i) x e = ap (λ (l : List ℕ). y ∷ l) (written-on os ws i x e)
+pub withShown-on : (os : List (Option ℕ)) (ws : List ℕ) (i x : ℕ) → getD os i none ≡ some x → withShown (take (suc i) os) ws ≡ set (withShown (take i os) ws) i x
+withShown-on [] ws i x e = absurd (Option·none-ne-some x e)
+withShown-on (none ∷ os) ws zero x e = absurd (Option·none-ne-some x e)
+withShown-on (some y ∷ os) [] zero x e = refl
+withShown-on (some y ∷ os) (w ∷ ws) zero x e = ap (λ (z : ℕ). z ∷ ws) (Option·some-injective y x e)
+withShown-on (o ∷ os) [] (suc i) x e = refl
+withShown-on (none ∷ os) (w ∷ ws) (suc i) x e = ap (λ (l : List ℕ). w ∷ l) (withShown-on os ws i x e)
+withShown-on (some y ∷ os) (w ∷ ws) (suc i) x e = ap (λ (l : List ℕ). y ∷ l) (withShown-on os ws i x e)
 
 -- what the cells show
 module _ (l : List ℕ) (size : length l ≡ cellCount) (i : ℕ) where
@@ -78,9 +78,9 @@ shown-all l i h = take-all i (shown (stateOf noPosition l)) (simp (length-append
 
 -- one turn of the writing
 pub show-one : (os : List (Option ℕ)) (ws : List ℕ) (i x : ℕ) {b : Bool} → getD os i none ≡ cond b (some x) none → b ≡ true
-    → {w v : List ℕ} {y : ℕ} → w ≡ written (take i os) ws → y ≡ x → v ≡ set w i y → v ≡ written (take (i + 1) os) ws
-show-one os ws i x e f g h k = rw (add-one i, k, g, h) (sym (written-on os ws i x (rw f at e)))
+    → {w v : List ℕ} {y : ℕ} → w ≡ withShown (take i os) ws → y ≡ x → v ≡ set w i y → v ≡ withShown (take (i + 1) os) ws
+show-one os ws i x e f g h k = rw (add-one i, k, g, h) (sym (withShown-on os ws i x (rw f at e)))
 
 pub show-none : (os : List (Option ℕ)) (ws : List ℕ) (i x : ℕ) {b : Bool} → getD os i none ≡ cond b (some x) none → b ≡ false
-    → {w v : List ℕ} → w ≡ written (take i os) ws → v ≡ w → v ≡ written (take (i + 1) os) ws
-show-none os ws i x e f g k = rw (add-one i, k, g) (sym (written-past os ws i (rw f at e)))
+    → {w v : List ℕ} → w ≡ withShown (take i os) ws → v ≡ w → v ≡ withShown (take (i + 1) os) ws
+show-none os ws i x e f g k = rw (add-one i, k, g) (sym (withShown-past os ws i (rw f at e)))

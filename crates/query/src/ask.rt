@@ -45,7 +45,7 @@ fn shows(cells: &[u8; Path::CELLS], i: usize) -> bool
 // Writes the candidates and the positions put into the witness, its other words untouched.
 fn show(cells: &[u8; Path::CELLS], witness: &mut [u16])
     requires { ⌜ (length (now cells) ≡ cellCount) × (witnessWords ≤ length (now witness)) ⌝ }
-    ensures { λ _. ⌜ now (witness .exit) ≡ q.written (q.shown (stateOf noPosition (now (cells .entry)))) (now (witness .entry)) ⌝ }
+    ensures { λ _. ⌜ now (witness .exit) ≡ q.withShown (q.shown (stateOf noPosition (now (cells .entry)))) (now (witness .entry)) ⌝ }
 {
     let mut i: usize = 0;
     while i < Witness::WORDS {
@@ -99,7 +99,7 @@ fn search(tree: &[u64], words: &[u16], budget: u64, witness: &mut [u16]) -> Quer
 {
     let clause = Clause::of(words);
     let tables = clause.tables;
-    let mut cells = [255u8; Path::CELLS];
+    let mut cells = [Path::NONE as u8; Path::CELLS];
     cells[Path::CHOSEN] = 0;
     let header = Tree::header(tree[0]);
     let end = header.used + 1;

@@ -11,7 +11,7 @@ use Rattle.tree.specs.Entries.{Pair, entry}
 use Rattle.tree.specs.Beginnings.{beginnings, different}
 use Rattle.tree.specs.Refusal.{codeOf}
 use Rattle.walk.specs.Walk.{covered, upTo, walk}
-use Rattle.walk.specs.Query.{machine, witnessWords, shown, written}
+use Rattle.walk.specs.Query.{machine, witnessWords, shown, withShown}
 use Rattle.walk.specs.Covering.{Subsumed, Shows, candidates}
 use Rattle.book.specs.Book.{treeOf}
 use Rattle.record.specs.Answer.{budget, treeWords, Record}
@@ -61,7 +61,7 @@ pub record Strikes (K : List Pair) (x : Record) (n k : ℕ) : Type 0 where
   pub kept : List·Memᴰ striking K
   pub number : striking .number ≡ n
   pub subsumes : Subsumes (striking .clause) (x .words)
-  pub shows : Shows (striking .clause) (x .words) (written (shown state) (replicate witnessWords 0))
+  pub shows : Shows (striking .clause) (x .words) (withShown (shown state) (replicate witnessWords 0))
 
 -- why a record is refused, by the code
 pub data Reason (K : List Pair) (x : Record) : (code : ℕ) → Type 0 where

@@ -13,6 +13,7 @@ use borrow.Author.Tests.{lt-ltb, le-ltb, eq-eqb, ne-eqb}
 use Rattle.clause.specs.Word.{arity}
 use Rattle.clause.specs.Clause.{maxWords, maxLiterals, termAt}
 use Rattle.clause.specs.Positions.{jump, rights}
+use Rattle.clause.proofs.Apart.{apart}
 use Rattle.clause.proofs.Literals.{accepted}
 use Rattle.clause.proofs.Ends.{jump-from, jump-le, term-part}
 use Rattle.clause.proofs.Siblings.{right-inside}
@@ -20,7 +21,7 @@ use Rattle.machine.specs.Machine.{slots, State, Outcome, onto, down, right, nex
 use Rattle.machine.specs.Machine.{putting, pushing, require, within, sameTerms, compareTerms, stepAt, stepFrom, step, finish, finishFrom}
 use Rattle.machine.specs.Instr.{Step, Down, Right, Put, Push, Pop, Check, Compare, Instr, First, Do, Success, instruction}
 use Rattle.walk.specs.Words.{extends}
-use Rattle.cells.specs.inner.Cells.{putsAt, pushesAt, endsAt, rightsAt, cellCount, noPosition, countIn}
+use Rattle.cells.specs.inner.Cells.{putsAt, pushesAt, endsAt, rightsAt, cellCount, noPosition, markBase, countIn}
 use Rattle.cells.specs.inner.Cells.{positionIn, placed, stateOf, Tables, Walkable}
 use Rattle.stepping.specs.inner.Visits.{Met, past, bad, hit, firsts, stepped, reached, withWords, metAs, meeting, metOf, stores, plain, store, Visited}
 use Rattle.stepping.specs.declared.Go.{Go}
@@ -99,8 +100,9 @@ module _ (d t : List ℕ) (h : ℕ) (l : List ℕ) (R : Walkable d t h l) (insid
 
 -- Put and Push
 module _ (h : ℕ) (l : List ℕ) (few : countIn l ≤ maxLiterals) where
-  pub put-visit : (k : ℕ) → k < slots → h < maxWords → getD l (putsAt + k) 0 < 256
-      → Visited (stepped (within k (next (putting (stateOf h l) k h)))) l (set l (putsAt + k) h) (record { go = Stored; head = h; mark = (putsAt + k) * 256 + getD l (putsAt + k) 0 })
+  pub put-visit : (k : ℕ) → k < slots → h < maxWords → getD l (putsAt + k) 0 < markBase
+      → Visited (stepped (within k (next (putting (stateOf h l) k h)))) l (set l (putsAt + k) h)
+      (record { go = Stored; head = h; mark = (putsAt + k) * markBase + getD l (putsAt + k) 0 })
   unfolding metOf stepped require
   put-visit k g v b =
       record {
@@ -108,9 +110,9 @@ module _ (h : ℕ) (l : List ℕ) (few : countIn l ≤ maxLiterals) where
         marked = store (putsAt + k) h (omega arith) (omega arith) b;
       }
 
-  pub push-visit : (n x : ℕ) → n < slots → x < 256 → (x ≡ noPosition → ⊥) → getD l (pushesAt + n) 0 < 256
+  pub push-visit : (n x : ℕ) → n < slots → x < cellCount → (x ≡ noPosition → ⊥) → getD l (pushesAt + n) 0 < markBase
       → Visited (stepped (within n (given (positionIn x) (pushing (stateOf h l) n)))) l (set l (pushesAt + n) x)
-      (record { go = Stored; head = h; mark = (pushesAt + n) * 256 + getD l (pushesAt + n) 0 })
+      (record { go = Stored; head = h; mark = (pushesAt + n) * markBase + getD l (pushesAt + n) 0 })
   unfolding metOf stepped require given
   push-visit n x g v ne b =
       record {
@@ -243,16 +245,16 @@ rest-over (suc (suc (suc (suc (suc (suc (suc (suc (suc op))))))))) n0 n1 n2 n3 n
 -- First is the instruction of operation 1 alone
 first-op : (op x : ℕ) → instruction op x ≡ some First → op ≡ 1
 unfolding instruction
-first-op zero x e = let z : _≡_ {A = ℕ} 0 1 = cc in absurd (omega arith)
+first-op zero x e = apart cc
 first-op (suc zero) x e = refl
-first-op (suc (suc zero)) x e = let z : _≡_ {A = ℕ} 0 1 = cc in absurd (omega arith)
-first-op (suc (suc (suc zero))) x e = let z : _≡_ {A = ℕ} 0 1 = cc in absurd (omega arith)
-first-op (suc (suc (suc (suc zero)))) x e = let z : _≡_ {A = ℕ} 0 1 = cc in absurd (omega arith)
-first-op (suc (suc (suc (suc (suc zero))))) x e = let z : _≡_ {A = ℕ} 0 1 = cc in absurd (omega arith)
-first-op (suc (suc (suc (suc (suc (suc zero)))))) x e = let z : _≡_ {A = ℕ} 0 1 = cc in absurd (omega arith)
-first-op (suc (suc (suc (suc (suc (suc (suc zero))))))) x e = let z : _≡_ {A = ℕ} 0 1 = cc in absurd (omega arith)
-first-op (suc (suc (suc (suc (suc (suc (suc (suc zero)))))))) x e = let z : _≡_ {A = ℕ} 0 1 = cc in absurd (omega arith)
-first-op (suc (suc (suc (suc (suc (suc (suc (suc (suc op))))))))) x e = let z : _≡_ {A = ℕ} 0 1 = cc in absurd (omega arith)
+first-op (suc (suc zero)) x e = apart cc
+first-op (suc (suc (suc zero))) x e = apart cc
+first-op (suc (suc (suc (suc zero)))) x e = apart cc
+first-op (suc (suc (suc (suc (suc zero))))) x e = apart cc
+first-op (suc (suc (suc (suc (suc (suc zero)))))) x e = apart cc
+first-op (suc (suc (suc (suc (suc (suc (suc zero))))))) x e = apart cc
+first-op (suc (suc (suc (suc (suc (suc (suc (suc zero)))))))) x e = apart cc
+first-op (suc (suc (suc (suc (suc (suc (suc (suc (suc op))))))))) x e = apart cc
 
 -- any instruction but First before a candidate
 pub early : (d : List ℕ) (op x : ℕ) (s : State) → s .head ≡ none → (op ≡ 1 → ⊥) → metAs d (instruction op x) s ≡ bad

@@ -4,6 +4,7 @@ use crate::Visit;
 use cells::Path;
 use cells::wide;
 use clause::Clause;
+use machine::Key;
 use tree::extent;
 ghost use mathlib.Core.Path.{_≡_};
 ghost use mathlib.Core.List.{List};
@@ -15,10 +16,35 @@ ghost use Rattle.machine.specs.Instr.{instruction};
 ghost use Rattle.machine.specs.Machine.{sameTerms};
 ghost use Rattle.machine.specs.Machine as m;
 ghost use Rattle.stepping.specs.declared.Go.the-variants.{Stuck, Tries, Stored};
-ghost use Rattle.cells.specs.inner.Cells.{countAt, cellCount, noPosition, countIn, positionIn, stateOf, Tables, Walkable};
-ghost use Rattle.stepping.specs.inner.Visits.{Visited};
+ghost use Rattle.cells.specs.inner.Cells.{countAt, cellCount, noPosition, markBase, countIn, positionIn, stateOf, Tables, Walkable};
 ghost use Rattle.stepping.specs.inner.Visits.{metSuccess, metFirst, metDown, metRight, metMoved, metPut, metPush, metPop, metCheck, metCompare};
-ghost use Rattle.stepping.specs.inner.Visits.{withWords, metAs, meeting};
+ghost use Rattle.stepping.specs.inner.Visits.{withWords, metAs, meeting, Visited};
+
+// The operations by number: what their keys have above the operand.
+struct Op {}
+
+impl Op {
+    const SUCCESS: u64 = 0;
+
+    const FIRST: u64 = Key::FIRST / Key::OPERANDS;
+
+    const DOWN: u64 = Key::DOWN / Key::OPERANDS;
+
+    const RIGHT: u64 = Key::RIGHT / Key::OPERANDS;
+
+    const PUT: u64 = Key::PUT / Key::OPERANDS;
+
+    const PUSH: u64 = Key::PUSH / Key::OPERANDS;
+
+    const POP: u64 = Key::POP / Key::OPERANDS;
+
+    const CHECK: u64 = Key::CHECK / Key::OPERANDS;
+
+    const COMPARE: u64 = Key::COMPARE / Key::OPERANDS;
+
+    // The operand of Compare m k is m × this + k.
+    const PAIR: u32 = Key::PAIR as u32;
+}
 
 // The operation of a word.
 fn operation(w: u64) -> u64
@@ -39,7 +65,8 @@ fn down(query: &[u16], head: usize) -> Visit
     requires { ⌜ (head < length (now query)) × (length (now query) ≤ maxWords) ⌝ }
     ensures { λ r. ⌜ ((l : List ℕ) → Visited (metDown (now (query .entry)) head l) l l r) ⌝ }
 {
-    if query[head] / 2048 % 8 == 0 {
+    // The arity: three bits above the eleven of the number. By clause::arity it takes an instruction more.
+    if query[head] / 0x800 % 8 == 0 {
         Visit::STUCK
     } else {
         let to = head + 1;
@@ -59,7 +86,7 @@ fn right(
     head: usize,
 ) -> usize
     requires { ⌜ Walkable (now query) (now tables) head (now cells) × (head < length (now query)) ⌝ }
-    ensures { λ r. ⌜ (positionIn r ≡ m.right (now (query .entry)) head) × (r < 256) ⌝ }
+    ensures { λ r. ⌜ (positionIn r ≡ m.right (now (query .entry)) head) × (r < cellCount) ⌝ }
 {
     let siblings = Clause::SIBLINGS + head;
     let end = Clause::ENDS + head;
@@ -110,16 +137,16 @@ fn moved(head: usize, to: usize) -> Visit
 
 // Stores a position in a cell.
 fn store(cells: &mut [u8; Path::CELLS], head: usize, slot: usize, position: usize) -> Visit
-    requires { ⌜ (slot < countAt) × (position < 256) ⌝ }
-    ensures { λ r. ⌜ (r ≡ record { go = Stored; head = head; mark = slot * 256 + getD (now (cells .entry)) slot 0 })
-        × (now (cells .exit) ≡ set (now (cells .entry)) slot position) × (getD (now (cells .entry)) slot 0 < 256) ⌝ }
+    requires { ⌜ (slot < countAt) × (position < cellCount) ⌝ }
+    ensures { λ r. ⌜ (r ≡ record { go = Stored; head = head; mark = slot * markBase + getD (now (cells .entry)) slot 0 })
+        × (now (cells .exit) ≡ set (now (cells .entry)) slot position) × (getD (now (cells .entry)) slot 0 < markBase) ⌝ }
 {
     let old = wide(cells[slot]);
     cells[slot] = position as u8;
     Visit {
         go: Go::Stored,
         head: head,
-        mark: (slot * 0x100 + old) as u64,
+        mark: (slot * Path::CELLS + old) as u64,
     }
 }
 
@@ -137,7 +164,7 @@ fn put(cells: &mut [u8; Path::CELLS], head: usize, k: u32) -> Visit
 
 // Push n stores the position to the right.
 fn push(cells: &mut [u8; Path::CELLS], head: usize, n: u32, to: usize) -> Visit
-    requires { ⌜ (countIn (now cells) ≤ maxLiterals) × (to < 256) ⌝ }
+    requires { ⌜ (countIn (now cells) ≤ maxLiterals) × (to < cellCount) ⌝ }
     ensures { λ r. ⌜ Visited (metPush n to head (now (cells .entry))) (now (cells .entry)) (now (cells .exit)) r ⌝ }
 {
     if n as usize >= Path::SLOTS {
@@ -241,8 +268,8 @@ fn compare(
     ensures { λ r. ⌜ Visited (metCompare (now (query .entry)) (x / 2 ^ 16) (x % 2 ^ 16) head (now (cells .entry)))
         (now (cells .entry)) (now (cells .entry)) r ⌝ }
 {
-    let m = (x / 0x1_0000) as usize;
-    let k = (x % 0x1_0000) as usize;
+    let m = (x / Op::PAIR) as usize;
+    let k = (x % Op::PAIR) as usize;
     if m >= Path::SLOTS {
         return Visit::STUCK;
     }
@@ -285,18 +312,18 @@ fn act(
         (now (cells .entry)) (now (cells .exit)) r ⌝ }
 {
     match op {
-        0 => success(words, head),
-        1 => tries(cells, head),
-        2 => down(query, head),
-        3 => sibling(query, tables, cells, head),
-        4 => put(cells, head, x),
-        5 => {
+        Op::SUCCESS => success(words, head),
+        Op::FIRST => tries(cells, head),
+        Op::DOWN => down(query, head),
+        Op::RIGHT => sibling(query, tables, cells, head),
+        Op::PUT => put(cells, head, x),
+        Op::PUSH => {
             let to = right(query, tables, cells, head);
             push(cells, head, x, to)
         }
-        6 => pop(cells, head, x),
-        7 => check(query, head, x),
-        8 => compare(query, tables, cells, head, x),
+        Op::POP => pop(cells, head, x),
+        Op::CHECK => check(query, head, x),
+        Op::COMPARE => compare(query, tables, cells, head, x),
         _ => Visit::STUCK,
     }
 }
@@ -342,7 +369,7 @@ pub fn meet_top(
     if words > room {
         return Visit::STUCK;
     }
-    if operation(w) != 1 {
+    if operation(w) != Op::FIRST {
         return Visit::STUCK;
     }
     tries(cells, Path::NONE)

@@ -7,6 +7,7 @@ use mathlib.Core.List.{List, _∷_}
 use Prim.Native.Nat.{ℕ, zero, suc, _+_, _*_, _^_, _≤_, _<_, suc-le-suc}
 use native.Mathlib.Nat.{mul-add, add-mul, mul-suc, mul-left-comm, mul-le-mul, mul-le-mul-left, pow-succ', pow-zero, pow-le-pow-left}
 use native.Mathlib.Omega.{arith}
+use Rattle.clause.proofs.Apart.{apart}
 use Rattle.machine.specs.Instr.{Instr, First, Do, Success, instrOf}
 use Rattle.tree.specs.Keys.{nextKey}
 use Rattle.tree.specs.Forest.{Forest, empty, node, leaf?, leaves, Formed}
@@ -79,7 +80,7 @@ shallow (node i B R) m f h =
 leaves-pos : (b : ℕ) (F : Forest) → Formed b F → F ≢ empty → 0 < leaves F
 leaves-pos b empty f h = absurd (h refl)
 leaves-pos b (node i empty R) f h = omega (arith, leaf-number i (f .shape))
-leaves-pos b (node i (node j C S) R) f h = omega (arith, leaves-pos 0 (node j C S) (f .below) (λ e. let z : _≡_ {A = ℕ} 0 1 = cc in omega arith))
+leaves-pos b (node i (node j C S) R) f h = omega (arith, leaves-pos 0 (node j C S) (f .below) (λ e. apart cc))
 
 -- a part of the walk that counts at most x
 abbrev Adds : {S : Type 0} → ℕ → Part S → Type 0
@@ -100,7 +101,9 @@ module _ (M : Machine) (allow : ℕ → Bool) where
   adds-tries x below h s zero j c = of-notCovered {c = c} (omega arith)
   adds-tries x below h s (suc n) j c =
       counts-map (λ d l. omega arith)
-      (adds-then (suc x) (n * suc x) c (counts-attempt allow below c (M .enter j s) (omega arith) (λ t e. counts-map (λ d l. omega arith) (h t (suc c)))) (adds-tries x below h s n (suc j)))
+      (adds-then (suc x) (n * suc x) c
+      (counts-attempt allow below c (M .enter j s) (omega arith) (λ t e. counts-map (λ d l. omega arith) (h t (suc c))))
+      (adds-tries x below h s n (suc j)))
 
   -- a node
   adds-visit :
@@ -124,7 +127,9 @@ module _ (M : Machine) (allow : ℕ → Bool) where
   adds-walk (node i B R) m b g f h s c =
       let p : ℕ = powers (M .queryLiterals) m in
       counts-map (λ e u. omega (arith, add-mul (leaf? i) (leaves B + leaves R) p, add-mul (leaves B) (leaves R) p))
-      (adds-then (leaves B * p) (leaves R * p) c (adds-visit (instrOf i) B m (g .below) (f .0) (h .0) (λ m′. adds-walk B m′ 0 (g .below)) s c) (adds-walk R m (nextKey i) (g .rest) (f .1) (h .1) s))
+      (adds-then (leaves B * p) (leaves R * p) c
+      (adds-visit (instrOf i) B m (g .below) (f .0) (h .0) (λ m′. adds-walk B m′ 0 (g .below)) s c)
+      (adds-walk R m (nextKey i) (g .rest) (f .1) (h .1) s))
 
   -- the count is at most the ceiling
   pub count-bound :

@@ -13,8 +13,9 @@ use Rattle.tree.specs.Forest.{Forest, size, leaves, layout, Formed}
 use Rattle.tree.specs.Entries.{Mirrors, Pair, Sound, entry}
 use Rattle.walk.specs.Walk.{Answer, covered, notCovered, upTo, always, walk}
 use Rattle.walk.specs.Ceiling.{ceiling}
-use Rattle.walk.specs.Query.{machine, witnessWords, shown, written, unanswered, told, query}
+use Rattle.walk.specs.Query.{machine, witnessWords, shown, withShown, unanswered, told, query}
 use Rattle.walk.specs.Covering.{most, Subsumed, Shows, countOf, candidates, IsSpent, Answers}
+use Rattle.clause.proofs.Apart.{apart}
 use Rattle.clause.proofs.Lists.{mem-index, index-mem}
 use Rattle.tree.proofs.Words.{length-layout, header-layout, region-layout}
 use Rattle.walk.proofs.Paths.{Finds}
@@ -30,14 +31,14 @@ use Rattle.walk.proofs.Kept.{kept-steady, kept-short, finds-shows, subs
 use Rattle.tree.specs.declared.Refusal.the-variants.{Spent}
 use Rattle.walk.specs.declared.QueryAnswer.the-variants.{Covered, NotCovered}
 
--- two answers that are apart
-apart : {A : Type 0} → _≡_ {A = ℕ} 0 1 → A
-apart z = absurd (omega arith)
-
 -- what a witness shows is so
 pub shows-subsumes : (c d W : List ℕ) → Shows c d W → Subsumes c d
 shows-subsumes c d W S =
-    record { replace = S .replace; terms = S .terms; covered = λ l m. let (i, h, e) = mem-index [] m in let (j, f) = S .literal i h in rw (e, f) (index-mem (literals d) (getD W i 0) [] j) }
+    record {
+      replace = S .replace;
+      terms = S .terms;
+      covered = λ l m. let (i, h, e) = mem-index [] m in let (j, f) = S .literal i h in rw (e, f) (index-mem (literals d) (getD W i 0) [] j);
+    }
 
 -- the ceiling bounds the count, where there is one
 counted-le : {x : ℕ} {a : Answer State} → Counts (λ c. c ≤ x) a → countOf a ≤ x
@@ -47,7 +48,8 @@ counted-le of-spent = omega arith
 counted-le of-broken = omega arith
 
 -- the query of an accepted clause on the slice of a tree is the walk over the tree
-module _ (len : ℕ) (F : Forest) (low : 2 ≤ len) (high : len ≤ 65_536) (room : size F < len) (d : List ℕ) (D : Accepted d) (b : ℕ) (W : List ℕ) (long : witnessWords ≤ length W) where
+module _ (len : ℕ) (F : Forest) (low : 2 ≤ len) (high : len ≤ 65_536) (room : size F < len)
+    (d : List ℕ) (D : Accepted d) (b : ℕ) (W : List ℕ) (long : witnessWords ≤ length W) where
   pub query-tree : (f : Formed 0 F) → query (layout len F) d b W ≡ told b W (walk (machine d) (upTo b) F initial 0)
   unfolding query
   query-tree f =
@@ -81,10 +83,10 @@ module _ (K : List Pair) (F : Forest) (S : All Sound K) (R : Mirrors F (map entr
         let is : IsSpent T d b W = ap (λ x. x .answer) u in
         record {
           kinds = inr (inr is);
-          covers = λ n′ c′ v. apart (cc);
-          spares = λ c′ v. apart (cc);
-          counts = λ n′ c′ v. apart (cc);
-          counts-not = λ c′ v. apart (cc);
+          covers = λ n′ c′ v. apart cc;
+          spares = λ c′ v. apart cc;
+          counts = λ n′ c′ v. apart cc;
+          counts-not = λ c′ v. apart cc;
           spends = (λ v. h, λ l. is);
           untouched = λ v. ap (λ x. x .witness) u;
           decides = λ l. absurd (omega arith);
@@ -97,19 +99,19 @@ module _ (K : List Pair) (F : Forest) (S : All Sound K) (R : Mirrors F (map entr
         → query T d b W ≡ told b W a′ → Answers K F T d b W
     answers-from (covered n t c) a′ e (found g) (as-covered h) u =
         let is : query T d b W .answer ≡ Covered n c = ap (λ x. x .answer) u in
-        let words : query T d b W .witness ≡ written (shown t) W = ap (λ x. x .witness) u in
+        let words : query T d b W .witness ≡ withShown (shown t) W = ap (λ x. x .witness) u in
         let all : candidates F d ≡ c = ap countOf e in
         let (p, m, at, S′, spared) = finds-shows K F S R d D n t g W long in
         record {
           kinds = inl (n, c, is);
           covers = λ n′ c′ v. let same : n ≡ n′ = cc in (p, m, at ∙ same, rw words S′, rw words spared);
-          spares = λ c′ v. apart (cc);
+          spares = λ c′ v. apart cc;
           counts = λ n′ c′ v. let same : c ≡ c′ = cc in sym same ∙ sym all;
-          counts-not = λ c′ v. apart (cc);
-          spends = (λ v. apart (cc), λ l. absurd (omega arith));
-          untouched = λ v. apart (cc);
-          decides = λ l. (λ v. (p, m, shows-subsumes (p .clause) d (written (shown t) W) S′), λ v. (n, c, is));
-          denies = λ l. (λ v. let f = v .1 in apart (cc), λ none. absurd (none (p, m, shows-subsumes (p .clause) d (written (shown t) W) S′)));
+          counts-not = λ c′ v. apart cc;
+          spends = (λ v. apart cc, λ l. absurd (omega arith));
+          untouched = λ v. apart cc;
+          decides = λ l. (λ v. (p, m, shows-subsumes (p .clause) d (withShown (shown t) W) S′), λ v. (n, c, is));
+          denies = λ l. (λ v. let f = v .1 in apart cc, λ none. absurd (none (p, m, shows-subsumes (p .clause) d (withShown (shown t) W) S′)));
           bounded = kept-bounded;
         }
     answers-from (covered n t c) a′ e (found g) (over (of-covered h)) u =
@@ -122,13 +124,13 @@ module _ (K : List Pair) (F : Forest) (S : All Sound K) (R : Mirrors F (map entr
         let none : Subsumed K d → ⊥ = λ v. let (t, f) = subsumes-finds K F S R d D (v .0) (v .1) (v .2) in g (v .0 .number) t f in
         record {
           kinds = inr (inl (c, is));
-          covers = λ n′ c′ v. apart (cc);
+          covers = λ n′ c′ v. apart cc;
           spares = λ c′ v. (none, words);
-          counts = λ n′ c′ v. apart (cc);
+          counts = λ n′ c′ v. apart cc;
           counts-not = λ c′ v. let same : c ≡ c′ = cc in sym same ∙ sym all;
-          spends = (λ v. apart (cc), λ l. absurd (omega arith));
-          untouched = λ v. apart (cc);
-          decides = λ l. (λ v. let f = v .2 in apart (cc), λ v. absurd (none v));
+          spends = (λ v. apart cc, λ l. absurd (omega arith));
+          untouched = λ v. apart cc;
+          decides = λ l. (λ v. let f = v .2 in apart cc, λ v. absurd (none v));
           denies = λ l. (λ v. none, λ v. (c, is));
           bounded = kept-bounded;
         }
@@ -139,5 +141,6 @@ module _ (K : List Pair) (F : Forest) (S : All Sound K) (R : Mirrors F (map entr
   -- the queries of a tree that keeps some clauses
   pub answers : (len : ℕ) → 2 ≤ len → len ≤ 65_536 → size F < len → (b : ℕ) (W : List ℕ) → witnessWords ≤ length W → Answers K F (layout len F) d b W
   answers len low high room b W long =
-      answers-from b W long (layout len F) (walk (machine d) always F initial 0) (walk (machine d) (upTo b) F initial 0) refl walk-decides (capped (machine d) b F initial 0 (omega arith))
+      answers-from b W long (layout len F) (walk (machine d) always F initial 0) (walk (machine d) (upTo b) F initial 0) refl walk-decides
+      (capped (machine d) b F initial 0 (omega arith))
       (query-tree len F low high room d D b W long (R .formed))

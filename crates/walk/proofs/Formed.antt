@@ -1,11 +1,12 @@
 -- The walk's view of a well-formed forest.
-use mathlib.Core.Path.{_≡_, refl}
+use mathlib.Core.Path.{refl}
 use mathlib.Core.Logic.{_≢_, inl, inr}
 use mathlib.Core.Option.{Option, none, some}
 use mathlib.Core.List.{List, _∷_}
 use Prim.Native.Nat.{ℕ, zero, suc, _*_, _/_, _%_, _^_, _≤_, _<_}
 use native.Mathlib.Omega.{arith}
 use lib.Dec.{T}
+use Rattle.clause.proofs.Apart.{apart}
 use Rattle.machine.specs.Instr.{Instr, First, Do, Success, instruction, instrOf}
 use Rattle.tree.specs.Keys.{inner, lawful, nextKey}
 use Rattle.tree.specs.Forest.{Forest, empty, node, Formed, Has, leaf, deeper, further}
@@ -41,7 +42,7 @@ inside i h t =
     inside-op (i / 2 ^ 32) (i % 2 ^ 32) (omega arith) (omega arith)
 
 node≢empty : (i : ℕ) (B R : Forest) → node i B R ≢ empty
-node≢empty i B R e = let z : _≡_ {A = ℕ} 0 1 = cc in omega arith
+node≢empty i B R e = apart cc
 
 full-inside : (o : Option Instr) (i : ℕ) (B R : Forest) → Inside o → Full (node i B R) → FullAt o (node i B R) (Full (node i B R))
 full-inside none i B R h f = h

@@ -15,7 +15,7 @@ use Rattle.machine.specs.Machine.{State, initial, next, stuck, run as runCode}
 use Rattle.machine.specs.Matching.{Choice, Matched}
 use Rattle.tree.specs.Forest.{Forest}
 use Rattle.tree.specs.Entries.{Listed, Mirrors, Pair, Sound, entry}
-use Rattle.walk.specs.Query.{machine, witnessWords, shown, written}
+use Rattle.walk.specs.Query.{machine, witnessWords, shown, withShown}
 use Rattle.walk.specs.Covering.{most, Shows, Untouched}
 use Rattle.clause.proofs.Lists.{all-append, all-take, all-replicate, all-mem, all-get, getD-map-lt}
 use Rattle.clause.proofs.Literals.{Clause, accepted, some-literal}
@@ -30,7 +30,7 @@ use Rattle.machine.proofs.Replace.{length-vars}
 use Rattle.walk.proofs.Paths.{Leads, firsts, run, Candidates, Finds, NeverStuck}
 use Rattle.walk.proofs.Formed.{leads-has, has-leads}
 use Rattle.walk.proofs.Runs.{run-keys, firsts-keys}
-use Rattle.walk.proofs.Witnessed.{written-there, written-elsewhere, length-written, shown-literal, shown-none, shown-position}
+use Rattle.walk.proofs.Witnessed.{withShown-there, withShown-elsewhere, length-withShown, shown-literal, shown-none, shown-position}
 use Rattle.clause.specs.Word.{Words}
 
 -- ---- one clause against a query
@@ -80,7 +80,7 @@ module _ (c d : List ℕ) (C : Clause c) (D : Clause d) (w : Words c) where
 
   -- a run to the end is shown by the witness
   pub sequence-shows : (js : List ℕ) (t : State) (W : List ℕ) → Candidates (machine d) js → run (machine d) (keys c) js initial ≡ next t
-      → witnessWords ≤ length W → Shows c d (written (shown t) W) × Untouched c W (written (shown t) W)
+      → witnessWords ≤ length W → Shows c d (withShown (shown t) W) × Untouched c W (withShown (shown t) W)
   unfolding cut
   sequence-shows js t W valid e long = go (cut js) (result js enough valid) (choice js enough valid)
     where
@@ -91,11 +91,11 @@ module _ (c d : List ℕ) (C : Clause c) (D : Clause d) (w : Words c) where
       enough = run-enough d (sequence c) js initial t ran
 
       go : (js′ : List ℕ) → Result c d js′ (runCode d (sequence c) js initial) → Choice c d js′
-          → Shows c d (written (shown t) W) × Untouched c W (written (shown t) W)
+          → Shows c d (withShown (shown t) W) × Untouched c W (withShown (shown t) W)
       go js′ (misses n f) H = absurd (fails≢next (sym f ∙ ran))
       go js′ (covers M ps a s f q p) H = (
         record { replace = M .replace; terms = M .terms; literal = at-literal; position = at-position },
-        record { long = length-written (shown t) W; literal = spare-literal; position = spare-position },
+        record { long = length-withShown (shown t) W; literal = spare-literal; position = spare-position },
       )
         where
           same : s ≡ t
@@ -107,30 +107,34 @@ module _ (c d : List ℕ) (C : Clause c) (D : Clause d) (w : Words c) where
           count : length (vars c) ≡ length ps
           count = agree-length a
 
-          spare-literal : (i : ℕ) → length (literals c) ≤ i → i < maxLiterals → getD (written (shown t) W) i 0 ≡ getD W i 0
-          spare-literal i h g = written-elsewhere (shown t) W i (shown-none t i (rw (← same, q, ← H .each) h) g)
+          spare-literal : (i : ℕ) → length (literals c) ≤ i → i < maxLiterals → getD (withShown (shown t) W) i 0 ≡ getD W i 0
+          spare-literal i h g = withShown-elsewhere (shown t) W i (shown-none t i (rw (← same, q, ← H .each) h) g)
 
-          spare-position : (k : ℕ) → length (vars c) ≤ k → getD (written (shown t) W) (maxLiterals + k) 0 ≡ getD W (maxLiterals + k) 0
+          spare-position : (k : ℕ) → length (vars c) ≤ k → getD (withShown (shown t) W) (maxLiterals + k) 0 ≡ getD W (maxLiterals + k) 0
           spare-position k h =
               let put : getD (t .puts) k none ≡ none = rw (← same, p) (filled-none ps k (omega (arith, count, length-vars c, C .fits)) (omega (arith, count))) in
-              written-elsewhere (shown t) W (maxLiterals + k) (shown-position t k ∙ put)
+              withShown-elsewhere (shown t) W (maxLiterals + k) (shown-position t k ∙ put)
 
           at-literal : (i : ℕ) → i < length (literals c)
-              → (getD (written (shown t) W) i 0 < length (literals d)) × (inst (M .replace) (getD (literals c) i []) ≡ getD (literals d) (getD (written (shown t) W) i 0) [])
+              → (getD (withShown (shown t) W) i 0 < length (literals d)) × (inst (M .replace) (getD (literals c) i []) ≡ getD (literals d) (getD (withShown (shown t) W) i 0) [])
           at-literal i h =
               let i′ : i < length js′ = omega (arith, H .each) in
               let there : i < length (t .chosen) = rw (← same, q) i′ in
-              let word : getD (written (shown t) W) i 0 ≡ getD js′ i 0 =
-              written-there (shown t) W i (getD js′ i 0) (omega arith) (shown-literal t i few there ∙ rw (← same, q)) in
-              rw word (all-get js′ (H .valid) i 0 i′, sym (getD-map-lt (inst (M .replace)) (literals c) i [] [] h) ∙ ap (λ l. getD l i []) (M .made) ∙ getD-map-lt (chosen d) js′ i 0 [] i′)
+              let word : getD (withShown (shown t) W) i 0 ≡ getD js′ i 0 =
+              withShown-there (shown t) W i (getD js′ i 0) (omega arith) (shown-literal t i few there ∙ rw (← same, q)) in
+              rw word (
+                all-get js′ (H .valid) i 0 i′,
+                sym (getD-map-lt (inst (M .replace)) (literals c) i [] [] h) ∙ ap (λ l. getD l i []) (M .made)
+                    ∙ getD-map-lt (chosen d) js′ i 0 [] i′,
+              )
 
           at-position : (k : ℕ) → k < length (vars c)
-              → (getD (written (shown t) W) (maxLiterals + k) 0 < length d) × (M .replace (getD (vars c) k 0) ≡ termAt d (getD (written (shown t) W) (maxLiterals + k) 0))
+              → (getD (withShown (shown t) W) (maxLiterals + k) 0 < length d) × (M .replace (getD (vars c) k 0) ≡ termAt d (getD (withShown (shown t) W) (maxLiterals + k) 0))
           at-position k h =
               let agreed : M .replace (getD (vars c) k 0) ≡ termAt d (getD ps k 0) = agree-get a k h in
               let put : getD (t .puts) k none ≡ some (getD ps k 0) = rw (← same, p) (filled-get ps k (omega (arith, count, length-vars c, C .fits)) (omega (arith, count))) in
-              let word : getD (written (shown t) W) (maxLiterals + k) 0 ≡ getD ps k 0 =
-              written-there (shown t) W (maxLiterals + k) (getD ps k 0) (omega (arith, length-vars c, C .fits)) (shown-position t k ∙ put) in
+              let word : getD (withShown (shown t) W) (maxLiterals + k) 0 ≡ getD ps k 0 =
+              withShown-there (shown t) W (maxLiterals + k) (getD ps k 0) (omega (arith, length-vars c, C .fits)) (shown-position t k ∙ put) in
               rw word (term-inside d (getD ps k 0) (rw agreed at (M .terms (getD (vars c) k 0) .0)), agreed)
 
 -- ---- the clauses that are kept
@@ -171,7 +175,7 @@ module _ (K : List Pair) (F : Forest) (S : All Sound K) (R : Mirrors F (map entr
 
   -- what the walk finds is shown
   pub finds-shows : (n : ℕ) (t : State) → Finds (machine d) F initial n t → (W : List ℕ) → witnessWords ≤ length W
-      → (p : Pair) × List·Memᴰ p K × (p .number ≡ n) × Shows (p .clause) d (written (shown t) W) × Untouched (p .clause) W (written (shown t) W)
+      → (p : Pair) × List·Memᴰ p K × (p .number ≡ n) × Shows (p .clause) d (withShown (shown t) W) × Untouched (p .clause) W (withShown (shown t) W)
   finds-shows n t (q, js, l, J, e) W h =
       let (p, m, is, at) = path-pair q n l in
       let s = all-mem S m in

@@ -85,7 +85,10 @@ module _ (M : Machine) where
         → Decides (Among n j G s) (tries M always below s n j c)
     decides-tries zero j c h = nothing (λ m t g. omega arith)
     decides-tries (suc n) j c h =
-        decides-map into back (decides-or (decides-attempt G below (M .enter j s) c (h j (omega arith) (omega arith))) (λ c′. decides-tries n (suc j) c′ (λ k l u. h k (omega arith) (omega arith))))
+        decides-map into back
+        (decides-or
+        (decides-attempt G below (M .enter j s) c (h j (omega arith) (omega arith)))
+        (λ c′. decides-tries n (suc j) c′ (λ k l u. h k (omega arith) (omega arith))))
       where
         into : (m : ℕ) (t : M .State) → Behind (M .enter j s) G m t ⊎ Among n (suc j) G s m t → Among (suc n) j G s m t
         into m t (inl g) = (j, omega arith, omega arith, g)

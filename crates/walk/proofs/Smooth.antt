@@ -44,7 +44,9 @@ module _ (M : Machine) where
   smooth-at (some (Success m)) i B e ih s f h = goes-of (M .finish s) (h [] m [] (refl, refl) all-none) (λ t u. tt)
   smooth-at (some First) i B e ih s (some-below, full) h = λ j u.
       let (p, n, l) = some-path B some-below full in
-      goes-of (M .enter j s) (λ t. h (i ∷ p) n (j ∷ []) (p, refl, l) (also u all-none) (rw (e, t))) (λ s₁ t. ih s₁ full (λ p′ n′ js l′ cs r. h (i ∷ p′) n′ (j ∷ js) (p′, refl, l′) (also u cs) (rw (e, t) r)))
+      goes-of (M .enter j s)
+      (λ t. h (i ∷ p) n (j ∷ []) (p, refl, l) (also u all-none) (rw (e, t)))
+      (λ s₁ t. ih s₁ full (λ p′ n′ js l′ cs r. h (i ∷ p′) n′ (j ∷ js) (p′, refl, l′) (also u cs) (rw (e, t) r)))
   smooth-at (some (Do x)) i B e ih s (some-below, full) h =
       let (p, n, l) = some-path B some-below full in
       goes-of (M .step x s) (λ t. h (i ∷ p) n [] (p, refl, l) all-none (rw (e, t))) (λ s₁ t. ih s₁ full (λ p′ n′ js l′ cs r. h (i ∷ p′) n′ js (p′, refl, l′) cs (rw (e, t) r)))

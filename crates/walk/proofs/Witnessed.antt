@@ -8,30 +8,30 @@ use lib.ListN.{length, getD, take, replicate, length-append, length-map, length-
 use lib.Seq.{length-take-le, getD-append-add, getD-take}
 use Rattle.clause.specs.Clause.{maxLiterals}
 use Rattle.machine.specs.Machine.{State}
-use Rattle.walk.specs.Query.{shown, written}
+use Rattle.walk.specs.Query.{shown, withShown}
 use Rattle.clause.proofs.Lists.{getD-map-lt}
 
-pub written-there : (os : List (Option ℕ)) (ws : List ℕ) (i x : ℕ) → i < length ws → getD os i none ≡ some x → getD (written os ws) i 0 ≡ x
-written-there [] ws i x h e = absurd (Option·none-ne-some x e)
-written-there (o ∷ os) [] i x h e = absurd (omega arith)
-written-there (none ∷ os) (w ∷ ws) zero x h e = absurd (Option·none-ne-some x e)
-written-there (none ∷ os) (w ∷ ws) (suc i) x h e = written-there os ws i x (omega arith) e
-written-there (some y ∷ os) (w ∷ ws) zero x h e = Option·some-injective y x e
-written-there (some y ∷ os) (w ∷ ws) (suc i) x h e = written-there os ws i x (omega arith) e
+pub withShown-there : (os : List (Option ℕ)) (ws : List ℕ) (i x : ℕ) → i < length ws → getD os i none ≡ some x → getD (withShown os ws) i 0 ≡ x
+withShown-there [] ws i x h e = absurd (Option·none-ne-some x e)
+withShown-there (o ∷ os) [] i x h e = absurd (omega arith)
+withShown-there (none ∷ os) (w ∷ ws) zero x h e = absurd (Option·none-ne-some x e)
+withShown-there (none ∷ os) (w ∷ ws) (suc i) x h e = withShown-there os ws i x (omega arith) e
+withShown-there (some y ∷ os) (w ∷ ws) zero x h e = Option·some-injective y x e
+withShown-there (some y ∷ os) (w ∷ ws) (suc i) x h e = withShown-there os ws i x (omega arith) e
 
-pub written-elsewhere : (os : List (Option ℕ)) (ws : List ℕ) (i : ℕ) → getD os i none ≡ none → getD (written os ws) i 0 ≡ getD ws i 0
-written-elsewhere [] ws i e = refl
-written-elsewhere (o ∷ os) [] i e = refl
-written-elsewhere (none ∷ os) (w ∷ ws) zero e = refl
-written-elsewhere (none ∷ os) (w ∷ ws) (suc i) e = written-elsewhere os ws i e
-written-elsewhere (some y ∷ os) (w ∷ ws) zero e = absurd (Option·none-ne-some y (sym e))
-written-elsewhere (some y ∷ os) (w ∷ ws) (suc i) e = written-elsewhere os ws i e
+pub withShown-elsewhere : (os : List (Option ℕ)) (ws : List ℕ) (i : ℕ) → getD os i none ≡ none → getD (withShown os ws) i 0 ≡ getD ws i 0
+withShown-elsewhere [] ws i e = refl
+withShown-elsewhere (o ∷ os) [] i e = refl
+withShown-elsewhere (none ∷ os) (w ∷ ws) zero e = refl
+withShown-elsewhere (none ∷ os) (w ∷ ws) (suc i) e = withShown-elsewhere os ws i e
+withShown-elsewhere (some y ∷ os) (w ∷ ws) zero e = absurd (Option·none-ne-some y (sym e))
+withShown-elsewhere (some y ∷ os) (w ∷ ws) (suc i) e = withShown-elsewhere os ws i e
 
-pub length-written : (os : List (Option ℕ)) (ws : List ℕ) → length (written os ws) ≡ length ws
-length-written [] ws = refl
-length-written (o ∷ os) [] = refl
-length-written (none ∷ os) (w ∷ ws) = rw (length-written os ws)
-length-written (some y ∷ os) (w ∷ ws) = rw (length-written os ws)
+pub length-withShown : (os : List (Option ℕ)) (ws : List ℕ) → length (withShown os ws) ≡ length ws
+length-withShown [] ws = refl
+length-withShown (o ∷ os) [] = refl
+length-withShown (none ∷ os) (w ∷ ws) = rw (length-withShown os ws)
+length-withShown (some y ∷ os) (w ∷ ws) = rw (length-withShown os ws)
 
 module _ (s : State) where
   abbrev front : List (Option ℕ)

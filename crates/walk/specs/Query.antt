@@ -29,12 +29,12 @@ witnessWords = maxLiterals + slots
 unfoldable pub shown : State → List (Option ℕ)
 shown s = take maxLiterals (map some (s .chosen) ++ replicate maxLiterals none) ++ s .puts
 
--- the words with some of them written, the others untouched
-abbrev pub written : List (Option ℕ) → List ℕ → List ℕ
-written [] ws = ws
-written (o ∷ os) [] = []
-written (none ∷ os) (w ∷ ws) = w ∷ written os ws
-written (some x ∷ os) (w ∷ ws) = x ∷ written os ws
+-- a witness with the words shown in it, its others untouched
+abbrev pub withShown : List (Option ℕ) → List ℕ → List ℕ
+withShown [] ws = ws
+withShown (o ∷ os) [] = []
+withShown (none ∷ os) (w ∷ ws) = w ∷ withShown os ws
+withShown (some x ∷ os) (w ∷ ws) = x ∷ withShown os ws
 
 -- the answer, and the witness words afterwards
 pub record Asked : Type 0 where
@@ -47,7 +47,7 @@ unanswered r W = record { answer = Unanswered r; witness = W }
 
 -- what the walk's answer makes of a witness
 abbrev pub told : (budget : ℕ) (witness : List ℕ) → Answer State → Asked
-told b W (covered n s c) = record { answer = Covered n c; witness = written (shown s) W }
+told b W (covered n s c) = record { answer = Covered n c; witness = withShown (shown s) W }
 told b W (notCovered c) = record { answer = NotCovered c; witness = W }
 told b W spent = unanswered (Spent b) W
 told b W broken = unanswered Broken W

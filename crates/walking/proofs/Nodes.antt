@@ -9,6 +9,7 @@ use lib.Dec.{leb, ltb, eqb}
 use lib.ListN.{length, getD, take, drop}
 use borrow.Author.Tests.{leb-true, lt-leb}
 use Rattle.clause.specs.Clause.{literals, maxLiterals}
+use Rattle.clause.proofs.Apart.{apart}
 use Rattle.machine.specs.Instr.{Instr, First, Do, Success, instruction, instrOf}
 use Rattle.machine.specs.Machine.{State, Outcome, next, fails, stuck, step, enter, finish, require}
 use Rattle.tree.specs.Keys.{inner}
@@ -17,6 +18,7 @@ use Rattle.walk.specs.Walk.{Answer, covered, notCovered, spent, broken, Part, a
 use Rattle.walk.specs.Words.{extends, walkWords}
 use Rattle.walk.specs.Query.{machine}
 use Rattle.cells.specs.inner.Cells.{entered}
+use Rattle.cells.specs.declared.Above.the-variants.{First as Above·First}
 use Rattle.cells.proofs.Region.{instrOf-word}
 use Rattle.cells.proofs.Rows.{row-broken, row-node}
 use Rattle.stepping.specs.inner.Visits.{Met, past, bad, hit, firsts, below, stepped, reached, metAs, meeting}
@@ -37,7 +39,7 @@ unfolding extends
 extends-some w n e = go (extentOf w) refl
   where
     go : (x : ℕ) → extentOf w ≡ x → 1 ≤ extentOf w
-    go zero f = let z : false ≡ true = rw (lt-leb 1 (extentOf w) (omega arith)) at e in let y : _≡_ {A = ℕ} 0 1 = cc in absurd (omega arith)
+    go zero f = let z : false ≡ true = rw (lt-leb 1 (extentOf w) (omega arith)) at e in apart cc
     go (suc x) f = omega arith
 
 -- what follows a word: what it comes to, with the walk below it
@@ -45,22 +47,22 @@ unfoldable pub goingOn : List ℕ → (budget number : ℕ) → Met → (State �
 goingOn d b n past k c = notCovered c
 goingOn d b n bad k c = broken
 goingOn d b n (hit s) k c = covered n s c
-goingOn d b n (firsts s) k c = entered d b true k s c
+goingOn d b n (firsts s) k c = entered d b Above·First k s c
 goingOn d b n (below s) k c = k s c
 
 -- the number of a Success is its operand
 number : (op x n : ℕ) → instruction op x ≡ some (Success n) → n ≡ x
 unfolding instruction
 number zero x n e = cc
-number (suc zero) x n e = let z : _≡_ {A = ℕ} 0 1 = cc in absurd (omega arith)
-number (suc (suc zero)) x n e = let z : _≡_ {A = ℕ} 0 1 = cc in absurd (omega arith)
-number (suc (suc (suc zero))) x n e = let z : _≡_ {A = ℕ} 0 1 = cc in absurd (omega arith)
-number (suc (suc (suc (suc zero)))) x n e = let z : _≡_ {A = ℕ} 0 1 = cc in absurd (omega arith)
-number (suc (suc (suc (suc (suc zero))))) x n e = let z : _≡_ {A = ℕ} 0 1 = cc in absurd (omega arith)
-number (suc (suc (suc (suc (suc (suc zero)))))) x n e = let z : _≡_ {A = ℕ} 0 1 = cc in absurd (omega arith)
-number (suc (suc (suc (suc (suc (suc (suc zero))))))) x n e = let z : _≡_ {A = ℕ} 0 1 = cc in absurd (omega arith)
-number (suc (suc (suc (suc (suc (suc (suc (suc zero)))))))) x n e = let z : _≡_ {A = ℕ} 0 1 = cc in absurd (omega arith)
-number (suc (suc (suc (suc (suc (suc (suc (suc (suc op))))))))) x n e = let z : _≡_ {A = ℕ} 0 1 = cc in absurd (omega arith)
+number (suc zero) x n e = apart cc
+number (suc (suc zero)) x n e = apart cc
+number (suc (suc (suc zero))) x n e = apart cc
+number (suc (suc (suc (suc zero)))) x n e = apart cc
+number (suc (suc (suc (suc (suc zero))))) x n e = apart cc
+number (suc (suc (suc (suc (suc (suc zero)))))) x n e = apart cc
+number (suc (suc (suc (suc (suc (suc (suc zero))))))) x n e = apart cc
+number (suc (suc (suc (suc (suc (suc (suc (suc zero)))))))) x n e = apart cc
+number (suc (suc (suc (suc (suc (suc (suc (suc (suc op))))))))) x n e = apart cc
 
 module _ (d : List ℕ) (b n : ℕ) (k : State → Part State) (s : State) (c : ℕ) where
   follow-step : (o : Outcome State) → follow o k c ≡ goingOn d b n (stepped o) k c

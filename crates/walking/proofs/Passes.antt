@@ -1,17 +1,19 @@
 -- The passes over the words below a node: one from each candidate of a First, or one from the state itself.
 use Prim.Native.Nat.{ℕ, zero, suc, _+_, _-_, _≤_, _<_}
 use mathlib.Core.Path.{_≡_, refl, _∙_}
-use mathlib.Core.Bool.{Bool, true, false}
 use mathlib.Core.List.{List}
 use native.Mathlib.Omega.{arith}
 use native.Mathlib.Numerals.{add-one}
 use lib.ListN.{length}
 use borrow.Author.Tests.{le-leb, lt-leb, lt-ltb}
 use Rattle.clause.specs.Clause.{maxLiterals, literals}
+use Rattle.clause.proofs.Apart.{apart}
 use Rattle.machine.specs.Machine.{State, enter, require}
 use Rattle.walk.specs.Walk.{Answer, covered, notCovered, spent, broken, Part, andThen, tries, upTo}
 use Rattle.walk.specs.Query.{machine, shown}
-use Rattle.cells.specs.inner.Cells.{entered, passesOf, startAt, stateOf}
+use Rattle.cells.specs.inner.Cells.{entered, passesOf, passState, stateOf}
+use Rattle.cells.specs.declared.Above.{Above}
+use Rattle.cells.specs.declared.Above.the-variants.{First, Step}
 use Rattle.walking.specs.inner.Findings.{missed, seen, outBy, Walked}
 use Rattle.walking.specs.declared.Finding.{Finding}
 use Rattle.walking.specs.declared.End.{End}
@@ -19,38 +21,38 @@ use Rattle.walking.proofs.Nodes.{then-nothing}
 use Rattle.walking.specs.declared.End.the-variants.{Missed, Found, Broken, Spent}
 
 -- m passes from the j-th on
-unfoldable pub runs : List ℕ → (budget : ℕ) → Bool → (State → Part State) → State → (m j : ℕ) → Part State
-runs d b true k s m j c = tries (machine d) (upTo b) k s m j c
-runs d b false k s zero j c = notCovered c
-runs d b false k s (suc m) j c = andThen (k s c) (runs d b false k s m (suc j))
+unfoldable pub runs : List ℕ → (budget : ℕ) → Above → (State → Part State) → State → (m j : ℕ) → Part State
+runs d b First k s m j c = tries (machine d) (upTo b) k s m j c
+runs d b Step k s zero j c = notCovered c
+runs d b Step k s (suc m) j c = andThen (k s c) (runs d b Step k s m (suc j))
 
 module _ (d : List ℕ) (b : ℕ) (k : State → Part State) (s : State) where
   -- all passes
-  pub runs-whole : (first : Bool) {m : ℕ} → m ≡ passesOf first (length (literals d)) → (c : ℕ) → runs d b first k s (m - 0) 0 c ≡ entered d b first k s c
+  pub runs-whole : (above : Above) {m : ℕ} → m ≡ passesOf above (length (literals d)) → (c : ℕ) → runs d b above k s (m - 0) 0 c ≡ entered d b above k s c
   unfolding runs entered passesOf
-  runs-whole true {m} e c = let f : m - 0 ≡ length (literals d) = omega arith in rw f
-  runs-whole false {m} e c = let f : m - 0 ≡ 1 = omega arith in rw f (then-nothing (k s c) notCovered (λ i. refl))
+  runs-whole First {m} e c = let f : m - 0 ≡ length (literals d) = omega arith in rw f
+  runs-whole Step {m} e c = let f : m - 0 ≡ 1 = omega arith in rw f (then-nothing (k s c) notCovered (λ i. refl))
 
   -- no pass is left
-  pub runs-end : (first : Bool) (m j c : ℕ) → m ≤ j → runs d b first k s (m - j) j c ≡ notCovered c
+  pub runs-end : (above : Above) (m j c : ℕ) → m ≤ j → runs d b above k s (m - j) j c ≡ notCovered c
   unfolding runs
-  runs-end true m j c h = let z : m - j ≡ 0 = omega arith in rw z
-  runs-end false m j c h = let z : m - j ≡ 0 = omega arith in rw z
+  runs-end First m j c h = let z : m - j ≡ 0 = omega arith in rw z
+  runs-end Step m j c h = let z : m - j ≡ 0 = omega arith in rw z
 
   -- the next pass
-  pub runs-plain : {first : Bool} → first ≡ false → (m j c : ℕ) → j < m
-      → runs d b first k s (m - j) j c ≡ andThen (k (startAt d first j s) c) (runs d b first k s (m - (j + 1)) (j + 1))
-  unfolding runs startAt
+  pub runs-plain : {above : Above} → above ≡ Step → (m j c : ℕ) → j < m
+      → runs d b above k s (m - j) j c ≡ andThen (k (passState d above j s) c) (runs d b above k s (m - (j + 1)) (j + 1))
+  unfolding runs passState
   runs-plain e m j c h = let n : m - j ≡ suc (m - (j + 1)) = omega arith in rw (e, n, add-one)
 
   module _ (few : length (s .chosen) < maxLiterals) where
-    pub runs-spent : {first : Bool} → first ≡ true → (m j c : ℕ) → j < m → b ≤ c → runs d b first k s (m - j) j c ≡ spent
+    pub runs-spent : {above : Above} → above ≡ First → (m j c : ℕ) → j < m → b ≤ c → runs d b above k s (m - j) j c ≡ spent
     unfolding runs enter require
     runs-spent e m j c h g = let n : m - j ≡ suc (m - (j + 1)) = omega arith in rw (e, n, lt-ltb (length (s .chosen)) maxLiterals few, lt-leb (suc c) b (omega arith))
 
-    pub runs-first : {first : Bool} → first ≡ true → (m j c : ℕ) → j < m → c < b
-        → runs d b first k s (m - j) j c ≡ andThen (k (startAt d first j s) (c + 1)) (runs d b first k s (m - (j + 1)) (j + 1))
-    unfolding runs enter require startAt
+    pub runs-first : {above : Above} → above ≡ First → (m j c : ℕ) → j < m → c < b
+        → runs d b above k s (m - j) j c ≡ andThen (k (passState d above j s) (c + 1)) (runs d b above k s (m - (j + 1)) (j + 1))
+    unfolding runs enter require passState
     runs-first e m j c h g =
         let n : m - j ≡ suc (m - (j + 1)) = omega arith in
         rw (e, n, lt-ltb (length (s .chosen)) maxLiterals few, le-leb (suc c) b (omega arith), add-one j, add-one c)
@@ -58,17 +60,17 @@ module _ (d : List ℕ) (b : ℕ) (k : State → Part State) (s : State) where
 -- what is seen of an answer
 pub seen-missed : (a : Answer State) {c : ℕ} → missed c ≡ seen a → a ≡ notCovered c
 unfolding seen
-seen-missed (covered n s i) e = let z : _≡_ {A = ℕ} 0 1 = cc in absurd (omega arith)
+seen-missed (covered n s i) e = apart cc
 seen-missed (notCovered i) e = cc
-seen-missed spent e = let z : _≡_ {A = ℕ} 0 1 = cc in absurd (omega arith)
-seen-missed broken e = let z : _≡_ {A = ℕ} 0 1 = cc in absurd (omega arith)
+seen-missed spent e = apart cc
+seen-missed broken e = apart cc
 
 out-missed : (e : End) (n : ℕ) (l : List ℕ) {c : ℕ} → outBy e n l ≡ missed c → e ≡ Missed
 unfolding outBy
 out-missed Missed n l h = refl
-out-missed (Found k) n l h = let z : _≡_ {A = ℕ} 0 1 = cc in absurd (omega arith)
-out-missed Broken n l h = let z : _≡_ {A = ℕ} 0 1 = cc in absurd (omega arith)
-out-missed Spent n l h = let z : _≡_ {A = ℕ} 0 1 = cc in absurd (omega arith)
+out-missed (Found k) n l h = apart cc
+out-missed Broken n l h = apart cc
+out-missed Spent n l h = apart cc
 
 -- after a miss the walk goes on, and it ends with anything else
 pub then-on : {a : Answer State} {c : ℕ} (k : Part State) → a ≡ notCovered c → andThen a k ≡ k c
@@ -86,13 +88,13 @@ unfolding outBy
 missed-of a e n l m h = seen-missed a (rw m at h)
 
 pub broken≢missed : Broken ≡ Missed → ⊥
-broken≢missed e = let z : _≡_ {A = ℕ} 0 1 = cc in omega arith
+broken≢missed e = apart cc
 
 pub spent≢missed : Spent ≡ Missed → ⊥
-spent≢missed e = let z : _≡_ {A = ℕ} 0 1 = cc in omega arith
+spent≢missed e = apart cc
 
 pub found≢missed : {n : ℕ} → Found n ≡ Missed → ⊥
-found≢missed e = let z : _≡_ {A = ℕ} 0 1 = cc in omega arith
+found≢missed e = apart cc
 
 -- what a walk's finding says of its answer
 module _ {a : Answer State} {before after : List ℕ} where

@@ -7,11 +7,12 @@ use mathlib.Core.Option.{Option, none, some, Option·none-ne-some}
 use mathlib.Core.List.{List}
 use native.Mathlib.Omega.{arith}
 use native.Mathlib.Decide.{ℕ-discrete}
-use lib.Dec.{ltb, eqb}
+use lib.Dec.{ltb}
 use lib.ListN.{length, getD, take, drop, length-take, length-drop}
 use lib.Seq.{take-all}
 use borrow.Author.Tests.{ne-eqb, ltb-true}
 use Rattle.clause.specs.Clause.{literals, maxLiterals}
+use Rattle.clause.proofs.Apart.{apart}
 use Rattle.clause.proofs.Literals.{accepted, some-literal}
 use Rattle.machine.specs.Instr.{Instr, First, Do, Success, instrOf}
 use Rattle.machine.specs.Machine.{State, Outcome, next, fails, stuck, enter, step, finish}
@@ -21,7 +22,7 @@ use Rattle.tree.specs.Laid.{keyOf, extentOf}
 use Rattle.walk.specs.Walk.{Answer, covered, notCovered, spent, broken, Part, andThen, attempt, tries, upTo}
 use Rattle.walk.specs.Words.{extends, walkWords}
 use Rattle.walk.specs.Query.{machine}
-use Rattle.cells.specs.inner.Cells.{cellCount, noPosition, HasPlace, entered, positionIn, stateOf, Walkable}
+use Rattle.cells.specs.inner.Cells.{cellCount, noPosition, HasPlace, aboveOf, entered, positionIn, stateOf, Walkable}
 use Rattle.stepping.specs.inner.Visits.{Met, bad, firsts, below, stepped, reached, metAs, meeting, metOf}
 use Rattle.cells.specs.inner.Cells.{unwound, restored, wantedAt, Skipped}
 use Rattle.stepping.specs.inner.Visits.{Visited}
@@ -42,59 +43,59 @@ use Rattle.walking.proofs.Passes.{then-on, then-ends, missed-of}
 below-step : (o : Outcome State) {t : State} → below t ≡ stepped o → o ≡ next t
 unfolding stepped
 below-step (next s) e = cc
-below-step fails e = let z : _≡_ {A = ℕ} 0 1 = cc in absurd (omega arith)
-below-step stuck e = let z : _≡_ {A = ℕ} 0 1 = cc in absurd (omega arith)
+below-step fails e = apart cc
+below-step stuck e = apart cc
 
 below-finish : (o : Outcome State) {t : State} → below t ≡ reached o → ⊥
 unfolding reached
-below-finish (next s) e = let z : _≡_ {A = ℕ} 0 1 = cc in omega arith
-below-finish fails e = let z : _≡_ {A = ℕ} 0 1 = cc in omega arith
-below-finish stuck e = let z : _≡_ {A = ℕ} 0 1 = cc in omega arith
+below-finish (next s) e = apart cc
+below-finish fails e = apart cc
+below-finish stuck e = apart cc
 
 firsts-step : (o : Outcome State) {t : State} → firsts t ≡ stepped o → ⊥
 unfolding stepped
-firsts-step (next s) e = let z : _≡_ {A = ℕ} 0 1 = cc in omega arith
-firsts-step fails e = let z : _≡_ {A = ℕ} 0 1 = cc in omega arith
-firsts-step stuck e = let z : _≡_ {A = ℕ} 0 1 = cc in omega arith
+firsts-step (next s) e = apart cc
+firsts-step fails e = apart cc
+firsts-step stuck e = apart cc
 
 firsts-finish : (o : Outcome State) {t : State} → firsts t ≡ reached o → ⊥
 unfolding reached
-firsts-finish (next s) e = let z : _≡_ {A = ℕ} 0 1 = cc in omega arith
-firsts-finish fails e = let z : _≡_ {A = ℕ} 0 1 = cc in omega arith
-firsts-finish stuck e = let z : _≡_ {A = ℕ} 0 1 = cc in omega arith
+firsts-finish (next s) e = apart cc
+firsts-finish fails e = apart cc
+firsts-finish stuck e = apart cc
 
 module _ (d : List ℕ) (s t : State) where
   below-by : {P : Type 0} (o : Option Instr) → ((x : _) → step d x s ≡ next t → P) → below t ≡ metAs d o s → P
   unfolding metAs
-  below-by none f e = let z : _≡_ {A = ℕ} 0 1 = cc in absurd (omega arith)
+  below-by none f e = apart cc
   below-by {P} (some First) f e = go (ltb (length (s .chosen)) maxLiterals) e
     where
       go : (b : Bool) → below t ≡ cond b (firsts s) bad → P
-      go true e = let z : _≡_ {A = ℕ} 0 1 = cc in absurd (omega arith)
-      go false e = let z : _≡_ {A = ℕ} 0 1 = cc in absurd (omega arith)
+      go true e = apart cc
+      go false e = apart cc
   below-by (some (Do x)) f e = f x (below-step (step d x s) e)
   below-by (some (Success n)) f e = absurd (below-finish (finish s) e)
 
   firsts-same : (o : Option Instr) → firsts t ≡ metAs d o s → (t ≡ s) × (length (s .chosen) < maxLiterals)
   unfolding metAs
-  firsts-same none e = let z : _≡_ {A = ℕ} 0 1 = cc in absurd (omega arith)
+  firsts-same none e = apart cc
   firsts-same (some First) e = go (ltb (length (s .chosen)) maxLiterals) refl e
     where
       go : (b : Bool) → ltb (length (s .chosen)) maxLiterals ≡ b → firsts t ≡ cond b (firsts s) bad → (t ≡ s) × (length (s .chosen) < maxLiterals)
       go true f e = (cc, ltb-true (length (s .chosen)) maxLiterals f)
-      go false f e = let z : _≡_ {A = ℕ} 0 1 = cc in absurd (omega arith)
+      go false f e = apart cc
   firsts-same (some (Do x)) e = absurd (firsts-step (step d x s) e)
   firsts-same (some (Success n)) e = absurd (firsts-finish (finish s) e)
 
 -- what a word comes to is broken where its extent is wrong
 bad-stuck : (g : Go) (s : State) → metOf g s ≡ bad → g ≡ Stuck
 unfolding metOf
-bad-stuck Fails s e = let z : _≡_ {A = ℕ} 0 1 = cc in absurd (omega arith)
+bad-stuck Fails s e = apart cc
 bad-stuck Stuck s e = refl
-bad-stuck Hit s e = let z : _≡_ {A = ℕ} 0 1 = cc in absurd (omega arith)
-bad-stuck Tries s e = let z : _≡_ {A = ℕ} 0 1 = cc in absurd (omega arith)
-bad-stuck Below s e = let z : _≡_ {A = ℕ} 0 1 = cc in absurd (omega arith)
-bad-stuck Stored s e = let z : _≡_ {A = ℕ} 0 1 = cc in absurd (omega arith)
+bad-stuck Hit s e = apart cc
+bad-stuck Tries s e = apart cc
+bad-stuck Below s e = apart cc
+bad-stuck Stored s e = apart cc
 
 module _ (d : List ℕ) (w room : ℕ) (s : State) where
   fits-met : {m : Met} → meeting d w room s ≡ m → (m ≡ bad → ⊥) → (extends w (room - 1) ≡ true) × (metAs d (instrOf (keyOf w)) s ≡ m)
@@ -106,16 +107,16 @@ module _ (d : List ℕ) (w room : ℕ) (s : State) where
       go false f = absurd (n (sym (rw f at e)))
 
 below≢stuck : Below ≡ Stuck → ⊥
-below≢stuck e = let z : _≡_ {A = ℕ} 0 1 = cc in omega arith
+below≢stuck e = apart cc
 
 stored≢stuck : Stored ≡ Stuck → ⊥
-stored≢stuck e = let z : _≡_ {A = ℕ} 0 1 = cc in omega arith
+stored≢stuck e = apart cc
 
 fails≢stuck : Fails ≡ Stuck → ⊥
-fails≢stuck e = let z : _≡_ {A = ℕ} 0 1 = cc in omega arith
+fails≢stuck e = apart cc
 
 tries≢stuck : Tries ≡ Stuck → ⊥
-tries≢stuck e = let z : _≡_ {A = ℕ} 0 1 = cc in omega arith
+tries≢stuck e = apart cc
 
 -- a visit that goes on below, with a store or without
 abbrev pub Lower : Go → Type 0
@@ -129,7 +130,8 @@ unfolding metOf
 lower-met s l = ⊎-elim (λ e. rw e) (λ e. rw e) l
 
 -- the visit of a word by a ready state
-module _ (d t : List ℕ) (h : ℕ) (l : List ℕ) (R : Walkable d t h l) (w room : ℕ) (some-room : 1 ≤ room) (m : List ℕ) (v : Visit) (met : Visited (meeting d w room (stateOf h l)) l m v) where
+module _ (d t : List ℕ) (h : ℕ) (l : List ℕ) (R : Walkable d t h l) (w room : ℕ) (some-room : 1 ≤ room)
+    (m : List ℕ) (v : Visit) (met : Visited (meeting d w room (stateOf h l)) l m v) where
   met-fits : (v .go ≡ Stuck → ⊥) → (extends w (room - 1) ≡ true) × (metAs d (instrOf (keyOf w)) (stateOf h l) ≡ metOf (v .go) (stateOf (v .head) m))
   met-fits n = fits-met d w room (stateOf h l) (sym (met .comes)) (λ e. n (bad-stuck (v .go) (stateOf (v .head) m) e))
 
@@ -149,7 +151,8 @@ module _ (d t : List ℕ) (h : ℕ) (l : List ℕ) (R : Walkable d t h l) (w roo
   -- the head stands in the query
   pub visit-inside : Lower (v .go) → v .head < length d
   visit-inside g =
-      let (q, e) = below-by d (stateOf h l) (stateOf (v .head) m) {P = (q : ℕ) × (positionIn (v .head) ≡ some q)} (instrOf (keyOf w)) (λ x f. step-headed d (stateOf h l) x f) (below-met g) in
+      let s = stateOf h l in
+      let (q, e) = below-by d s (stateOf (v .head) m) {P = (q : ℕ) × (positionIn (v .head) ≡ some q)} (instrOf (keyOf w)) (λ x f. step-headed d s x f) (below-met g) in
       go q e (ℕ-discrete (v .head) noPosition)
     where
       go : (q : ℕ) → positionIn (v .head) ≡ some q → Dec (v .head ≡ noPosition) → v .head < length d
@@ -301,7 +304,8 @@ module _ {d t words : List ℕ} {b : ℕ} {s : State} {n₀ : ℕ} {cells₀ cel
   node-on g last to u =
       let all : take (x - 1) (drop 1 rest) ≡ drop 1 rest = take-all (x - 1) (drop 1 rest) (simp length-drop (omega (arith, h))) in
       let f : walkWords (machine d) (upTo b) words s n₀ ≡ part (stateOf (v .head) m) n =
-      node ∙ rw (lower-met (stateOf (v .head) m) g) (then-nothing (part (stateOf (v .head) m) n) after (λ c. row-end (machine d) (upTo b) rest x (stateOf here cells) c (omega arith))) in
+      node ∙ rw (lower-met (stateOf (v .head) m) g)
+      (then-nothing (part (stateOf (v .head) m) n) after (λ c. row-end (machine d) (upTo b) rest x (stateOf here cells) c (omega arith))) in
       record {
         shorter = tail-le 1 rest (W .shorter);
         ready = visit-below d t here cells (W .ready) (getD rest 0 0) (length rest) h m v met g;
@@ -336,26 +340,29 @@ module _ {d t words : List ℕ} {b : ℕ} {s : State} {n₀ : ℕ} {cells₀ cel
     call-ready =
         ⊎-elim
         (λ k. let f = visit-tries d t here cells (W .ready) (getD rest 0 0) (length rest) h m v met (k .0) in (rw (k .1) (headless d t (v .head) m (f .0)), λ _. f .1))
-        (λ k. (rw (k .1) (visit-below d t here cells (W .ready) (getD rest 0 0) (length rest) h m v met (k .0)), λ z. absurd (omega (arith, node-inside (k .0), few-words (W .ready), k .1))))
+        (λ k. (
+          rw (k .1) (visit-below d t here cells (W .ready) (getD rest 0 0) (length rest) h m v met (k .0)),
+          λ z. absurd (omega (arith, node-inside (k .0), few-words (W .ready), k .1)),
+        ))
         kind
 
     pub call-fits : (1 ≤ x) × (x ≤ length rest)
     call-fits = ⊎-elim (λ k. fits-tries (k .0)) (λ k. fits-below (k .0)) kind
 
-    called-as : goingOn d b (getD rest 0 0 / 2 ^ 28 % 2 ^ 32) (metOf (v .go) (stateOf (v .head) m)) part n ≡ entered d b (eqb to noPosition) part (stateOf to m) n
-    unfolding metOf goingOn entered
+    called-as : goingOn d b (getD rest 0 0 / 2 ^ 28 % 2 ^ 32) (metOf (v .go) (stateOf (v .head) m)) part n ≡ entered d b (aboveOf to) part (stateOf to m) n
+    unfolding metOf goingOn aboveOf entered
     called-as =
         ⊎-elim
         (λ k. rw (k .0, k .1) (tries-head d b part (v .head) m (length (literals d)) 0 n))
         (λ k. rw (lower-met (stateOf (v .head) m) (k .0), k .1, ne-eqb (v .head) noPosition (λ z. omega (arith, node-inside (k .0), few-words (W .ready)))))
         kind
 
-    module _ {out : List ℕ} {r : Finding} (walked : Walked (entered d b (eqb to noPosition) part (stateOf to m) n) m out r) where
-      node-call : walkWords (machine d) (upTo b) words s n₀ ≡ andThen (entered d b (eqb to noPosition) part (stateOf to m) n) after
+    module _ {out : List ℕ} {r : Finding} (walked : Walked (entered d b (aboveOf to) part (stateOf to m) n) m out r) where
+      node-call : walkWords (machine d) (upTo b) words s n₀ ≡ andThen (entered d b (aboveOf to) part (stateOf to m) n) after
       node-call = node ∙ ap (λ (a : Answer State). andThen a after) called-as
 
-      pub node-ends : (r .end ≡ Missed → ⊥) → walkWords (machine d) (upTo b) words s n₀ ≡ entered d b (eqb to noPosition) part (stateOf to m) n
-      node-ends nm = node-call ∙ then-ends (entered d b (eqb to noPosition) part (stateOf to m) n) after (r .end) (r .count) out nm (walked .comes)
+      pub node-ends : (r .end ≡ Missed → ⊥) → walkWords (machine d) (upTo b) words s n₀ ≡ entered d b (aboveOf to) part (stateOf to m) n
+      node-ends nm = node-call ∙ then-ends (entered d b (aboveOf to) part (stateOf to m) n) after (r .end) (r .count) out nm (walked .comes)
 
       pub node-back : r .end ≡ Missed → restored (v .mark) out ≡ cells
       node-back e = ap (restored (v .mark)) (walked .back e) ∙ restored-marked (met .marked)
@@ -364,7 +371,7 @@ module _ {d t words : List ℕ} {b : ℕ} {s : State} {n₀ : ℕ} {cells₀ cel
       pub node-next : r .end ≡ Missed → {l : List ℕ} → l ≡ restored (v .mark) out → Walking d t words b s n₀ cells₀ l (r .count) here trail (tail x rest)
       node-next e f =
           let g : walkWords (machine d) (upTo b) words s n₀ ≡ after (r .count) =
-          node-call ∙ then-on after (missed-of (entered d b (eqb to noPosition) part (stateOf to m) n) (r .end) (r .count) out e (walked .comes)) in
+          node-call ∙ then-on after (missed-of (entered d b (aboveOf to) part (stateOf to m) n) (r .end) (r .count) out e (walked .comes)) in
           rw (f ∙ node-back e) (record { shorter = tail-le x rest (W .shorter); ready = W .ready; undo = W .undo; same = g ∙ rw (tail-drop x rest) })
 
       -- and past the Checks that fail there

@@ -1,9 +1,9 @@
 // The walk over the words below a node.
 use crate::End;
 use crate::Finding;
+use cells::Above;
 use cells::Path;
 use cells::begin;
-use cells::is_none;
 use cells::passes;
 use cells::release;
 use cells::reserve;
@@ -37,20 +37,20 @@ pub fn walk(
     ensures { λ r. ⌜ Walked (walkBelow (now (query .entry)) (now (words .entry)) budget head (now (cells .entry)) count)
         (now (cells .entry)) (now (cells .exit)) r ⌝ }
 {
-    let first = is_none(head);
-    let last = passes(tables, first);
-    let kept = reserve(cells, first);
+    let above = Above::of(head);
+    let last = passes(tables, above);
+    let kept = reserve(cells, above);
     let mut n = count;
     let mut j = 0;
     'tries: loop {
         if j >= last {
-            release(cells, first, kept);
+            release(cells, above, kept);
             break 'tries Finding {
                 end: End::Missed,
                 count: n,
             };
         }
-        if first {
+        if let Above::First = above {
             if n >= budget {
                 break 'tries Finding {
                     end: End::Spent,
@@ -59,7 +59,7 @@ pub fn walk(
             }
             n += 1;
         }
-        let mut here = begin(query, tables, cells, first, head, j);
+        let mut here = begin(query, tables, cells, above, head, j);
         let mut trail: u64 = 0;
         let left = skip(words, 0, wanted(query, here));
         let start = words.len() - left;
@@ -82,7 +82,7 @@ pub fn walk(
                     rest = &rest[size..];
                     continue;
                 }
-                Go::Tries => Path::NONE,
+                Go::Tries => Path::BEFORE,
                 Go::Below => {
                     if size == rest.len() {
                         here = v.head;
@@ -149,7 +149,7 @@ pub fn walk_top(
             query,
             tables,
             cells,
-            Path::NONE,
+            Path::BEFORE,
             count,
             budget,
         );

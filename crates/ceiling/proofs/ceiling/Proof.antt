@@ -31,7 +31,13 @@ sum-of-powers-requires : tie.Need-sum-of-powers-requires
 sum-of-powers-requires c κs = search needs
 
 mul-t8 : tie.Need-mul-t8
-mul-t8 c = let a = c .before .before .before .before .before .before .args in let f = ceiling-fits (a .kept) (a .q) (a .m) (c .before .before .before .before .before .if1 .left) (c .before .before .before .before .if2 .left) (c .before .before .before .if3 .left) (c .before .if5 .left) (c .sum-of-powers .ensures) in omega arith
+mul-t8 c =
+    let c3 = c .before .before .before in
+    let c4 = c3 .before in
+    let c5 = c4 .before in
+    let a = c5 .before .args in
+    let f = ceiling-fits (a .kept) (a .q) (a .m) (c5 .if1 .left) (c4 .if2 .left) (c3 .if3 .left) (c .before .if5 .left) (c .sum-of-powers .ensures) in
+    omega arith
 
 returns-6 : tie.Need-returns-6
 returns-6 c =
@@ -39,7 +45,9 @@ returns-6 c =
     let c4 = c3 .before in
     let c5 = c4 .before in
     let c6 = c5 .before in
-    let a = c6 .args in ceiling-is (a .kept) (a .q) (a .m) (c5 .if1 .left) (c4 .if2 .left) (c3 .if3 .left) (c .before .before .if4 .left) (c .before .if5 .left) (c .sum-of-powers .ensures)
+    let a = c6 .args in
+    ceiling-is (a .kept) (a .q) (a .m) (c5 .if1 .left) (c4 .if2 .left) (c3 .if3 .left) (c .before .before .if4 .left) (c .before .if5 .left)
+    (c .sum-of-powers .ensures)
 
 pub ceiling-spec : {M : Type 1} → statement M
 ceiling-spec =

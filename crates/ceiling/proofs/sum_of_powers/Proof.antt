@@ -1,6 +1,6 @@
+-- `sum_of_powers` meets its contract.
 use mathlib.Core.Path.{_≡_, refl, sym}
 use native.Mathlib.Nat.{pow-zero}
--- `sum_of_powers` meets its contract.
 use borrow.Author.Needs.{needs}
 use native.Mathlib.Omega.{arith}
 use Prim.Native.Nat.{_+_, _≤_, _-_, _^_}
@@ -19,10 +19,20 @@ loop-holds : tie.Need-loop-holds Inv-loop μ-loop
 loop-holds c = (search needs, refl, sym (pow-zero _))
 
 mul-power : tie.Need-mul-power Inv-loop μ-loop
-mul-power c = let i = c .before .loop .inv in let p = next-power (c .before .before .args .q) (c .before .loop .i) (i .2) in let s = power-small (c .before .before .args .q) (c .before .loop .i + 1) (c .before .before .pre .0) (omega arith) in omega arith
+mul-power c =
+    let l = c .before .loop in
+    let s = c .before .before in
+    let p = next-power (s .args .q) (l .i) (l .inv .2) in
+    let b = power-small (s .args .q) (l .i + 1) (s .pre .0) (omega arith) in
+    omega arith
 
 add-sum : tie.Need-add-sum Inv-loop μ-loop
-add-sum c = let i = c .before .loop .inv in let p = powers-more (c .before .before .args .q) (c .before .loop .i) (i .1) (i .2) in let s = powers-small (c .before .before .args .q) (c .before .loop .i + 1) (c .before .before .pre .0) (omega arith) in omega arith
+add-sum c =
+    let l = c .before .loop in
+    let s = c .before .before in
+    let p = powers-more (s .args .q) (l .i) (l .inv .1) (l .inv .2) in
+    let b = powers-small (s .args .q) (l .i + 1) (s .pre .0) (omega arith) in
+    omega arith
 
 add-i : tie.Need-add-i Inv-loop μ-loop
 add-i c = search needs
@@ -31,7 +41,10 @@ loop-less : tie.Need-loop-less Inv-loop μ-loop
 loop-less c = search needs
 
 loop-again : tie.Need-loop-again Inv-loop μ-loop
-loop-again c = let i = c .before .loop .inv in (search needs, powers-more (c .before .before .args .q) (c .before .loop .i) (i .1) (i .2), next-power (c .before .before .args .q) (c .before .loop .i) (i .2))
+loop-again c =
+    let l = c .before .loop in
+    let q = c .before .before .args .q in
+    (search needs, powers-more q (l .i) (l .inv .1) (l .inv .2), next-power q (l .i) (l .inv .2))
 
 returns : tie.Need-returns Inv-loop μ-loop
 returns c = let i = c .before .loop .inv in let e : c .before .loop .i ≡ c .before .before .args .m = omega arith in rw e at (i .1)

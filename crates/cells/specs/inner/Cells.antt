@@ -1,6 +1,6 @@
 -- The walk's state in lent cells, and what the functions on them do.
 use mathlib.Core.Path.{_≡_}
-use mathlib.Core.Bool.{Bool, true, false, cond}
+use mathlib.Core.Bool.{Bool, cond}
 use mathlib.Core.Option.{Option, none, some}
 use mathlib.Core.List.{List, map}
 use Prim.Native.Nat.{ℕ, _+_, _-_, _*_, _/_, _%_, _^_, _≤_, _<_}
@@ -13,6 +13,8 @@ use Rattle.machine.specs.inner.Safe.{Safe}
 use Rattle.walk.specs.Walk.{Part, tries, upTo}
 use Rattle.walk.specs.Words.{walkWords}
 use Rattle.walk.specs.Query.{machine}
+use Rattle.cells.specs.declared.Above.{Above}
+use Rattle.cells.specs.declared.Above.the-variants.{First, Step}
 
 -- Where a state stands in the cells: the candidates from 0 on, then the positions put, the positions pushed, and how many candidates there are.
 abbrev pub putsAt : ℕ
@@ -31,6 +33,10 @@ cellCount = 256
 -- what stands for no position
 abbrev pub noPosition : ℕ
 noPosition = 255
+
+-- a mark is the index of a cell, times this, and the byte that it held
+abbrev pub markBase : ℕ
+markBase = cellCount
 
 -- how many candidates the cells hold
 abbrev pub countIn : List ℕ → ℕ
@@ -81,9 +87,9 @@ pub record Walkable (d t : List ℕ) (head : ℕ) (cells : List ℕ) : Type 0 wh
   pub size : length cells ≡ cellCount
   pub few : countIn cells ≤ maxLiterals
 
--- the cells with one of them stored back: its index and what it held, in the lowest 16 bits of a number; 0 stands for none
+-- the cells with one of them stored back, by the mark in the lowest 16 bits of a number; 0 stands for none
 unfoldable pub restored : ℕ → List ℕ → List ℕ
-restored m l = cond (eqb m 0) l (set l (m / 256 % 256) (m % 256))
+restored m l = cond (eqb m 0) l (set l (m / markBase % markBase) (m % markBase))
 
 -- the cells with up to four of them stored back, the latest, in the lowest 16 bits, first
 unfoldable pub unwound : ℕ → List ℕ → List ℕ
@@ -100,42 +106,45 @@ pub record Skipped (words : List ℕ) (at wanted : ℕ) (r : ℕ) : Type 0 where
   pub same : (d : List ℕ) (allow : ℕ → Bool) (s : State) (p c : ℕ) → s .head ≡ some p → wanted ≡ 7 * 2 ^ 32 + getD d p 0
       → walkWords (machine d) allow (drop at words) s c ≡ walkWords (machine d) allow (drop r words) s c
 
--- the cells with one candidate more, whatever it is
-unfoldable pub reserved : Bool → List ℕ → List ℕ
-reserved true l = set l countAt (countIn l + 1)
-reserved false l = l
+-- what words stand below, by the head that is handed to them: below a First it is none
+unfoldable pub aboveOf : ℕ → Above
+aboveOf h = cond (eqb h noPosition) First Step
+
+-- the cells with one candidate more, whatever it is, below a First
+unfoldable pub reserved : Above → List ℕ → List ℕ
+reserved First l = set l countAt (countIn l + 1)
+reserved Step l = l
 
 -- the cells with literal j as the latest candidate
-unfoldable pub candidate : Bool → ℕ → List ℕ → List ℕ
-candidate true j l = set l (countIn l - 1) j
-candidate false j l = l
+unfoldable pub candidate : Above → ℕ → List ℕ → List ℕ
+candidate First j l = set l (countIn l - 1) j
+candidate Step j l = l
 
 -- the cells without the latest candidate, where `kept` stood before
-unfoldable pub released : Bool → ℕ → List ℕ → List ℕ
-released true kept l = set (set l (countIn l - 1) kept) countAt (countIn l - 1)
-released false kept l = l
+unfoldable pub released : Above → ℕ → List ℕ → List ℕ
+released First kept l = set (set l (countIn l - 1) kept) countAt (countIn l - 1)
+released Step kept l = l
 
 -- what stands where the next candidate of a First is to be stored
-unfoldable pub keptIn : Bool → List ℕ → ℕ
-keptIn true l = getD l (countIn l) 0
-keptIn false l = 0
+unfoldable pub keptIn : Above → List ℕ → ℕ
+keptIn First l = getD l (countIn l) 0
+keptIn Step l = 0
 
--- the head at the beginning of a pass
-unfoldable pub headAt : List ℕ → Bool → (head j : ℕ) → ℕ
-headAt d true h j = startOf d j
-headAt d false h j = h
+-- how many passes are made over the words: below a First one for each literal of the query, below a step one
+unfoldable pub passesOf : Above → ℕ → ℕ
+passesOf First n = n
+passesOf Step n = 1
 
--- the state with literal j as the next candidate
-unfoldable pub startAt : List ℕ → Bool → ℕ → State → State
-startAt d true j s = starting d s j
-startAt d false j s = s
+-- the head at the beginning of pass j, and the state there
+unfoldable pub passHead : List ℕ → Above → (head j : ℕ) → ℕ
+passHead d First h j = startOf d j
+passHead d Step h j = h
 
--- how many passes a node takes: one for each literal of the query, or one
-unfoldable pub passesOf : Bool → ℕ → ℕ
-passesOf true n = n
-passesOf false n = 1
+unfoldable pub passState : List ℕ → Above → ℕ → State → State
+passState d First j s = starting d s j
+passState d Step j s = s
 
 -- the walk below a node: from each candidate, or from the state itself
-unfoldable pub entered : List ℕ → (budget : ℕ) → Bool → (State → Part State) → State → Part State
-entered d b true k s c = tries (machine d) (upTo b) k s (length (literals d)) 0 c
-entered d b false k s c = k s c
+unfoldable pub entered : List ℕ → (budget : ℕ) → Above → (State → Part State) → State → Part State
+entered d b First k s c = tries (machine d) (upTo b) k s (length (literals d)) 0 c
+entered d b Step k s c = k s c

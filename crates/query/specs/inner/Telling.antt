@@ -1,7 +1,7 @@
 -- What is told of a reading and of a walk.
 use mathlib.Core.List.{List}
 use Prim.Native.Nat.{ℕ}
-use Rattle.walk.specs.Query.{Asked, unanswered, written}
+use Rattle.walk.specs.Query.{Asked, unanswered, withShown}
 use Rattle.clause.specs.declared.Shape.{Shape}
 use Rattle.clause.specs.declared.Shape.the-variants.{Faulty, Whole}
 use Rattle.tree.specs.declared.Refusal.{Refusal}
@@ -17,6 +17,6 @@ refusalOf (Whole n) = Broken
 -- what is asked is told by what is seen of the walk
 unfoldable pub toldOut : (budget : ℕ) (witness : List ℕ) → Out → Asked
 toldOut b W (missed c) = record { answer = NotCovered c; witness = W }
-toldOut b W (found n os c) = record { answer = Covered n c; witness = written os W }
+toldOut b W (found n os c) = record { answer = Covered n c; witness = withShown os W }
 toldOut b W exhausted = unanswered (Spent b) W
 toldOut b W damaged = unanswered Broken W

@@ -3,20 +3,19 @@ use mathlib.Core.Path.{_≡_}
 use mathlib.Core.Option.{Option}
 use mathlib.Core.List.{List}
 use Prim.Native.Nat.{ℕ}
-use lib.Dec.{eqb}
 use lib.ListN.{length}
 use Rattle.machine.specs.Machine.{State}
 use Rattle.walk.specs.Walk.{Answer, covered, notCovered, spent, broken, Part, upTo}
 use Rattle.walk.specs.Words.{walkWords}
 use Rattle.walk.specs.Query.{machine, shown}
-use Rattle.cells.specs.inner.Cells.{noPosition, stateOf, entered}
+use Rattle.cells.specs.inner.Cells.{noPosition, stateOf, aboveOf, entered}
 use Rattle.walking.specs.declared.End.{End}
 use Rattle.walking.specs.declared.End.the-variants.{Missed, Found, Broken, Spent}
 use Rattle.walking.specs.declared.Finding.{Finding}
 
--- the walk below a node, by the head that it hands on and the cells: from each candidate of a First, which hands on none, or from the state itself
+-- the walk below a node, by the head that it hands on and the cells
 abbrev pub walkBelow : (query words : List ℕ) (budget head : ℕ) (cells : List ℕ) → Part State
-walkBelow d ws b h l = entered d b (eqb h noPosition) (walkWords (machine d) (upTo b) ws) (stateOf h l)
+walkBelow d ws b h l = entered d b (aboveOf h) (walkWords (machine d) (upTo b) ws) (stateOf h l)
 
 -- the walk of the topmost row, before the first candidate
 abbrev pub walkTop : (query words : List ℕ) (budget : ℕ) (cells : List ℕ) → Answer State

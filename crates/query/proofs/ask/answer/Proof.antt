@@ -36,7 +36,9 @@ unfolding outBy toldOut
 returns-2 c =
     let c5 = c .before .before .before .before .before in
     let c8 = c5 .before .before .before in
-    let a = c8 .args in rw (c .before .before .show .ensures) (sym (ap (λ (e : End). toldOut (a .budget) (a .witness .now) (outBy e (a .finding .count) (a .cells .now))) (c5 .end .given .1)))
+    let a = c8 .args in
+    rw (c .before .before .show .ensures)
+    (sym (ap (λ (e : End). toldOut (a .budget) (a .witness .now) (outBy e (a .finding .count) (a .cells .now))) (c5 .end .given .1)))
 
 returns-3 : tie.Need-returns-3
 unfolding outBy toldOut

@@ -11,6 +11,9 @@ use Rattle.query.proofs.ask.search.Tie as tie
 of-requires : tie.Need-of-requires
 of-requires c κs = search needs
 
+cast-cells : tie.Need-cast-cells
+cast-cells c = search needs
+
 array-write-cells : tie.Need-array-write-cells
 array-write-cells c = search needs
 
@@ -58,6 +61,7 @@ search-spec =
     tie.close
     (tie.spec
     of-requires
+    cast-cells
     array-write-cells
     shared-slice-read-header
     header-requires

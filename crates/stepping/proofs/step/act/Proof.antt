@@ -94,7 +94,8 @@ returns-6 c =
     let t = a .tables .now in
     let l = a .cells .now in
     let e = c .before .before .before .before .match .keys6 in
-    rw (sized-other (a .op) (a .words) (λ z. omega (arith, z, e)) (act-push d t (a .head) l (s .pre .0) (s .pre .1) (a .op) (a .x) e), ← c .before .before .right .ensures .0) (c .push .ensures)
+    let p = act-push d t (a .head) l (s .pre .0) (s .pre .1) (a .op) (a .x) e in
+    rw (sized-other (a .op) (a .words) (λ z. omega (arith, z, e)) p, ← c .before .before .right .ensures .0) (c .push .ensures)
 
 returns-7 : tie.Need-returns-7
 returns-7 c =
@@ -134,7 +135,8 @@ returns-10 c =
     let t = a .tables .now in
     let l = a .cells .now in
     let r = c .match .rest in
-    let o = rest-over (a .op) (r .0 .0 .0 .0 .0 .0 .0 .0 .1) (r .0 .0 .0 .0 .0 .0 .0 .1) (r .0 .0 .0 .0 .0 .0 .1) (r .0 .0 .0 .0 .0 .1) (r .0 .0 .0 .0 .1) (r .0 .0 .0 .1) (r .0 .0 .1) (r .0 .1) (r .1) in
+    let r4 = r .0 .0 .0 .0 in
+    let o = rest-over (a .op) (r4 .0 .0 .0 .0 .1) (r4 .0 .0 .0 .1) (r4 .0 .0 .1) (r4 .0 .1) (r4 .1) (r .0 .0 .0 .1) (r .0 .0 .1) (r .0 .1) (r .1) in
     sticks _ (sym (sized-other (a .op) (a .words) (λ z. omega (arith, z, o)) (sym (act-over d t (a .head) l (s .pre .0) (s .pre .1) (a .op) (a .x) o))))
 
 pub act-spec : {M : Type 1} → statement M

@@ -1,7 +1,8 @@
 -- `compare` meets its contract.
 use mathlib.Core.Path.{refl, sym, _∙_}
 use Rattle.cells.proofs.Places.{few-words}
-use Rattle.stepping.proofs.Visits.{stays, sticks, misses, compare-over-m, compare-over-k, compare-no-m, compare-no-k, compare-same, compare-other, put-inside-m, put-inside-k}
+use Rattle.stepping.proofs.Visits.{stays, sticks, misses, compare-over-m, compare-over-k, compare-no-m, compare-no-k}
+use Rattle.stepping.proofs.Visits.{compare-same, compare-other, put-inside-m, put-inside-k}
 use borrow.Author.Needs.{needs}
 use Rattle.stepping.proofs.step.compare.Statement.{statement}
 use Rattle.stepping.proofs.step.compare.Tie as tie
@@ -50,7 +51,8 @@ returns-4 c =
     let c6 = c4 .before .before in
     let c7 = c6 .before in
     let c9 = c7 .before .before in
-    sticks _ (compare-no-k _ _ _ _ (c9 .pre) _ _ (c7 .if1 .left) (c6 .if2 .left) (c4 .wide .ensures .0) (c .before .if3 .left) (c .before .before .wide2 .ensures .0) (c .if4 .taken))
+    sticks _ (compare-no-k _ _ _ _ (c9 .pre) _ _ (c7 .if1 .left) (c6 .if2 .left) (c4 .wide .ensures .0) (c .before .if3 .left)
+    (c .before .before .wide2 .ensures .0) (c .if4 .taken))
 
 same-terms-requires : tie.Need-same-terms-requires
 same-terms-requires c κs =
@@ -75,8 +77,8 @@ returns-5 c =
     let c8 = c6 .before .before in
     let c9 = c8 .before in
     let c11 = c9 .before .before in
-    stays _ _ _ refl (compare-same _ _ _ _ (c11 .pre) _ _ (c9 .if1 .left) (c8 .if2 .left) (c6 .wide .ensures .0) (c3 .if3 .left) (c4 .wide2 .ensures .0) (c .before .before .if4 .left)
-    (sym (c .before .same-terms .ensures) ∙ c .if5 .taken))
+    stays _ _ _ refl (compare-same _ _ _ _ (c11 .pre) _ _ (c9 .if1 .left) (c8 .if2 .left) (c6 .wide .ensures .0) (c3 .if3 .left) (c4 .wide2 .ensures .0)
+    (c .before .before .if4 .left) (sym (c .before .same-terms .ensures) ∙ c .if5 .taken))
 
 returns-6 : tie.Need-returns-6
 returns-6 c =

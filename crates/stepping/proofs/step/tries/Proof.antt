@@ -19,10 +19,14 @@ wide-requires c κs = search needs
 
 returns : tie.Need-returns
 unfolding metOf
-returns c = let a = c .before .before .before .args in (stays _ _ _ refl (rw (lt-ltb (countIn (a .cells .now)) maxLiterals (omega (arith, c .before .wide .ensures .0, c .if1 .taken)))), inl refl)
+returns c =
+    let n = countIn (c .before .before .before .args .cells .now) in
+    (stays _ _ _ refl (rw (lt-ltb n maxLiterals (omega (arith, c .before .wide .ensures .0, c .if1 .taken)))), inl refl)
 
 returns-2 : tie.Need-returns-2
-returns-2 c = let a = c .before .before .before .args in (sticks _ (rw (le-ltb (countIn (a .cells .now)) maxLiterals (omega (arith, c .before .wide .ensures .0, c .if1 .left)))), inr refl)
+returns-2 c =
+    let n = countIn (c .before .before .before .args .cells .now) in
+    (sticks _ (rw (le-ltb n maxLiterals (omega (arith, c .before .wide .ensures .0, c .if1 .left)))), inr refl)
 
 pub tries-spec : {M : Type 1} → statement M
 tries-spec = tie.close (tie.spec element-copy-out-wide wide-requires returns returns-2)

@@ -7,7 +7,7 @@ use types.Run.{miss}
 use lib.ListN.{length, getD}
 use borrow.Author.Needs.{needs}
 use Rattle.tree.specs.Laid.{extentOf}
-use Rattle.cells.specs.inner.Cells.{stateOf, restored}
+use Rattle.cells.specs.inner.Cells.{noPosition, stateOf, restored}
 use Rattle.walking.specs.declared.End.the-variants.{Missed}
 use Rattle.stepping.specs.declared.Go.the-variants.{Tries, Stuck}
 use Rattle.walking.proofs.Passes.{walked-missed, walked-broken, walked-same}
@@ -27,7 +27,7 @@ abbrev rs : lts.Claims
 rs = (meet-top-reads.Asked, meet-top-reads.Learnt, extent-reads.Asked, extent-reads.Learnt, walk-reads.Asked, walk-reads.Learnt)
 
 abbrev Inv-loop : tie.InvT-loop
-Inv-loop words query tables cells₀ budget count₀ rest₀ cells count rest = Walking query tables words budget (stateOf 255 cells₀) 0 cells₀ cells count 255 0 rest
+Inv-loop words query tables cells₀ budget count₀ rest₀ cells count rest = Walking query tables words budget (stateOf noPosition cells₀) 0 cells₀ cells count noPosition 0 rest
 
 abbrev μ-loop : tie.MeasureT-loop
 μ-loop words query tables cells₀ budget count₀ rest₀ cells count rest = length rest
@@ -65,8 +65,8 @@ met : (c : Word) (x : ℕ)
     → let r = row c in
     let a = start r .args in
     x ≡ extentOf (getD (r .loop .rest .now) 0 0)
-    → Meeting (a .query .now) (a .tables .now) (a .words .now) (a .budget) (stateOf 255 (a .cells .now)) 0 (a .cells .now)
-    (r .loop .cells) (r .loop .count) 255 0 (r .loop .rest .now) x (r .loop .cells) (c .meet-top .result)
+    → Meeting (a .query .now) (a .tables .now) (a .words .now) (a .budget) (stateOf noPosition (a .cells .now)) 0 (a .cells .now)
+    (r .loop .cells) (r .loop .count) noPosition 0 (r .loop .rest .now) x (r .loop .cells) (c .meet-top .result)
 met c x e = record { walking = row c .loop .inv; some-words = c .before .before .before .loop-test .taken; extent = e; visited = c .meet-top .ensures .0 }
 
 -- the cells are those at the entry
@@ -77,7 +77,7 @@ same-size : (c : Row) → length (c .loop .cells) ≡ length (start c .args .cel
 same-size c = ap (λ (l : List ℕ). length l) (same-cells c)
 
 -- a First is called on the words below it
-first : (c : Call) → (word c .meet-top .result .go ≡ Tries) × (_≡_ {A = ℕ} 255 255)
+first : (c : Call) → (word c .meet-top .result .go ≡ Tries) × (noPosition ≡ noPosition)
 first c = (c .before .enum-told .given .1, refl)
 
 -- they lie in the row
