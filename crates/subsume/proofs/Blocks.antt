@@ -42,7 +42,12 @@ store-first = refl
 pub running-none : {s : Session} {m : Store} → s ≡ firstSession → m ≡ firstStore → Running s m mostBlocks
 unfolding feed firstStore
 running-none e f =
-    record { stands = record { bytes = []; small = nothing; read = e; lent = f }; steady = rw f steady-fresh; words = rw f (length-replicate {A = ℕ} maxWords 0); counts = rw e (omega arith) }
+    record {
+      stands = record { bytes = []; small = nothing; read = e; lent = f };
+      steady = rw f steady-fresh;
+      words = rw f (length-replicate {A = ℕ} maxWords 0);
+      counts = rw e (omega arith);
+    }
 
 -- a block can be fed
 pub block-ready : {s : Session} {m : Store} {n k : ℕ} {o : List ℕ} → Running s m n → 0 < n → k ≤ blockBytes → blockBytes * longestLine ≤ length o

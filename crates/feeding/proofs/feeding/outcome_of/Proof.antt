@@ -17,7 +17,10 @@ unfolding finishing
 returns c = record { answer = rw (lt-ltb maxWords _ (c .if1 .taken)); marking = refl; steady = c .before .before .before .before .before .pre .0 }
 
 slice-aggregate-answer : tie.Need-slice-aggregate-answer
-slice-aggregate-answer c = sym (length-take-le _ _ (omega (arith, c .before .before .before .before .before .before .before .before .before .pre .1, c .before .before .before .before .if1 .left)))
+slice-aggregate-answer c =
+    let c4 = c .before .before .before .before in
+    let c9 = c4 .before .before .before .before .before in
+    sym (length-take-le _ _ (omega (arith, c9 .pre .1, c4 .if1 .left)))
 
 answer-requires : tie.Need-answer-requires
 answer-requires c κs = search needs
@@ -31,8 +34,10 @@ same-length-2 c = search needs
 returns-2 : tie.Need-returns-2
 unfolding finishing
 returns-2 c =
-    let a = c .before .before .before .before .answer .ensures in
-    record { answer = rw (le-ltb maxWords _ (c .before .before .before .before .before .before .before .before .before .if1 .left)) (a .answer); marking = a .marking; steady = a .steady }
+    let c4 = c .before .before .before .before in
+    let c9 = c4 .before .before .before .before .before in
+    let a = c4 .answer .ensures in
+    record { answer = rw (le-ltb maxWords _ (c9 .if1 .left)) (a .answer); marking = a .marking; steady = a .steady }
 
 pub outcome-of-spec : {M : Type 1} → statement M
 outcome-of-spec =
