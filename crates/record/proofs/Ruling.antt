@@ -256,7 +256,8 @@ module _ (K : List Pair) (F : Forest) (h : Holds treeWords K F) (x : Record) (f 
           let room = leb-false treeWords (size (ins (keys (x .words)) (x .number) F)) j in
           let more = ins-leaves (keys (x .words)) (x .number) F body (f .1) in
           rw (u, v, i, j, insertInto)
-          (larger (find-new u) (omega (arith, holds-leaves h, few)) (omega (arith, larger-size w, room)) (ins (keys (x .words)) (x .number) F) (larger-size w) (omega (arith, more, few)))
+          (larger (find-new u) (omega (arith, holds-leaves h, few)) (omega (arith, larger-size w, room)) (ins (keys (x .words)) (x .number) F) (larger-size w)
+          (omega (arith, more, few)))
 
   -- the book after the insertion
   inserting : Inserts treeWords F (map entry K) (entry (pairOf x))

@@ -12,9 +12,15 @@ use Rattle.feeding.proofs.feeding.outcome_of.Tie as tie
 cast-end : tie.Need-cast-end
 cast-end c = search needs
 
+code-requires : tie.Need-code-requires
+code-requires c κs = search needs
+
 returns : tie.Need-returns
 unfolding finishing
-returns c = record { answer = rw (lt-ltb maxWords _ (c .if1 .taken)); marking = refl; steady = c .before .before .before .before .before .pre .0 }
+returns c =
+    let c1 = c .before in
+    let c6 = c1 .before .before .before .before .before in
+    record { answer = rw (lt-ltb maxWords _ (c1 .if1 .taken), c .code .ensures); marking = refl; steady = c6 .pre .0 }
 
 slice-aggregate-answer : tie.Need-slice-aggregate-answer
 slice-aggregate-answer c =
@@ -44,6 +50,7 @@ outcome-of-spec =
     tie.close
     (tie.spec
     cast-end
+    code-requires
     returns
     slice-aggregate-answer
     answer-requires
