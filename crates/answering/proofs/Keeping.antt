@@ -20,15 +20,15 @@ use Rattle.tree.specs.inner.Cut.{locate}
 use Rattle.tree.specs.Refusal.{codeOf}
 use Rattle.tree.specs.Calls.{Called, insertion}
 use Rattle.tree.specs.inner.ByWords.{insertByWords}
-use Rattle.insertion.specs.inner.Inserting.{Ready}
+use Rattle.merging.specs.inner.Inserting.{Ready}
 use Rattle.tree.specs.declared.Refusal.{Refusal}
 use Rattle.tree.specs.declared.Refusal.the-variants.{BadSlice, NumberTaken}
 use Rattle.tree.specs.declared.CallAnswer.{CallAnswer}
 use Rattle.tree.specs.declared.CallAnswer.the-variants as call
 use Rattle.tree.proofs.Plain.{plain-body}
 use Rattle.tree.proofs.ByWords.{insertion-words}
-use Rattle.insertion.proofs.KeysOf.{keys-few}
-use Rattle.insertion.proofs.UsedWords.{number-free}
+use Rattle.merging.proofs.KeysOf.{keys-few}
+use Rattle.merging.proofs.UsedWords.{number-free}
 use Rattle.walk.specs.Query.{witnessWords, Asked, unanswered, queryAs, query}
 use Rattle.walk.specs.declared.QueryAnswer.{QueryAnswer}
 use Rattle.walk.specs.declared.QueryAnswer.the-variants.{Unanswered, Covered, NotCovered}

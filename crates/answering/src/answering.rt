@@ -1,8 +1,8 @@
 // What becomes of one record.
 use crate::Budget;
-use insertion::insert_new;
+use compiling::compile;
 use machine::Sequence;
-use machine::compile;
+use merging::insert_new;
 use query::query;
 use record::Outcome;
 use tree::CallAnswer;

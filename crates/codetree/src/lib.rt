@@ -1,16 +1,14 @@
 // The C interface: the calls of document 01 on pointers and lengths (include/code_tree.h).
 ghost use mathlib.Core.Path.{_≡_};
-ghost use Rattle.codetree.specs.Calls.{ctFresh, ctInsert, ctRemove, ctQuery, ctCeiling};
-ghost use Rattle.codetree.specs.Claims.{CtReach, CtDemand2, CtDemand3, ToldApart};
-
-mod answers;
+ghost use Rattle.interface.specs.Calls.{ctFresh, ctInsert, ctRemove, ctQuery, ctCeiling};
+ghost use Rattle.interface.specs.Claims.{CtReach, CtDemand2, CtDemand3, ToldApart};
 
 // Makes an empty tree of a slice. Returns 0 or 1.
 #[no_mangle]
 pub extern "C" fn ct_fresh(tree: &mut [u64]) -> u64
     ensures { λ r. ⌜ record { number = r; words = now (tree .exit) } ≡ ctFresh (now (tree .entry)) ⌝ }
 {
-    answers::call_number(laid::fresh(tree))
+    reply::hand_call(laid::fresh(tree), &mut [])
 }
 
 // Inserts a clause under a number. Returns 0 or a code; tells the position for 4 and 5, the number for 8.
@@ -19,7 +17,7 @@ pub extern "C" fn ct_insert(tree: &mut [u64], clause: &[u16], number: u32, told:
     ensures { λ r. ⌜ record { number = r; words = now (tree .exit); told = now (told .exit) }
         ≡ ctInsert (now (tree .entry)) (now (clause .entry)) number (now (told .entry)) ⌝ }
 {
-    answers::hand_call(insertion::insert(tree, clause, number), told)
+    reply::hand_call(insertion::insert(tree, clause, number), told)
 }
 
 // Removes the clause with a number. Returns 0 or a code.
@@ -27,7 +25,7 @@ pub extern "C" fn ct_insert(tree: &mut [u64], clause: &[u16], number: u32, told:
 pub extern "C" fn ct_remove(tree: &mut [u64], number: u32) -> u64
     ensures { λ r. ⌜ record { number = r; words = now (tree .exit) } ≡ ctRemove (now (tree .entry)) number ⌝ }
 {
-    answers::call_number(removal::remove(tree, number))
+    reply::hand_call(removal::remove(tree, number), &mut [])
 }
 
 // Asks whether a kept clause covers a clause. Returns 0 or a code; tells 1 or 0 for covered or not, the number, the count;
@@ -46,7 +44,7 @@ pub extern "C" fn ct_query(
     ensures lists { λ _. ⌜ CtReach × CtDemand2 × CtDemand3 ⌝ }
     ensures apart { λ _. ⌜ ToldApart ⌝ }
 {
-    answers::hand_query(query::query(tree, clause, budget, witness), told)
+    reply::hand_query(query::query(tree, clause, budget, witness), told)
 }
 
 // The ceiling of a query's count. Returns 0 or 13; tells the ceiling.
@@ -54,5 +52,5 @@ pub extern "C" fn ct_query(
 pub extern "C" fn ct_ceiling(kept: u64, q: u64, m: u64, told: &mut [u64]) -> u64
     ensures { λ r. ⌜ record { number = r; told = now (told .exit) } ≡ ctCeiling kept q m (now (told .entry)) ⌝ }
 {
-    answers::hand_ceiling(ceiling::ceiling(kept, q, m), told)
+    reply::hand_ceiling(ceiling::ceiling(kept, q, m), told)
 }

@@ -1,7 +1,9 @@
 -- `ct_fresh` meets its contract: the call is made, and its answer's number returned.
 use mathlib.Core.Path.{ap}
+use mathlib.Core.List.{[]}
 use Rattle.book.specs.Table.{called}
-use Rattle.codetree.specs.Calls.{left, ctFresh}
+use Rattle.interface.specs.Calls.{ctFresh}
+use Rattle.interface.proofs.Handed.{leaves}
 use borrow.Author.Needs.{needs}
 use Rattle.codetree.proofs.ct_fresh.Statement.{statement}
 use Rattle.codetree.proofs.ct_fresh.Tie as tie
@@ -9,15 +11,22 @@ use Rattle.codetree.proofs.ct_fresh.Tie as tie
 fresh-requires : tie.Need-fresh-requires
 fresh-requires c κs = search needs
 
-call-number-requires : tie.Need-call-number-requires
-call-number-requires c κs = search needs
+slice-aggregate-hand-call : tie.Need-slice-aggregate-hand-call
+slice-aggregate-hand-call c = search needs
+
+hand-call-requires : tie.Need-hand-call-requires
+hand-call-requires c κs = search needs
 
 same-length : tie.Need-same-length
 same-length c = search needs
 
 returns : tie.Need-returns
 unfolding ctFresh
-returns c = rw (c .call-number .ensures) (ap (λ y. left (called y)) (c .before .before .before .fresh .ensures))
+returns c =
+    let h = c .before in
+    leaves [] (ap called (h .before .before .before .before .fresh .ensures)) (h .hand-call .ensures)
 
 pub ct-fresh-spec : {M : Type 1} → statement M
-ct-fresh-spec = tie.close (tie.spec fresh-requires call-number-requires same-length returns)
+ct-fresh-spec =
+    tie.close
+    (tie.spec fresh-requires slice-aggregate-hand-call hand-call-requires same-length returns)

@@ -1,8 +1,8 @@
 -- `ct_insert` meets its contract: the call is made, and its answer handed over.
 use mathlib.Core.Path.{ap}
 use Rattle.book.specs.Table.{called}
-use Rattle.codetree.specs.Calls.{ctInsert}
-use Rattle.codetree.proofs.Telling.{hands}
+use Rattle.interface.specs.Calls.{ctInsert}
+use Rattle.interface.proofs.Handed.{hands}
 use borrow.Author.Needs.{needs}
 use Rattle.codetree.proofs.ct_insert.Statement.{statement}
 use Rattle.codetree.proofs.ct_insert.Tie as tie

@@ -1,0 +1,221 @@
+-- Lists of calls that C makes are lists of calls, and its queries say what these answer.
+use mathlib.Core.Path.{_≡_, refl, sym, ap, _∙_}
+use mathlib.Core.Logic.{_↔_, _⊎_, inl, inr}
+use mathlib.Core.List.{List, [], _∷_}
+use Prim.Native.Nat.{ℕ, _≤_}
+use native.Mathlib.Decide.{decLe}
+use native.Mathlib.Omega.{arith}
+use lib.ListN.{length, replicate, length-replicate}
+use Rattle.clause.proofs.Apart.{apart}
+use Rattle.tree.specs.Entries.{Pair}
+use Rattle.tree.specs.Calls.{fresh}
+use Rattle.tree.specs.declared.Refusal.the-variants.{Spent}
+use Rattle.tree.specs.declared.CallAnswer.{CallAnswer}
+use Rattle.tree.specs.declared.CallAnswer.the-variants.{Ready, Kept, Removed}
+use Rattle.walk.specs.Ceiling.{fullBudget}
+use Rattle.walk.specs.Query.{witnessWords, query}
+use Rattle.walk.specs.Covering.{IsCovered, IsNotCovered, IsSpent, Answers}
+use Rattle.walk.specs.declared.QueryAnswer.{QueryAnswer}
+use Rattle.walk.specs.declared.QueryAnswer.the-variants.{Unanswered, Covered, NotCovered}
+use Rattle.book.specs.Table.{saidCall, saidQuery}
+use Rattle.book.specs.Book.{Call, insert, remove, call, done, after, sliceOf, treeOf}
+use Rattle.book.specs.Claims.{Run, Reached, Together, Same}
+use Rattle.book.proofs.Reach.{reach, demand2}
+use Rattle.book.proofs.Agreement.{demand3}
+use Rattle.interface.specs.Told.{numberOf, shownAs, replied}
+use Rattle.interface.specs.Calls.{ctFresh, ctInsert, ctRemove, ctQuery}
+use Rattle.interface.specs.Claims.{Made, ctCall, ctAfter, ctTree, callsMade, CtRun, CtReach}
+use Rattle.interface.specs.Claims.{Says, SaysCovered, SaysNot, SaysSpent, needed, CtAnswers, CtDemand2, CtSame, CtCovered, CtDemand3}
+use Rattle.interface.proofs.Answers.{Freshened, ready, bad-slice, Inserted, kept, refusal, Taken, removed, broken, no-such}
+use Rattle.interface.proofs.Answers.{fresh-answers, insert-answers, remove-answers, code-some, query-apart}
+
+-- ---- the words, and the numbers returned
+
+call-words : (T : List ℕ) (x : Call) (ts : List ℕ) → ctCall T x ts .words ≡ call T x .slice
+unfolding ctInsert ctRemove
+call-words T (insert c n) ts = refl
+call-words T (remove n) ts = refl
+
+after-words : (T : List ℕ) (xs : List Made) → ctAfter T xs ≡ after T (callsMade xs)
+after-words T [] = refl
+after-words T (x ∷ xs) = rw (call-words T (x .call) (x .told)) (after-words (call T (x .call) .slice) xs)
+
+tree-words : (T : List ℕ) (xs : List Made) → ctTree T xs ≡ sliceOf T (callsMade xs)
+unfolding ctFresh
+tree-words T xs = after-words (fresh T .slice) xs
+
+-- 0 is returned where the call is done
+returned : CallAnswer → ℕ
+returned a = numberOf (saidCall a .title)
+
+fresh-done : {a : CallAnswer} → Freshened a → returned a ≡ 0 → a ≡ Ready
+unfolding returned
+fresh-done ready e = refl
+fresh-done bad-slice e = absurd (omega arith)
+
+insert-done : {a : CallAnswer} → Inserted a → returned a ≡ 0 → a ≡ Kept
+unfolding returned
+insert-done kept e = refl
+insert-done (refusal r) e = absurd (code-some r e)
+
+remove-done : {a : CallAnswer} → Taken a → returned a ≡ 0 → a ≡ Removed
+unfolding returned
+remove-done removed e = refl
+remove-done bad-slice e = absurd (omega arith)
+remove-done broken e = absurd (omega arith)
+remove-done no-such e = absurd (omega arith)
+
+call-done : (T : List ℕ) (x : Call) (ts : List ℕ) → (ctCall T x ts .number ≡ 0) ↔ (call T x .answer ≡ done x)
+unfolding ctInsert ctRemove returned
+call-done T (insert c n) ts = (insert-done (insert-answers T c n), ap returned)
+call-done T (remove n) ts = (remove-done (remove-answers T n), ap returned)
+
+-- ---- what is reached
+
+run-of : (T : List ℕ) (xs : List Made) → CtRun T xs → Run T (callsMade xs)
+unfolding ctFresh returned
+run-of T xs R = record { ready = fresh-done (fresh-answers T) (R .ready); fit = R .fit }
+
+pub ct-reach : CtReach
+ct-reach T xs R =
+    let h : Reached T (callsMade xs) = reach T (callsMade xs) (run-of T xs R) in
+    record {
+      words = tree-words T xs ∙ h .slice;
+      changes = λ x f ts. rw (tree-words T xs)
+          ((λ e. h .changes x f .0 (call-done (sliceOf T (callsMade xs)) x ts .0 e)), (λ e. call-done (sliceOf T (callsMade xs)) x ts .1 (h .changes x f .1 e)));
+    }
+
+-- ---- what a query says
+
+module _ (T d : List ℕ) (b : ℕ) (W ts : List ℕ) (long : 3 ≤ length ts) where
+  says : (a : QueryAnswer)
+      → Says (ctQuery T d b W ts) ts (replied (saidQuery a) [] .number) (shownAs (saidQuery a .title) (saidQuery a .values)) ↔ (query T d b W .answer ≡ a)
+  unfolding ctQuery
+  says a = (
+    λ s. query-apart (query T d b W .answer) a ts ts long long (s .0) (s .1),
+    λ e. (ap (λ y. replied (saidQuery y) ts .number) e, ap (λ y. replied (saidQuery y) ts .told) e),
+  )
+
+-- one is not another
+covered≢spent : {n c b : ℕ} → Covered n c ≡ Unanswered (Spent b) → ⊥
+covered≢spent e = apart cc
+
+not≢spent : {c b : ℕ} → NotCovered c ≡ Unanswered (Spent b) → ⊥
+not≢spent e = apart cc
+
+module _ {K : List Pair} {T d : List ℕ} {b : ℕ} {W : List ℕ} (A : Answers K (treeOf K) T d b W) where
+  -- what is not spent is within the budget
+  within : (IsSpent T d b W → ⊥) → needed K d ≤ b
+  within h = go (decLe (needed K d) b)
+    where
+      go : Dec (needed K d ≤ b) → needed K d ≤ b
+      go (yes l) = l
+      go (no l) = absurd (h (A .spends .1 (omega arith)))
+
+  decided : IsCovered T d b W ⊎ IsNotCovered T d b W → needed K d ≤ b
+  decided (inl u) = let (n, c, e) = u in within (λ s. covered≢spent (sym e ∙ s))
+  decided (inr u) = let (c, e) = u in within (λ s. not≢spent (sym e ∙ s))
+
+  module _ (ts : List ℕ) (long : 3 ≤ length ts) (enough : needed K d ≤ fullBudget) where
+    says-covered : IsCovered T d b W → SaysCovered (ctQuery T d b W ts) ts (needed K d)
+    says-covered u = let (n, c, e) = u in (n, says T d b W ts long (Covered n (needed K d)) .1 (rw (← A .counts n c e) e))
+
+    says-not : IsNotCovered T d b W → SaysNot (ctQuery T d b W ts) ts (needed K d)
+    says-not u = let (c, e) = u in says T d b W ts long (NotCovered (needed K d)) .1 (rw (← A .counts-not c e) e)
+
+    said-covered : (n : ℕ) → Says (ctQuery T d b W ts) ts 0 (1 ∷ n ∷ needed K d ∷ []) → query T d b W .answer ≡ Covered n (needed K d)
+    said-covered n s = says T d b W ts long (Covered n (needed K d)) .0 s
+
+    said-not : SaysNot (ctQuery T d b W ts) ts (needed K d) → query T d b W .answer ≡ NotCovered (needed K d)
+    said-not s = says T d b W ts long (NotCovered (needed K d)) .0 s
+
+    said-spent : SaysSpent (ctQuery T d b W ts) ts b ↔ IsSpent T d b W
+    said-spent = says T d b W ts long (Unanswered (Spent b))
+
+    ct-kinds : IsCovered T d b W ⊎ (IsNotCovered T d b W ⊎ IsSpent T d b W)
+        → SaysCovered (ctQuery T d b W ts) ts (needed K d) ⊎ (SaysNot (ctQuery T d b W ts) ts (needed K d) ⊎ SaysSpent (ctQuery T d b W ts) ts b)
+    ct-kinds (inl u) = inl (says-covered u)
+    ct-kinds (inr (inl u)) = inr (inl (says-not u))
+    ct-kinds (inr (inr u)) = inr (inr (said-spent .1 u))
+
+    ct-spares : SaysNot (ctQuery T d b W ts) ts (needed K d) ⊎ SaysSpent (ctQuery T d b W ts) ts b → query T d b W .witness ≡ W
+    ct-spares (inl s) = A .spares (needed K d) (said-not s) .1
+    ct-spares (inr s) = A .untouched (said-spent .0 s)
+
+    ct-answers : CtAnswers K d b W ts (ctQuery T d b W ts)
+    unfolding ctQuery
+    ct-answers =
+        record {
+          kinds = ct-kinds (A .kinds);
+          covered = (
+            λ u. let (n, s) = u in
+                let l = decided (inl (n, needed K d, said-covered n s)) in
+                (l, A .decides l .0 (n, needed K d, said-covered n s)),
+            λ h. says-covered (A .decides (h .0) .1 (h .1)),
+          );
+          not-covered = (
+            λ s. let l = decided (inr (needed K d, said-not s)) in (l, A .denies l .0 (needed K d, said-not s)),
+            λ h. says-not (A .denies (h .0) .1 (h .1)),
+          );
+          spent = ((λ s. A .spends .0 (said-spent .0 s)), (λ l. said-spent .1 (A .spends .1 l)));
+          enough = enough;
+          bounded = A .bounded;
+          shows = λ n s. A .covers n (needed K d) (said-covered n s);
+          spares = ct-spares;
+        }
+
+pub ct-demand2 : CtDemand2
+ct-demand2 T xs R d W ts P b =
+    let ys : List Call = callsMade xs in
+    let r : Run T ys = run-of T xs R in
+    let full = decided (demand2 T ys r d (P .clause) fullBudget W (P .witness)) (demand3 T ys T ys r r .one .decided d (P .clause) W (P .witness)) in
+    rw (tree-words T xs) (ct-answers (demand2 T ys r d (P .clause) b W (P .witness)) ts (P .told) full)
+
+-- ---- two lists
+
+-- covered at the full budget
+ct-covered : (T d W ts : List ℕ) → 3 ≤ length ts → CtCovered T d W ts ↔ IsCovered T d fullBudget W
+ct-covered T d W ts long = (
+  λ u. let (c, (n, s)) = u in (n, c, says T d fullBudget W ts long (Covered n c) .0 s),
+  λ u. let (n, c, e) = u in (c, (n, says T d fullBudget W ts long (Covered n c) .1 e)),
+)
+
+ct-same : {S T d : List ℕ} {b : ℕ} → Same S T d b → CtSame S T d b
+unfolding ctQuery
+ct-same {S} {T} {d} {b} s =
+    let Z : List ℕ = replicate witnessWords 0 in
+    let z : witnessWords ≤ length Z = omega (arith, length-replicate {A = ℕ} witnessWords 0) in
+    let a : QueryAnswer = query S d b Z .answer in
+    let one : (U : List ℕ) → witnessWords ≤ length U → query S d b U .answer ≡ a = λ U l. s .answer U Z l z ∙ sym (s .answer Z Z z z) in
+    let other : (U : List ℕ) → witnessWords ≤ length U → query T d b U .answer ≡ a = λ U l. sym (s .answer Z U z l) in
+    record {
+      number = numberOf (saidQuery a .title);
+      values = shownAs (saidQuery a .title) (saidQuery a .values);
+      words = s .words;
+      one = λ U ts l. rw (one U l, s .left U l);
+      other = λ U ts l. rw (other U l, s .right U l);
+    }
+
+pub ct-demand3 : CtDemand3
+ct-demand3 S xs T ys R Q =
+    let one = run-of S xs R in
+    let other = run-of T ys Q in
+    let t : Together S (callsMade xs) T (callsMade ys) = demand3 S (callsMade xs) T (callsMade ys) one other in
+    let S′ : List ℕ = sliceOf S (callsMade xs) in
+    let T′ : List ℕ = sliceOf T (callsMade ys) in
+    let O : List ℕ = 0 ∷ 0 ∷ 0 ∷ [] in
+    record {
+      agree = rw (tree-words S xs, tree-words T ys) (
+        λ g. t .agree .0 (λ d D w U W l m.
+            let i = g d w U O W O (record { clause = D; witness = l; told = omega arith }) (record { clause = D; witness = m; told = omega arith }) in (
+              λ u. ct-covered T′ d W O (omega arith) .0 (i .0 (ct-covered S′ d U O (omega arith) .1 u)),
+              λ u. ct-covered S′ d U O (omega arith) .0 (i .1 (ct-covered T′ d W O (omega arith) .1 u)),
+            )),
+        λ h d w U ts W us P N.
+            let i = t .agree .1 h d (P .clause) w U W (P .witness) (N .witness) in (
+              λ u. ct-covered T′ d W us (N .told) .1 (i .0 (ct-covered S′ d U ts (P .told) .0 u)),
+              λ u. ct-covered S′ d U ts (P .told) .1 (i .1 (ct-covered T′ d W us (N .told) .0 u)),
+            ),
+      );
+      same = rw (tree-words S xs, tree-words T ys) (λ f h d D b. ct-same (t .same f h d D b));
+    }

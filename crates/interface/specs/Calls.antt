@@ -1,0 +1,47 @@
+-- The calls that C makes: the number returned and every lent word afterwards, as definitions of what went in.
+use mathlib.Core.List.{List}
+use Prim.Native.Nat.{ℕ}
+use Rattle.tree.specs.Calls.{fresh, insertion, removal}
+use Rattle.walk.specs.Query.{query}
+use Rattle.walk.specs.Ceiling.{ceilingCall}
+use Rattle.book.specs.Table.{Result, saidCeiling, called, asked}
+use Rattle.interface.specs.Told.{numberOf, Reply, replied}
+
+-- the number returned, and the words of the tree or the witness afterwards
+pub record Left : Type 0 where
+  pub number : ℕ
+  pub words : List ℕ
+
+-- the same with the told words afterwards
+pub record Handed : Type 0 where
+  pub number : ℕ
+  pub words : List ℕ
+  pub told : List ℕ
+
+-- of how a call comes out
+abbrev pub left : Result → Left
+left r = record { number = numberOf (r .said .title); words = r .words }
+
+-- the same with its values told
+abbrev pub handed : Result → (told : List ℕ) → Handed
+handed r ts = record { number = replied (r .said) ts .number; words = r .words; told = replied (r .said) ts .told }
+
+-- fresh
+unfoldable pub ctFresh : (tree : List ℕ) → Left
+ctFresh T = left (called (fresh T))
+
+-- insertion
+unfoldable pub ctInsert : (tree clause : List ℕ) (number : ℕ) (told : List ℕ) → Handed
+ctInsert T c n ts = handed (called (insertion T c n)) ts
+
+-- removal
+unfoldable pub ctRemove : (tree : List ℕ) (number : ℕ) → Left
+ctRemove T n = left (called (removal T n))
+
+-- query, which leaves the tree
+unfoldable pub ctQuery : (tree clause : List ℕ) (budget : ℕ) (witness told : List ℕ) → Handed
+ctQuery T d b W ts = handed (asked (query T d b W)) ts
+
+-- ceiling
+unfoldable pub ctCeiling : (kept q m : ℕ) (told : List ℕ) → Reply
+ctCeiling kept q m ts = replied (saidCeiling (ceilingCall kept q m)) ts

@@ -1,0 +1,161 @@
+-- What is claimed of the calls that C makes: lists of calls and queries after them, in terms of the numbers returned and the words told.
+use mathlib.Core.Path.{_≡_}
+use mathlib.Core.Logic.{_↔_, _≢_, _⊎_}
+use mathlib.Core.Option.{Option}
+use mathlib.Core.List.{List, [], _∷_, map, List·Memᴰ}
+use Prim.Native.Nat.{ℕ, _≤_, _<_}
+use lib.ListN.{length}
+use Rattle.clause.specs.Word.{Words}
+use Rattle.clause.specs.Clause.{Accepted, literals}
+use Rattle.tree.specs.Forest.{layout}
+use Rattle.tree.specs.Entries.{Pair}
+use Rattle.tree.specs.Calls.{fresh, insertion, removal}
+use Rattle.walk.specs.Ceiling.{ceiling, fullBudget, ceilingCall}
+use Rattle.walk.specs.Query.{witnessWords, written, query}
+use Rattle.walk.specs.Covering.{most, Subsumed, Shows, Untouched, candidates}
+use Rattle.book.specs.Book.{Call, insert, remove, Fit, AllFit, bookStep, bookOf, treeOf}
+use Rattle.book.specs.Claims.{Under, Renamed}
+use Rattle.interface.specs.Told.{toldBy}
+use Rattle.interface.specs.Calls.{Left, Handed, ctFresh, ctInsert, ctRemove, ctQuery, ctCeiling}
+
+-- ---- lists of calls
+
+-- a call of ct_insert or ct_remove, with the told words that ct_insert is lent
+pub record Made : Type 0 where
+  pub call : Call
+  pub told : List ℕ
+
+-- the number it returns, and the tree's words afterwards
+abbrev pub ctCall : (tree : List ℕ) → Call → (told : List ℕ) → Left
+ctCall T (insert c n) ts = record { number = ctInsert T c n ts .number; words = ctInsert T c n ts .words }
+ctCall T (remove n) ts = ctRemove T n
+
+-- the tree's words after some calls, each on the words as the call before left them
+abbrev pub ctAfter : (tree : List ℕ) → List Made → List ℕ
+ctAfter T [] = T
+ctAfter T (x ∷ xs) = ctAfter (ctCall T (x .call) (x .told) .words) xs
+
+-- the tree's words after ct_fresh and some calls
+abbrev pub ctTree : (tree : List ℕ) → List Made → List ℕ
+ctTree T xs = ctAfter (ctFresh T .words) xs
+
+-- the calls as the clause book is fed them
+abbrev pub callsMade : List Made → List Call
+callsMade xs = map (λ x. x .call) xs
+
+-- the clauses that they keep
+abbrev pub ctBook : (tree : List ℕ) → List Made → List Pair
+ctBook T xs = bookOf (length T) (callsMade xs)
+
+-- ct_fresh returned 0; clause words have 16 bits and numbers 32, as C's types have it
+pub record CtRun (T : List ℕ) (xs : List Made) : Type 0 where
+  pub ready : ctFresh T .number ≡ 0
+  pub fit : AllFit (callsMade xs)
+
+-- what holds after the calls
+pub record CtReached (T : List ℕ) (xs : List Made) : Type 0 where
+  -- the words are those of the tree of the kept clauses
+  pub words : ctTree T xs ≡ layout (length T) (treeOf (ctBook T xs))
+  -- a further call returns 0 exactly where the book changes
+  pub changes : (x : Call) → Fit x → (ts : List ℕ)
+      → (ctCall (ctTree T xs) x ts .number ≡ 0) ↔ (bookStep (length T) (ctBook T xs) x ≢ ctBook T xs)
+
+-- the claim, for every list of calls
+abbrev pub CtReach : Type 0
+CtReach = (T : List ℕ) (xs : List Made) → CtRun T xs → CtReached T xs
+
+-- ---- queries
+
+-- what a query needs to be accepted, and to tell its answer whole
+pub record Askable (d W ts : List ℕ) : Type 0 where
+  pub clause : Accepted d
+  pub witness : witnessWords ≤ length W
+  pub told : 3 ≤ length ts
+
+-- a number is returned, and values are told over the words ts
+abbrev pub Says : Handed → (ts : List ℕ) (number : ℕ) (values : List ℕ) → Type 0
+Says r ts n vs = (r .number ≡ n) × (r .told ≡ toldBy vs ts)
+
+-- 0, and 1, a clause's number and a count
+abbrev pub SaysCovered : Handed → (ts : List ℕ) → (count : ℕ) → Type 0
+SaysCovered r ts c = (n : ℕ) × Says r ts 0 (1 ∷ n ∷ c ∷ [])
+
+-- 0, and 0, 0 and a count
+abbrev pub SaysNot : Handed → (ts : List ℕ) → (count : ℕ) → Type 0
+SaysNot r ts c = Says r ts 0 (0 ∷ 0 ∷ c ∷ [])
+
+-- 12, and the budget
+abbrev pub SaysSpent : Handed → (ts : List ℕ) → (budget : ℕ) → Type 0
+SaysSpent r ts b = Says r ts 12 (b ∷ [])
+
+-- the candidates that the walk for d takes without a budget, where the pairs K are kept
+abbrev pub needed : List Pair → (clause : List ℕ) → ℕ
+needed K d = candidates (treeOf K) d
+
+-- what ct_query hands over for the clause d, the budget b, the witness W and the told words ts, where the pairs K are kept
+pub record CtAnswers (K : List Pair) (d : List ℕ) (b : ℕ) (W ts : List ℕ) (r : Handed) : Type 0 where
+  -- one of the three, and never anything else
+  pub kinds : SaysCovered r ts (needed K d) ⊎ (SaysNot r ts (needed K d) ⊎ SaysSpent r ts b)
+  -- covered exactly if a kept clause subsumes d, not covered exactly if none does, and spent exactly if the budget is too small to tell
+  pub covered : SaysCovered r ts (needed K d) ↔ ((needed K d ≤ b) × Subsumed K d)
+  pub not-covered : SaysNot r ts (needed K d) ↔ ((needed K d ≤ b) × (Subsumed K d → ⊥))
+  pub spent : SaysSpent r ts b ↔ (b < needed K d)
+  -- the full budget never is, and no query takes more candidates than the ceiling
+  pub enough : needed K d ≤ fullBudget
+  pub bounded : needed K d ≤ ceiling (length K) (length (literals d)) (most K)
+  -- the clause kept under the number that is told subsumes d, and the witness shows it
+  pub shows : (n : ℕ) → Says r ts 0 (1 ∷ n ∷ needed K d ∷ [])
+      → (p : Pair) × List·Memᴰ p K × (p .number ≡ n) × Shows (p .clause) d (r .words) × Untouched (p .clause) W (r .words)
+  -- else the witness stays
+  pub spares : SaysNot r ts (needed K d) ⊎ SaysSpent r ts b → r .words ≡ W
+
+-- Demand 2: every accepted query after a list of calls is answered in terms of the clauses that the list keeps
+abbrev pub CtDemand2 : Type 0
+CtDemand2 =
+    (T : List ℕ) (xs : List Made) → CtRun T xs → (d W ts : List ℕ) → Askable d W ts → (b : ℕ)
+    → CtAnswers (ctBook T xs) d b W ts (ctQuery (ctTree T xs) d b W ts)
+
+-- on two trees ct_query returns the same and writes the same words, into whatever witnesses and told words
+pub record CtSame (S T d : List ℕ) (b : ℕ) : Type 0 where
+  pub number : ℕ
+  pub values : List ℕ
+  pub words : List (Option ℕ)
+  pub one : (U ts : List ℕ) → witnessWords ≤ length U → ctQuery S d b U ts ≡ record { number = number; words = written words U; told = toldBy values ts }
+  pub other : (U ts : List ℕ) → witnessWords ≤ length U → ctQuery T d b U ts ≡ record { number = number; words = written words U; told = toldBy values ts }
+
+-- on a tree a clause is said to be covered at the full budget
+abbrev pub CtCovered : (tree clause witness told : List ℕ) → Type 0
+CtCovered T d W ts = (c : ℕ) × SaysCovered (ctQuery T d fullBudget W ts) ts c
+
+-- two lists of calls
+pub record CtTogether (S : List ℕ) (xs : List Made) (T : List ℕ) (ys : List Made) : Type 0 where
+  -- at the full budget they agree on every accepted query exactly if each clause kept by either is subsumed by one kept by the other
+  pub agree :
+      ((d : List ℕ) → Words d → (U ts W us : List ℕ) → Askable d U ts → Askable d W us → CtCovered (ctTree S xs) d U ts ↔ CtCovered (ctTree T ys) d W us)
+      ↔ (Under (ctBook S xs) (ctBook T ys) × Under (ctBook T ys) (ctBook S xs))
+  -- with the same clauses up to variable names under the same numbers, every answer is the same at every budget
+  pub same : Renamed (ctBook S xs) (ctBook T ys) → Renamed (ctBook T ys) (ctBook S xs)
+      → (d : List ℕ) → Accepted d → (b : ℕ) → CtSame (ctTree S xs) (ctTree T ys) d b
+
+-- Demand 3
+abbrev pub CtDemand3 : Type 0
+CtDemand3 = (S : List ℕ) (xs : List Made) (T : List ℕ) (ys : List Made) → CtRun S xs → CtRun T ys → CtTogether S xs T ys
+
+-- ---- nothing is lost on the way out
+
+-- two different answers of a function differ in the number returned or, with three told words or more, in the told words
+pub record ToldApart : Type 0 where
+  pub freshened : (T U : List ℕ) → ctFresh T .number ≡ ctFresh U .number → fresh T .answer ≡ fresh U .answer
+  pub inserted :
+      (T c : List ℕ) (n : ℕ) (ts U e : List ℕ) (m : ℕ) (us : List ℕ) → 3 ≤ length ts → 3 ≤ length us
+      → ctInsert T c n ts .number ≡ ctInsert U e m us .number → ctInsert T c n ts .told ≡ ctInsert U e m us .told
+      → insertion T c n .answer ≡ insertion U e m .answer
+  pub removed : (T : List ℕ) (n : ℕ) (U : List ℕ) (m : ℕ) → ctRemove T n .number ≡ ctRemove U m .number → removal T n .answer ≡ removal U m .answer
+  pub asked :
+      (T d : List ℕ) (b : ℕ) (X ts U e : List ℕ) (a : ℕ) (W us : List ℕ) → 3 ≤ length ts → 3 ≤ length us
+      → ctQuery T d b X ts .number ≡ ctQuery U e a W us .number → ctQuery T d b X ts .told ≡ ctQuery U e a W us .told
+      → query T d b X .answer ≡ query U e a W .answer
+  pub bounded :
+      (k q m : ℕ) (ts : List ℕ) (l r n : ℕ) (us : List ℕ) → 3 ≤ length ts → 3 ≤ length us
+      → ctCeiling k q m ts .number ≡ ctCeiling l r n us .number → ctCeiling k q m ts .told ≡ ctCeiling l r n us .told
+      → ceilingCall k q m ≡ ceilingCall l r n
