@@ -22,7 +22,7 @@ use Rattle.tree.specs.Calls.{Called, insertion}
 use Rattle.tree.specs.inner.ByWords.{insertByWords}
 use Rattle.merging.specs.inner.Inserting.{Mergeable}
 use Rattle.tree.specs.declared.Refusal.{Refusal}
-use Rattle.tree.specs.declared.Refusal.the-variants.{BadSlice}
+use Rattle.tree.specs.declared.Refusal.the-variants.{BadSlice, NumberTaken}
 use Rattle.tree.specs.declared.CallAnswer.{CallAnswer}
 use Rattle.tree.specs.declared.CallAnswer.the-variants as call
 use Rattle.tree.proofs.Plain.{plain-body}
@@ -66,10 +66,10 @@ module _ {S K c : List ℕ} {n : ℕ} (g : Insertable S K c n) where
       let z : getD K n 0 ≡ 0 = omega arith in
       number-free S (steady-sized (g .steady)) (g .steady .laid) n (omega (arith, g .number)) (g .steady .free n (g .number) z)
 
-  pub keep-marked : 0 < getD K n 0 → CameOut (inserted (insertion S c n)) n K (Refused 7) S K
-  keep-marked m =
+  pub keep-marked : {code : ℕ} → 0 < getD K n 0 → code ≡ codeOf NumberTaken → CameOut (inserted (insertion S c n)) n K (Refused code) S K
+  keep-marked m p =
       let e = number-taken (g .steady) c n (g .accepts .0) (g .accepts .1) (g .words) (g .number) (λ z. omega arith) in
-      record { answer = rw e; marking = refl; steady = g .steady }
+      record { answer = rw (e, p); marking = refl; steady = g .steady }
 
   -- the keys are those of the clause, and they are inserted under a number that is not marked
   module _ {ks R : List ℕ} {r : CallAnswer} (m : getD K n 0 ≤ 0) (e : ks ≡ keys c)

@@ -98,16 +98,21 @@ module _ {S K : List ℕ} (h : Steady S K) where
 
       kept : Steady (layout (length S) (ins (keys c) n (decode S))) (set K n 1)
       kept =
+          let more = ins-leaves (keys c) n (decode S) body (omega arith) in
+          let back = decode-layout (length S) (ins (keys c) n (decode S)) (omega (arith, h .slice-words)) in
           record {
             slice-words = length-layout (length S) (ins (keys c) n (decode S)) room ∙ h .slice-words;
-            laid = laid-layout (length S) (ins (keys c) n (decode S)) room (omega (arith, h .slice-words)) (formed .0) (omega (arith, ins-leaves (keys c) n (decode S) body (omega arith)));
+            laid = laid-layout (length S) (ins (keys c) n (decode S)) room (omega (arith, h .slice-words)) (formed .0) (omega (arith, more));
             numbers = simp length-set (h .numbers);
-            free = λ m k v. rw (decode-layout (length S) (ins (keys c) n (decode S)) (omega (arith, h .slice-words))) (frees m k v (ℕ-discrete m n));
-            taken = λ m k v. takes m k (rw (decode-layout (length S) (ins (keys c) n (decode S)) (omega (arith, h .slice-words))) at v) (ℕ-discrete m n);
+            free = λ m k v. rw back (frees m k v (ℕ-discrete m n));
+            taken = λ m k v. takes m k (rw back at v) (ℕ-discrete m n);
           }
         where
           frees : (m : ℕ) → m < numberCount → getD (set K n 1) m 0 ≡ 0 → Dec (m ≡ n) → find m (ins (keys c) n (decode S)) ≡ none
-          frees m k v (yes d) = absurd (let z : getD (set K n 1) n 0 ≡ 1 = getD-set-same K n 1 0 (omega (arith, h .numbers)) in let y : getD (set K n 1) n 0 ≡ 0 = rw d at v in omega arith)
+          frees m k v (yes d) =
+              let z : getD (set K n 1) n 0 ≡ 1 = getD-set-same K n 1 0 (omega (arith, h .numbers)) in
+              let y : getD (set K n 1) n 0 ≡ 0 = rw d at v in
+              absurd (omega arith)
           frees m k v (no d) = other m k d .0 (h .free m k (sym (getD-set-other K n m 1 0 d) ∙ v))
 
           takes : (m : ℕ) → m < numberCount → find m (ins (keys c) n (decode S)) ≡ none → Dec (m ≡ n) → getD (set K n 1) m 0 ≡ 0
@@ -128,7 +133,9 @@ module _ {S K : List ℕ} (h : Steady S K) where
         go none v true p t r = rw (absent, v, p, insertInto) (refusing ListFull)
         go none v false p true r = rw (absent, v, p, r, insertInto) (refusing NoRoom)
         go none v false p false r =
-            rw (absent, v, p, r, insertInto) (keeping (kept (paths .free (keys c) .0 v) (leb-false maxKept (leaves (decode S)) p) (leb-false (length S) (size (ins (keys c) n (decode S))) r)))
+            let few = leb-false maxKept (leaves (decode S)) p in
+            let room = leb-false (length S) (size (ins (keys c) n (decode S))) r in
+            rw (absent, v, p, r, insertInto) (keeping (kept (paths .free (keys c) .0 v) few room))
 
 -- the fresh slice, and no marks
 pub steady-fresh : Steady (replicate treeWords 0) (replicate numberCount 0)

@@ -6,6 +6,7 @@ use machine::Sequence;
 use query::query;
 use record::Outcome;
 use tree::CallAnswer;
+use tree::Refusal;
 use tree::Tree;
 use walk::QueryAnswer;
 use walk::Witness;
@@ -25,7 +26,7 @@ fn keep(tree: &mut [u64], marks: &mut [u8], keys: &mut [u64], words: &[u16], num
 {
     let mark = number as usize;
     if marks[mark] > 0 {
-        return Outcome::Refused(7);
+        return Outcome::Refused(Refusal::NumberTaken.code());
     }
     let count = compile(words, keys);
     let answer = insert_new(tree, &keys[..count], number as u32);

@@ -7,7 +7,7 @@ use lib.ListN.{length, take, drop, length-take}
 use lib.Seq.{take-add, take-take, take-all}
 use Rattle.record.specs.Text.{Written, putAt}
 use Rattle.record.specs.Line.{longestLine, lineOf}
-use Rattle.record.specs.Output.{counted}
+use Rattle.record.specs.Output.{fieldOf, counted}
 use Rattle.record.specs.declared.Outcome.{Outcome}
 use Rattle.record.specs.declared.Outcome.the-variants.{Kept, Struck, Refused}
 use Rattle.record.specs.declared.Totals.{Totals}
@@ -69,7 +69,7 @@ few-next (Ends x) t m = omega (arith, counted-one (finishing (x .number) (x .cou
 few-records : (h : Half) (g : Stage) (t : Totals) (m : Store) (b : ℕ) → recordsIn (takeAs h g t m b .session .totals) ≤ recordsIn t + 1
 unfolding takeField
 few-records Even g t m b = few-next (Reads (Odd b) g) t m
-few-records (Odd a) g t m b = few-next (advanced g (a * 256 + b)) t (storeOf (stored g (m .words) (a * 256 + b)) (m .slice) (m .marks))
+few-records (Odd a) g t m b = few-next (advanced g (fieldOf a b)) t (storeOf (stored g (m .words) (fieldOf a b)) (m .slice) (m .marks))
 
 -- ---- some bytes after others
 

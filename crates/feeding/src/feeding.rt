@@ -2,6 +2,7 @@
 use crate::Turn;
 use answering::answer;
 use clause::Clause;
+use clause::Fault;
 use intake::Half;
 use intake::Head;
 use intake::Next;
@@ -12,6 +13,7 @@ use lines::put_line;
 use machine::Sequence;
 use record::Outcome;
 use record::Totals;
+use tree::Refusal;
 ghost use mathlib.Core.Path.{_≡_};
 ghost use Prim.Native.Nat.{_+_, _^_, _<_};
 ghost use lib.ListN.{length};
@@ -60,7 +62,7 @@ fn outcome_of(
 {
     let end = head.count as usize;
     if end > Clause::WORDS {
-        return Outcome::Refused(3);
+        return Outcome::Refused(Refusal::BadClause(Fault::BadLength).code());
     }
     answer(tree, marks, keys, &words[..end], head.number)
 }

@@ -5,6 +5,7 @@ use Prim.Native.Nat.{ℕ, _+_, _*_, _≤_, _<_}
 use native.Mathlib.Omega.{arith}
 use lib.ListN.{length, take, getD, set}
 use borrow.Author.Tests.{lt-ltb, le-ltb, eq-eqb, ne-eqb}
+use Rattle.record.specs.Output.{fieldOf}
 use Rattle.record.specs.declared.Totals.{Totals}
 use Rattle.intake.specs.Feed.{Store, storeOf, Fed, recordEnded, advanced, stored, proceeding, takeField, takeAs, takeByte, feedThen, feed}
 use Rattle.intake.specs.declared.Half.{Half}
@@ -70,7 +71,7 @@ feed-one (b ∷ input) s m h = rw append-nil
 pub first-byte : (s : Session) (m : Store) (b : ℕ) {x : Next} → s .half ≡ Even → x ≡ Reads (Odd b) (s .stage) → takeByte s m b ≡ proceeding x (s .totals) m
 first-byte s m b e f = ap (λ (x : Half). takeAs x (s .stage) (s .totals) m b) e ∙ ap (λ (x : Next). proceeding x (s .totals) m) (sym f)
 
-pub second-byte : (s : Session) (m : Store) (b a : ℕ) {w : ℕ} {ws : List ℕ} {x : Next} → s .half ≡ Odd a → w ≡ a * 256 + b → ws ≡ stored (s .stage) (m .words) w
+pub second-byte : (s : Session) (m : Store) (b a : ℕ) {w : ℕ} {ws : List ℕ} {x : Next} → s .half ≡ Odd a → w ≡ fieldOf a b → ws ≡ stored (s .stage) (m .words) w
     → x ≡ advanced (s .stage) w → takeByte s m b ≡ proceeding x (s .totals) (storeOf ws (m .slice) (m .marks))
 unfolding takeField
 second-byte s m b a e f g h = ap (λ (x : Half). takeAs x (s .stage) (s .totals) m b) e ∙ rw (h, g, f)

@@ -28,7 +28,7 @@ use Rattle.walk.specs.Query.{witnessWords, query}
 use Rattle.book.specs.Book.{after}
 use Rattle.record.specs.Line.{lineOf, totalsLine}
 use Rattle.record.specs.Answer.{treeWords, budget, Record, Answered, answerAs, answerTo}
-use Rattle.record.specs.Output.{fields, recordsFor, recordsOf, rowOn, rowsFrom, freshSlice, rowsOf, rowCalls, linesOf, counted, totalsWith, none, outputOf}
+use Rattle.record.specs.Output.{fieldOf, fields, recordsFor, recordsOf, rowOn, rowsFrom, freshSlice, rowsOf, rowCalls, linesOf, counted, totalsWith, none, outputOf}
 use Rattle.record.specs.Marks.{marked}
 use Rattle.intake.specs.Feed.{Store, Fed, finishing, recordEnded, takeField, feedThen, feed, firstSession, firstStore, WholeInput}
 use Rattle.record.proofs.Rows.{slice-more}
@@ -60,9 +60,9 @@ unfolding feed feedFields
 by-fields [] g t m = refl
 by-fields (a ∷ []) g t m = refl
 by-fields (a ∷ b ∷ bs) g t m =
-    let f : Fed = takeField g t m (a * 256 + b) in
+    let f : Fed = takeField g t m (fieldOf a b) in
     ap (λ (p : Prints). record { text = f .text ++ p .text; totals = p .totals; slice = p .slice })
-    (ap (λ (s : Session). shows (feed s (f .store) bs)) (even-after g t m (a * 256 + b)) ∙ by-fields bs (f .session .stage) (f .session .totals) (f .store))
+    (ap (λ (s : Session). shows (feed s (f .store) bs)) (even-after g t m (fieldOf a b)) ∙ by-fields bs (f .session .stage) (f .session .totals) (f .store))
 
 -- ---- the words of a record, one after another
 
@@ -192,9 +192,11 @@ next-record f n (suc k) ws t m w s rest =
     go : Dec (suc k ≤ length ws) → shows (feedFields (AtWord n (suc k) 0) t m ws) ≡ told t (m .slice) (recordsFrom f n (suc k) ws)
     go (yes h) =
         let e : suc k - 0 ≡ suc k = omega arith in
+        let xs : List Record = recordsFor f (drop (suc k) ws) in
+        let l = length-sets (m .words) 0 (take (suc k) ws) ∙ w in
         ap shows (collect ws n (suc k) 0 t m (omega arith) (omega arith))
         ∙ ap (λ (i : ℕ). shows (feedThen (recordEnded n (suc k) t (filling m 0 (take i ws))) (λ s′ m′. feedFields (s′ .stage) (s′ .totals) m′ (drop i ws)))) e
-        ∙ one-record n (suc k) ws t (filling m 0 (take (suc k) ws)) (recordsFor f (drop (suc k) ws)) (drop (suc k) ws) (length-sets (m .words) 0 (take (suc k) ws) ∙ w) s h (stored (suc k) (m .words) ws w h) rest
+        ∙ one-record n (suc k) ws t (filling m 0 (take (suc k) ws)) xs (drop (suc k) ws) l s h (stored (suc k) (m .words) ws w h) rest
         ∙ ap (λ (xs : List Record). told t (m .slice) xs) (sym (from-there f n (suc k) ws h))
     go (no h) =
         cut ws n (suc k) 0 t m (omega arith) ∙ ap (λ (xs : List Record). told t (m .slice) xs) (sym (from-missing f n (suc k) ws (omega arith)))

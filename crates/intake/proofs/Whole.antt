@@ -9,7 +9,7 @@ use native.Mathlib.Numerals.{add-one}
 use lib.Dec.{ltb, eqb}
 use lib.ListN.{length, take, drop, getD, set, drop-of-length-le}
 use lib.Seq.{sets, take-all, take-take, drop-cons, length-take-le}
-use Rattle.record.specs.Output.{fields}
+use Rattle.record.specs.Output.{fieldOf, fields}
 use Rattle.intake.specs.Feed.{Store, Fed, storeOf, recordEnded, proceeding, takeField, feedThen, feed}
 use Rattle.intake.specs.inner.Steps.{WholeRecord, Stepped}
 use Rattle.intake.proofs.Bytes.{storing, at-count, at-empty, at-word, at-last}
@@ -85,9 +85,9 @@ unfolding feed feedFields
 feed-fields [] k g t m h = refl
 feed-fields (a ∷ []) k g t m h = absurd (omega arith)
 feed-fields (a ∷ b ∷ bs) k g t m h =
-    let f : Fed = takeField g t m (a * 256 + b) in
+    let f : Fed = takeField g t m (fieldOf a b) in
     ap (λ (x : Fed). record { session = x .session; store = x .store; text = f .text ++ x .text })
-    (ap (λ (s : Session). feed s (f .store) bs) (even-after g t m (a * 256 + b)) ∙ feed-fields bs (k - 1) (f .session .stage) (f .session .totals) (f .store) (omega arith))
+    (ap (λ (s : Session). feed s (f .store) bs) (even-after g t m (fieldOf a b)) ∙ feed-fields bs (k - 1) (f .session .stage) (f .session .totals) (f .store) (omega arith))
 
 length-fields : (bs : List ℕ) (k : ℕ) → length bs ≡ k * 2 → length (fields bs) ≡ k
 length-fields [] k h = omega arith
@@ -113,7 +113,7 @@ fields-record (suc k) n ws t m h =
 -- the bytes of a whole record
 pub whole-record : (s : Session) (input : List ℕ) (count : ℕ) (m : Store) → WholeRecord s input count
     → feed s m (take (4 + count * 2) input)
-    ≡ recordEnded (getD input 0 0 * 256 + getD input 1 0) count (s .totals) (filling m 0 (fields (take (count * 2) (drop 4 input))))
+    ≡ recordEnded (fieldOf (getD input 0 0) (getD input 1 0)) count (s .totals) (filling m 0 (fields (take (count * 2) (drop 4 input))))
 whole-record s [] count m w = absurd (omega (arith, w .inside))
 whole-record s (a ∷ []) count m w = absurd (omega (arith, w .inside))
 whole-record s (a ∷ b ∷ []) count m w = absurd (omega (arith, w .inside))
@@ -125,17 +125,17 @@ whole-record s (a ∷ b ∷ c ∷ d ∷ bs) count m w =
     ap (λ (k : ℕ). feed s m (take k (a ∷ b ∷ c ∷ d ∷ bs))) e
     ∙ ap₂ (λ (h : Half) (g : Stage). feed (record { half = h; stage = g; totals = s .totals }) m (a ∷ b ∷ c ∷ d ∷ ws)) (w .half) (w .stage)
     ∙ feed-fields (a ∷ b ∷ c ∷ d ∷ ws) (2 + count) AtNumber (s .totals) m (omega arith)
-    ∙ ap (λ (k : ℕ). feedFields AtNumber (s .totals) m ((a * 256 + b) ∷ k ∷ fields ws)) (sym (w .counts))
-    ∙ fields-record count (a * 256 + b) (fields ws) (s .totals) m (length-fields ws count l)
+    ∙ ap (λ (k : ℕ). feedFields AtNumber (s .totals) m ((fieldOf a b) ∷ k ∷ fields ws)) (sym (w .counts))
+    ∙ fields-record count (fieldOf a b) (fields ws) (s .totals) m (length-fields ws count l)
 
 -- a whole record that was read
 pub record-read : (s : Session) (input words : List ℕ) (count : ℕ) {n c : ℕ} {ws : List ℕ} → WholeRecord s input count
-    → n ≡ getD input 0 0 * 256 + getD input 1 0
+    → n ≡ fieldOf (getD input 0 0) (getD input 1 0)
     → c ≡ count
     → ws ≡ sets words 0 (fields (take (count * 2) (take (length input - 4) (drop 4 input))))
     → Stepped s input words (record { taken = 4 + count * 2; next = Ends (record { number = n; count = c }) }) ws
 record-read s input words count w en ec ew =
-    let e : take (count * 2) (take (length input - 4) (drop 4 input)) ≡ take (count * 2) (drop 4 input) = take-take (count * 2) (length input - 4) (drop 4 input) (omega (arith, w .inside)) in
+    let e = take-take (count * 2) (length input - 4) (drop 4 input) (omega (arith, w .inside)) in
     record { some = omega arith; inside = w .inside; feeds = λ T K. whole-record s input count (storeOf words T K) w ∙ rw (en, ec, ew, e) }
 
 -- ---- the words, one after another
@@ -143,12 +143,13 @@ record-read s input words count w en ec ew =
 -- the words from one on are stored: the first of them, and then the others
 pub read-more : (input words : List ℕ) (at i count : ℕ) → at + 1 < length input → i < count
     → sets words i (fields (take ((count - i) * 2) (drop at input)))
-    ≡ sets (set words i (getD input at 0 * 256 + getD input (at + 1) 0)) (i + 1) (fields (take ((count - (i + 1)) * 2) (drop (at + 2) input)))
+    ≡ sets (set words i (fieldOf (getD input at 0) (getD input (at + 1) 0))) (i + 1) (fields (take ((count - (i + 1)) * 2) (drop (at + 2) input)))
 read-more input words at i count h l =
     let e : (count - i) * 2 ≡ suc (suc ((count - (i + 1)) * 2)) = omega arith in
     let f : at + 2 ≡ suc (suc at) = omega arith in
     let g : at + 1 ≡ suc at = omega arith in
-    let d : drop at input ≡ getD input at 0 ∷ getD input (suc at) 0 ∷ drop (suc (suc at)) input = drop-cons input at 0 (omega arith) ∙ ap (λ (l : List ℕ). getD input at 0 ∷ l) (drop-cons input (suc at) 0 (omega arith)) in
+    let d : drop at input ≡ getD input at 0 ∷ getD input (suc at) 0 ∷ drop (suc (suc at)) input =
+    drop-cons input at 0 (omega arith) ∙ ap (λ (l : List ℕ). getD input at 0 ∷ l) (drop-cons input (suc at) 0 (omega arith)) in
     rw (e, f, g, d, add-one)
 
 -- none is left

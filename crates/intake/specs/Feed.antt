@@ -10,7 +10,7 @@ use Rattle.book.specs.Book.{sliceOf}
 use Rattle.record.specs.Line.{lineOf, totalsLine}
 use Rattle.record.specs.Answer.{treeWords, Answered, answerTo}
 use Rattle.record.specs.Marks.{numberCount, marked}
-use Rattle.record.specs.Output.{counted, freshSlice, rowsOf, rowCalls, outputOf}
+use Rattle.record.specs.Output.{fieldOf, counted, freshSlice, rowsOf, rowCalls, outputOf}
 use Rattle.record.specs.Output as output
 use Rattle.record.specs.Sheet.{Sheets, NoStrikeIsWrong}
 use Rattle.record.specs.declared.Outcome.the-variants.{Refused}
@@ -80,7 +80,7 @@ takeField g t m w = proceeding (advanced g w) t (storeOf (stored g (m .words) w)
 -- one more byte: the first or the second of a field
 abbrev pub takeAs : Half → Stage → Totals → Store → (byte : ℕ) → Fed
 takeAs Even g t m b = proceeding (Reads (Odd b) g) t m
-takeAs (Odd a) g t m b = takeField g t m (a * 256 + b)
+takeAs (Odd a) g t m b = takeField g t m (fieldOf a b)
 
 -- one more byte
 abbrev pub takeByte : Session → Store → (byte : ℕ) → Fed

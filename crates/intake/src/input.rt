@@ -1,4 +1,6 @@
 // The input's fields, and the records that they make.
+use crate::Ahead;
+use crate::Field;
 use crate::Half;
 use crate::Head;
 use crate::Next;
@@ -13,9 +15,10 @@ ghost use Prim.Native.Nat.{ℕ, _+_, _*_, _≤_, _<_};
 ghost use lib.ListN.{length, take, getD};
 ghost use lib.Seq.{sets};
 ghost use Rattle.clause.specs.Clause.{maxWords};
-ghost use Rattle.record.specs.Output.{fields};
+ghost use Rattle.record.specs.Output.{fieldOf, fields};
 ghost use Rattle.intake.specs.Feed.{storeOf, advanced, stored, proceeding, takeByte, firstSession};
 ghost use Rattle.intake.specs.inner.Steps.{WholeRecord, Stepped};
+ghost use Rattle.intake.specs.declared.Ahead.the-variants.{Whole};
 
 // The session before the first byte.
 pub fn begin() -> Session
@@ -74,9 +77,9 @@ fn store(stage: Stage, field: u16, words: &mut [u16])
 
 // The field of two bytes, the most significant first.
 fn field_of(high: u8, low: u8) -> u16
-    ensures { λ r. ⌜ r ≡ high * 256 + low ⌝ }
+    ensures { λ r. ⌜ r ≡ fieldOf high low ⌝ }
 {
-    high as u16 * 256 + low as u16
+    high as u16 * Field::BYTE + low as u16
 }
 
 // Reads one more byte.
@@ -99,36 +102,35 @@ fn read_byte(session: Session, byte: u8, words: &mut [u16]) -> Next
 // The field at a place of the input.
 fn field_at(input: &[u8], at: usize) -> u16
     requires { ⌜ at + 1 < length (now input) ⌝ }
-    ensures { λ r. ⌜ r ≡ getD (now (input .entry)) at 0 * 256 + getD (now (input .entry)) (at + 1) 0 ⌝ }
+    ensures { λ r. ⌜ r ≡ fieldOf (getD (now (input .entry)) at 0) (getD (now (input .entry)) (at + 1) 0) ⌝ }
 {
     let next = at + 1;
     field_of(input[at], input[next])
 }
 
-// How many words the record has that the input begins with; 65 where it does not begin with a record, where not all of the record is there,
-// or where the record has more than 64 words.
-fn words_ahead(input: &[u8], session: Session) -> usize
-    ensures { λ r. ⌜ (r ≤ maxWords → WholeRecord session (now (input .entry)) r) ⌝ }
+// Whether the input begins with a whole record, and how many words it has. One of more than 64 words is taken byte by byte.
+fn look_ahead(input: &[u8], session: Session) -> Ahead
+    ensures { λ r. ⌜ ((count : ℕ) → r ≡ Whole count → WholeRecord session (now (input .entry)) count) ⌝ }
 {
     let half = session.half;
     let stage = session.stage;
     let Half::Even = half else {
-        return 65;
+        return Ahead::Bytes;
     };
     let Stage::AtNumber = stage else {
-        return 65;
+        return Ahead::Bytes;
     };
-    if input.len() < 4 {
-        return 65;
+    if input.len() < Head::BYTES {
+        return Ahead::Bytes;
     }
-    let count = field_at(input, 2) as usize;
+    let count = field_at(input, Field::BYTES) as usize;
     if count > Clause::WORDS {
-        return 65;
+        return Ahead::Bytes;
     }
-    if input.len() - 4 < count * 2 {
-        return 65;
+    if input.len() - Head::BYTES < count * Field::BYTES {
+        return Ahead::Bytes;
     }
-    count
+    Ahead::Whole(count)
 }
 
 // Reads the words that the input begins with.
@@ -141,7 +143,7 @@ fn read_words(input: &[u8], words: &mut [u16], count: usize)
     while i < count {
         words[i] = field_at(input, at);
         i += 1;
-        at += 2;
+        at += Field::BYTES;
     }
 }
 
@@ -150,18 +152,18 @@ pub fn read_some(input: &[u8], session: Session, words: &mut [u16]) -> Step
     requires { ⌜ (0 < length (now input)) × (length (now words) ≡ maxWords) ⌝ }
     ensures { λ r. ⌜ Stepped session (now (input .entry)) (now (words .entry)) r (now (words .exit)) ⌝ }
 {
-    let count = words_ahead(input, session);
-    if count > Clause::WORDS {
+    let ahead = look_ahead(input, session);
+    let Ahead::Whole(count) = ahead else {
         let next = read_byte(session, input[0], words);
         return Step {
             taken: 1,
             next: next,
         };
-    }
+    };
     let number = field_at(input, 0);
-    read_words(&input[4..], words, count);
+    read_words(&input[Head::BYTES..], words, count);
     Step {
-        taken: 4 + count * 2,
+        taken: Head::BYTES + count * Field::BYTES,
         next: Next::Ends(Head {
             number: number,
             count: count as u16,

@@ -6,6 +6,16 @@ mod input;
 pub use input::begin;
 pub use input::read_some;
 
+// A field of the input: 16 bits.
+struct Field {}
+
+impl Field {
+    // Its bytes.
+    const BYTES: usize = 2;
+    // How many values a byte has.
+    const BYTE: u16 = 256;
+}
+
 // Whether the next byte is the first of a field, or the second, with the first.
 pub enum Half {
     Even,
@@ -30,6 +40,17 @@ pub struct Session {
 pub struct Head {
     pub number: u16,
     pub count: u16,
+}
+
+impl Head {
+    // Its bytes: two fields.
+    const BYTES: usize = 2 * Field::BYTES;
+}
+
+// What the input begins with: a whole record of so many words, or bytes that are taken one by one.
+enum Ahead {
+    Whole(usize),
+    Bytes,
 }
 
 // What some more of the input leads to: the reading goes on, or a record is whole.

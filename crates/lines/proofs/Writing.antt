@@ -10,6 +10,7 @@ use lib.ListN.{length, take, drop, getD, length-append, set}
 use lib.Seq.{sets, sets-eq, set-comm, length-sets, take-suc, take-at, length-take-le}
 use borrow.Author.Tests.{lt-ltb, le-ltb}
 use Rattle.record.specs.Text.{digitsFor, decimal, Written, putAt}
+use Rattle.record.specs.Line.{named}
 
 -- one digit, or the digits before the last one and the last one
 digits-small : (f n : ℕ) → n < 10 → digitsFor (suc f) n ≡ (48 + n) ∷ []
@@ -127,3 +128,8 @@ decimal-length (suc k) n h = go (decLt n 10) (decimal-length k (n / 10))
     go : Dec (n < 10) → (n / 10 < 10 ^ suc k → length (decimal (n / 10)) ≤ suc k) → length (decimal n) ≤ suc (suc k)
     go (yes s) ih = omega (arith, length-small n s)
     go (no s) ih = omega (arith, length-large n (omega arith), ih (omega arith))
+
+-- some text and a number of at most k + 1 digits after it: how far on the place after them is, and the output's length
+pub named-put : (t : List ℕ) (k n : ℕ) → n < 10 ^ suc k → (o : List ℕ) (at : ℕ) {r : ℕ} {p : List ℕ}
+    → _≡_ {A = Written} (record { next = r; output = p }) (putAt (named t n) o at) → (r ≤ at + length t + suc k) × (length p ≡ length o)
+named-put t k n h o at e = let q = placed (named t n) o at e in (omega (arith, length-append t (decimal n), decimal-length k n h, q .0), q .1)

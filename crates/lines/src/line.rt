@@ -10,7 +10,7 @@ ghost use lib.ListN.{length};
 ghost use Rattle.record.specs.Text.{putAt};
 ghost use Rattle.record.specs.Line.{longestSaying, longestLine, longestLast, saying, lineOf, totalsLine};
 
-// Puts what became of a record at a place of the output, and gives the place after it. It takes at most 39 bytes.
+// Puts what became of a record at a place of the output, and gives the place after it. It takes at most `longestSaying` bytes.
 fn put_outcome(output: &mut [u8], at: usize, outcome: Outcome) -> usize
     requires { ⌜ at + longestSaying ≤ length (now output) ⌝ }
     ensures text { λ r. ⌜ record { next = r; output = now (output .exit) } ≡ putAt (saying outcome) (now (output .entry)) at ⌝ }
@@ -26,7 +26,7 @@ fn put_outcome(output: &mut [u8], at: usize, outcome: Outcome) -> usize
     }
 }
 
-// Puts the line of a record at a place of the output, and gives the place after it. A line takes at most 45 bytes.
+// Puts the line of a record at a place of the output, and gives the place after it. It takes at most `longestLine` bytes.
 pub fn put_line(output: &mut [u8], at: usize, number: u16, outcome: Outcome) -> usize
     requires { ⌜ at + longestLine ≤ length (now output) ⌝ }
     ensures text { λ r. ⌜ record { next = r; output = now (output .exit) } ≡ putAt (lineOf number outcome) (now (output .entry)) at ⌝ }
@@ -37,7 +37,7 @@ pub fn put_line(output: &mut [u8], at: usize, number: u16, outcome: Outcome) -> 
     put_text(output, end, b"\n")
 }
 
-// Puts the last line at a place of the output, and gives the place after it. It takes at most 83 bytes.
+// Puts the last line at a place of the output, and gives the place after it. It takes at most `longestLast` bytes.
 pub fn put_totals(output: &mut [u8], at: usize, totals: Totals) -> usize
     requires { ⌜ at + longestLast ≤ length (now output) ⌝ }
     ensures text { λ r. ⌜ record { next = r; output = now (output .exit) } ≡ putAt (totalsLine totals) (now (output .entry)) at ⌝ }

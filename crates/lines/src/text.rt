@@ -27,11 +27,11 @@ pub(crate) fn put_decimal(output: &mut [u8], at: usize, number: u64) -> usize
     let mut left = number;
     let mut last = end - 1;
     while left >= 10 {
-        output[last] = 48 + (left % 10) as u8;
+        output[last] = b'0' + (left % 10) as u8;
         left /= 10;
         last -= 1;
     }
-    output[last] = 48 + left as u8;
+    output[last] = b'0' + left as u8;
     end
 }
 

@@ -33,10 +33,12 @@ whole-first : (n count : ℕ) (ws : List ℕ) (xs : List Record) → count ≤ l
     → Complete (record { number = n; words = take count ws } ∷ xs) (n ∷ count ∷ ws)
 whole-first n count ws xs h c =
     let l : length (take count ws) ≡ count = length-take-le count ws h in
+    let split =
+    sym (take-append-drop count ws) ∙ ap (λ (t : List ℕ). take count ws ++ t) (c .whole)
+    ∙ sym (append-assoc (take count ws) (allFields xs) (c .rest)) in
     record {
       rest = c .rest;
-      whole = rw l
-          (ap (λ (t : List ℕ). n ∷ count ∷ t) (sym (take-append-drop count ws) ∙ ap (λ (t : List ℕ). take count ws ++ t) (c .whole) ∙ sym (append-assoc (take count ws) (allFields xs) (c .rest))));
+      whole = rw l (ap (λ (t : List ℕ). n ∷ count ∷ t) split);
       cut = c .cut;
     }
 

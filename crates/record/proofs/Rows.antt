@@ -1,7 +1,8 @@
 -- The rows of some records: the slice and the book go from row to row by the calls.
 use mathlib.Core.Path.{_≡_, refl, sym, ap, subst, _∙_}
 use mathlib.Core.Logic.{_⊎_, inl, inr}
-use mathlib.Core.List.{List, [], _∷_, _++_, map, append-assoc, List·Memᴰ, List·Memᴰ·head, List·Memᴰ·tail, Memᴰ·append-left, Memᴰ·append-right, List·Memᴰ·append-cases, List·Memᴰ·eq-of-singleton}
+use mathlib.Core.List.{List, [], _∷_, _++_, map, append-assoc}
+use mathlib.Core.List.{List·Memᴰ, List·Memᴰ·head, List·Memᴰ·tail, Memᴰ·append-left, Memᴰ·append-right, List·Memᴰ·append-cases, List·Memᴰ·eq-of-singleton}
 use Prim.Native.Nat.{ℕ, _+_}
 use native.Mathlib.Omega.{arith}
 use lib.ListN.{length}
@@ -44,7 +45,8 @@ pub record Standing (K : List Pair) (T : List ℕ) : Type 0 where
 
 standing-step : (K : List Pair) (x : Call) (T : List ℕ) → Standing K T → Steps treeWords K (treeOf K) x → Standing (bookStep treeWords K x) (call T x .slice)
 standing-step K x T s t =
-    record { holds = rw (holds-tree (t .holds)) (t .holds); slice = ap (λ (U : List ℕ). call U x .slice) (s .slice) ∙ t .slice ∙ ap (layout treeWords) (sym (holds-tree (t .holds))) }
+    let e = holds-tree (t .holds) in
+    record { holds = rw e (t .holds); slice = ap (λ (U : List ℕ). call U x .slice) (s .slice) ∙ t .slice ∙ ap (layout treeWords) (sym e) }
 
 pub standing-after : (xs : List Call) (K : List Pair) (T : List ℕ) → Standing K T → AllFit xs → Standing (bookFrom treeWords K xs) (after T xs)
 standing-after [] K T s f = s
@@ -132,7 +134,8 @@ fate-book (keeps t) = refl
 pub kept-book : {K : List Pair} {rs : List Row} → Fated K rs → bookFrom treeWords K (rowCalls rs) ≡ keptPairs rs ++ K
 kept-book fated-none = refl
 kept-book {K} (fated-more {r = r} {rs = rs} e f) =
-    book-append K (r .calls) (rowCalls rs) ∙ kept-book f ∙ ap (λ (l : List Pair). keptPairs rs ++ l) (fate-book e) ∙ sym (append-assoc (keptPairs rs) (keptOn (r .outcome) (r .of)) K)
+    book-append K (r .calls) (rowCalls rs) ∙ kept-book f ∙ ap (λ (l : List Pair). keptPairs rs ++ l) (fate-book e)
+    ∙ sym (append-assoc (keptPairs rs) (keptOn (r .outcome) (r .of)) K)
 
 -- what was in the book stays in it
 stays : {K : List Pair} {rs : List Row} {p : Pair} → Fated K rs → List·Memᴰ p K → List·Memᴰ p (bookFrom treeWords K (rowCalls rs))

@@ -70,7 +70,8 @@ variant-subsumed : (p : Pair) (d : List ℕ) → Sound p → Accepted d → Word
 variant-subsumed p d s D w e =
     let q : Pair = record { number = p .number; clause = d } in
     let F : Forest = build (map entry (p ∷ [])) in
-    let a : Apart (map entry (p ∷ [])) = record { body = plain-body (sequence-plain (p .clause) (accepted (p .clause) (s .accepted)) (s .words)); number = s .number; new = λ m k. k; rest = tt } in
+    let b = plain-body (sequence-plain (p .clause) (accepted (p .clause) (s .accepted)) (s .words)) in
+    let a : Apart (map entry (p ∷ [])) = record { body = b; number = s .number; new = λ m k. k; rest = tt } in
     let R : Mirrors F (map entry (p ∷ [])) = mirrors-build (map entry (p ∷ [])) a in
     let Q : Mirrors F (map entry (q ∷ [])) = rw e R in
     let (t, f) = subsumes-finds (q ∷ []) F (also (record { accepted = D; words = w; number = s .number }) none) Q d D q (List·Memᴰ·head refl) (subsumes-refl d) in
@@ -247,12 +248,16 @@ module _ (K : List Pair) (F : Forest) (h : Holds treeWords K F) (x : Record) (f 
       go nobody u nobody v w true i b j =
           rw (u, v, i, insertInto) (full (find-new u) (omega (arith, holds-leaves h, leb-true maxKept (leaves F) i)))
       go nobody u nobody v w false i true j =
-          rw (u, v, i, j, insertInto)
-          (crowded (find-new u) (omega (arith, holds-leaves h, leb-false maxKept (leaves F) i)) (omega (arith, larger-size w, leb-true treeWords (size (ins (keys (x .words)) (x .number) F)) j)))
+          let few = leb-false maxKept (leaves F) i in
+          let many = leb-true treeWords (size (ins (keys (x .words)) (x .number) F)) j in
+          rw (u, v, i, j, insertInto) (crowded (find-new u) (omega (arith, holds-leaves h, few)) (omega (arith, larger-size w, many)))
       go nobody u nobody v w false i false j =
+          let few = leb-false maxKept (leaves F) i in
+          let room = leb-false treeWords (size (ins (keys (x .words)) (x .number) F)) j in
+          let more = ins-leaves (keys (x .words)) (x .number) F body (f .1) in
           rw (u, v, i, j, insertInto)
-          (larger (find-new u) (omega (arith, holds-leaves h, leb-false maxKept (leaves F) i)) (omega (arith, larger-size w, leb-false treeWords (size (ins (keys (x .words)) (x .number) F)) j))
-          (ins (keys (x .words)) (x .number) F) (larger-size w) (omega (arith, ins-leaves (keys (x .words)) (x .number) F body (f .1), leb-false maxKept (leaves F) i)))
+          (larger (find-new u) (omega (arith, holds-leaves h, few)) (omega (arith, larger-size w, room)) (ins (keys (x .words)) (x .number) F) (larger-size w)
+          (omega (arith, more, few)))
 
   -- the book after the insertion
   inserting : Inserts treeWords F (map entry K) (entry (pairOf x))

@@ -13,11 +13,15 @@ use Rattle.record.specs.declared.Totals.{Totals}
 
 -- ---- the records of an input
 
--- the 16-bit fields of some bytes, the most significant byte first; a last single byte is none
+-- the field of two bytes, the most significant first
+abbrev pub fieldOf : (high low : ℕ) → ℕ
+fieldOf a b = a * 256 + b
+
+-- the 16-bit fields of some bytes, a last single byte is none
 abbrev pub fields : List ℕ → List ℕ
 fields [] = []
 fields (a ∷ []) = []
-fields (a ∷ b ∷ bs) = (a * 256 + b) ∷ fields bs
+fields (a ∷ b ∷ bs) = fieldOf a b ∷ fields bs
 
 -- the words of a record are all there
 abbrev pub allThere : (count : ℕ) (words : List ℕ) → Bool

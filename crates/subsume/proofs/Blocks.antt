@@ -1,5 +1,5 @@
 -- Block after block: what was fed so far.
-use mathlib.Core.Path.{_≡_, ap, ap₂, sym, _∙_}
+use mathlib.Core.Path.{_≡_, refl, ap, ap₂, sym, _∙_}
 use mathlib.Core.List.{List, [], _++_}
 use Prim.Native.Nat.{ℕ, _+_, _*_, _≤_, _<_}
 use native.Mathlib.Omega.{arith}
@@ -9,16 +9,18 @@ use Rattle.clause.proofs.Lists.{all-append}
 use Rattle.clause.specs.Clause.{maxWords}
 use Rattle.record.specs.Text.{Written, putAt}
 use Rattle.record.specs.Line.{longestLine, longestLast, totalsLine}
+use Rattle.record.specs.Answer.{treeWords}
+use Rattle.record.specs.Marks.{numberCount}
 use Rattle.record.specs.Sheet.{Bytes}
 use Rattle.lines.proofs.Writing.{text-there}
-use Rattle.intake.specs.Feed.{Store, Fed, feed, firstSession, firstStore}
+use Rattle.intake.specs.Feed.{Store, storeOf, Fed, feed, firstSession, firstStore}
 use Rattle.answering.specs.inner.Steady.{Steady}
 use Rattle.feeding.specs.inner.Blocks.{recordsIn, Feedable}
 use Rattle.intake.specs.declared.Session.{Session}
 use Rattle.intake.proofs.Bytes.{feed-append}
 use Rattle.feeding.proofs.Blocks.{feed-records}
 use Rattle.answering.proofs.Steady.{steady-fresh}
-use Rattle.subsume.specs.Run.{blockBytes, mostBlocks, FedSoFar, LastLine}
+use Rattle.subsume.specs.Run.{blockBytes, mostBlocks, Buffers, FedSoFar, LastLine}
 
 -- where the run is before a block: what was fed, what holds from record to record, and the blocks that may still come
 pub record Running (session : Session) (store : Store) (blocks : ℕ) : Type 0 where
@@ -27,18 +29,25 @@ pub record Running (session : Session) (store : Store) (blocks : ℕ) : Type 0 w
   pub words : length (store .words) ≡ maxWords
   pub counts : recordsIn (session .totals) + blocks * blockBytes ≤ mostBlocks * blockBytes
 
--- zeros in which the lines of any block fit
-pub room-in : (n : ℕ) → blockBytes * longestLine ≤ n → blockBytes * longestLine ≤ length {A = ℕ} (replicate n 0)
-room-in n h = rw (length-replicate {A = ℕ} n 0) h
+-- zeros are buffers, if there are enough of them
+pub buffers : (n k : ℕ) → n ≡ blockBytes → blockBytes * longestLine ≤ k → Buffers (replicate n 0) (replicate k 0)
+buffers n k e h = record { block = rw (length-replicate {A = ℕ} n 0) e; room = rw (length-replicate {A = ℕ} k 0) h }
 
-pub enough : blockBytes * longestLine ≤ 737_280
-enough = omega arith
+-- zeros are the first store
+pub store-first : storeOf (replicate maxWords 0) (replicate treeWords 0) (replicate numberCount 0) ≡ firstStore
+unfolding firstStore
+store-first = refl
 
 -- before the first block
 pub running-none : {s : Session} {m : Store} → s ≡ firstSession → m ≡ firstStore → Running s m mostBlocks
 unfolding feed firstStore
 running-none e f =
-    record { stands = record { bytes = []; small = nothing; read = e; lent = f }; steady = rw f steady-fresh; words = rw f (length-replicate {A = ℕ} maxWords 0); counts = rw e (omega arith) }
+    record {
+      stands = record { bytes = []; small = nothing; read = e; lent = f };
+      steady = rw f steady-fresh;
+      words = rw f (length-replicate {A = ℕ} maxWords 0);
+      counts = rw e (omega arith);
+    }
 
 -- a block can be fed
 pub block-ready : {s : Session} {m : Store} {n k : ℕ} {o : List ℕ} → Running s m n → 0 < n → k ≤ blockBytes → blockBytes * longestLine ≤ length o

@@ -4,6 +4,7 @@ use mathlib.Core.List.{List}
 use Prim.Native.Nat.{ℕ, _+_, _*_, _≤_, _<_}
 use lib.ListN.{length, take, getD}
 use Rattle.clause.specs.Clause.{maxWords}
+use Rattle.record.specs.Output.{fieldOf}
 use Rattle.intake.specs.declared.Half.the-variants.{Even}
 use Rattle.intake.specs.declared.Stage.the-variants.{AtNumber}
 use Rattle.intake.specs.declared.Session.{Session}
@@ -22,4 +23,4 @@ pub record WholeRecord (session : Session) (input : List ℕ) (count : ℕ) : Ty
   pub stage : session .stage ≡ AtNumber
   pub few : count ≤ maxWords
   pub inside : 4 + count * 2 ≤ length input
-  pub counts : count ≡ getD input 2 0 * 256 + getD input 3 0
+  pub counts : count ≡ fieldOf (getD input 2 0) (getD input 3 0)

@@ -42,7 +42,9 @@ feed-block-requires c κs =
     block-ready (l .0) (c10 .loop-test .taken) (simp length-take (omega (arith, b .block, l .1, c7 .input .given))) (omega (arith, b .room, l .5))
 
 left-after-requires : tie.Need-left-after-requires Inv-loop μ-loop
-left-after-requires c κs = c .before .before .before .before .before .before .before .before .before .before .before .before .before .before .before .before .before .before .before .loop-test .taken
+left-after-requires c κs =
+    let c10 = c .before .before .before .before .before .before .before .before .before .before in
+    c10 .before .before .before .before .before .before .before .before .before .loop-test .taken
 
 loop-less : tie.Need-loop-less Inv-loop μ-loop
 loop-less c = c .left-after .ensures

@@ -13,12 +13,16 @@ use Rattle.answering.proofs.answering.keep.Tie as tie
 slice-read-if1 : tie.Need-slice-read-if1
 slice-read-if1 c = search needs
 
+code-requires : tie.Need-code-requires
+code-requires c κs = search needs
+
 returns : tie.Need-returns
 returns c =
-    let c2 = c .before .before in
-    let s = c2 .before .before .before .before in
-    let g = insertable (s .args .number) (s .pre .0) (s .pre .1) (λ i. omega (arith, c2 .shared-slice-known .given i)) (omega (arith, s .fits .number)) in
-    keep-marked g (c .if1 .taken)
+    let c1 = c .before in
+    let c3 = c1 .before .before in
+    let s = c3 .before .before .before .before in
+    let g = insertable (s .args .number) (s .pre .0) (s .pre .1) (λ i. omega (arith, c3 .shared-slice-known .given i)) (omega (arith, s .fits .number)) in
+    keep-marked g (c1 .if1 .taken) (c .code .ensures)
 
 compile-requires : tie.Need-compile-requires
 compile-requires c κs = let p = c .before .before .before .before .before .before .before .pre in (clause-short _ (p .1), p .2)
@@ -71,8 +75,8 @@ returns-2 c =
     let k = c1 .before .match .keys2 in
     keep-kept g (c12 .if1 .left) (compiled-keys (c10 .compile .ensures)) (c5 .insert-new .ensures) (λ f e. miss (1 ∷ 2 ∷ 3 ∷ []) 0 tt (rw e at k)) (c .used .ensures)
 
-code-requires : tie.Need-code-requires
-code-requires c κs = search needs
+code-requires-2 : tie.Need-code-requires-2
+code-requires-2 c κs = search needs
 
 same-length-4 : tie.Need-same-length-4
 same-length-4 c = search needs
@@ -89,13 +93,14 @@ returns-3 c =
     let s = c15 .before .before .before .before in
     let g = insertable (s .args .number) (s .pre .0) (s .pre .1) (λ i. omega (arith, c15 .shared-slice-known .given i)) (omega (arith, s .fits .number)) in
     let a = c .before .before .answer .given in
-    keep-refused g (c13 .if1 .left) (compiled-keys (c11 .compile .ensures)) (c6 .insert-new .ensures) (a .0 .0) (a .1) (c .code .ensures)
+    keep-refused g (c13 .if1 .left) (compiled-keys (c11 .compile .ensures)) (c6 .insert-new .ensures) (a .0 .0) (a .1) (c .code2 .ensures)
 
 pub keep-spec : {M : Type 1} → statement M
 keep-spec =
     tie.close
     (tie.spec
     slice-read-if1
+    code-requires
     returns
     compile-requires
     slice-reshare-prefix-insert-new
@@ -109,7 +114,7 @@ keep-spec =
     same-length-2
     same-length-3
     returns-2
-    code-requires
+    code-requires-2
     same-length-4
     same-length-5
     returns-3)

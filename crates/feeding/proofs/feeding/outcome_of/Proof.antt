@@ -12,12 +12,21 @@ use Rattle.feeding.proofs.feeding.outcome_of.Tie as tie
 cast-end : tie.Need-cast-end
 cast-end c = search needs
 
+code-requires : tie.Need-code-requires
+code-requires c κs = search needs
+
 returns : tie.Need-returns
 unfolding finishing
-returns c = record { answer = rw (lt-ltb maxWords _ (c .if1 .taken)); marking = refl; steady = c .before .before .before .before .before .pre .0 }
+returns c =
+    let c1 = c .before in
+    let c6 = c1 .before .before .before .before .before in
+    record { answer = rw (lt-ltb maxWords _ (c1 .if1 .taken), c .code .ensures); marking = refl; steady = c6 .pre .0 }
 
 slice-aggregate-answer : tie.Need-slice-aggregate-answer
-slice-aggregate-answer c = sym (length-take-le _ _ (omega (arith, c .before .before .before .before .before .before .before .before .before .pre .1, c .before .before .before .before .if1 .left)))
+slice-aggregate-answer c =
+    let c4 = c .before .before .before .before in
+    let c9 = c4 .before .before .before .before .before in
+    sym (length-take-le _ _ (omega (arith, c9 .pre .1, c4 .if1 .left)))
 
 answer-requires : tie.Need-answer-requires
 answer-requires c κs = search needs
@@ -31,14 +40,17 @@ same-length-2 c = search needs
 returns-2 : tie.Need-returns-2
 unfolding finishing
 returns-2 c =
-    let a = c .before .before .before .before .answer .ensures in
-    record { answer = rw (le-ltb maxWords _ (c .before .before .before .before .before .before .before .before .before .if1 .left)) (a .answer); marking = a .marking; steady = a .steady }
+    let c4 = c .before .before .before .before in
+    let c9 = c4 .before .before .before .before .before in
+    let a = c4 .answer .ensures in
+    record { answer = rw (le-ltb maxWords _ (c9 .if1 .left)) (a .answer); marking = a .marking; steady = a .steady }
 
 pub outcome-of-spec : {M : Type 1} → statement M
 outcome-of-spec =
     tie.close
     (tie.spec
     cast-end
+    code-requires
     returns
     slice-aggregate-answer
     answer-requires

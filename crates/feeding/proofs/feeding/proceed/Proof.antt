@@ -33,9 +33,11 @@ same-length-3 c = search needs
 
 returns-2 : tie.Need-returns-2
 returns-2 c =
-    let a = c .before .before .before .before .before .before .before .before .before .before .before .before .before .before .before .before .before .before .args in
-    let n = c .before .before .before .before .before .before .before .before .before .before .before .before .next2 .given in
-    took-as (ends (n .0 .0) (a .turn .session .totals) (storeOf (a .words .now) (a .tree .now) (a .marks .now)) (n .1)) (c .before .before .before .before .before .before .finish .ensures)
+    let c6 = c .before .before .before .before .before .before in
+    let c12 = c6 .before .before .before .before .before .before in
+    let a = c12 .before .before .before .before .before .before .args in
+    let n = c12 .next2 .given in
+    took-as (ends (n .0 .0) (a .turn .session .totals) (storeOf (a .words .now) (a .tree .now) (a .marks .now)) (n .1)) (c6 .finish .ensures)
 
 pub proceed-spec : {M : Type 1} → statement M
 proceed-spec =

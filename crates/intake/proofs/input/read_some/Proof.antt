@@ -9,8 +9,14 @@ use borrow.Author.Needs.{needs}
 use Rattle.intake.proofs.input.read_some.Statement.{statement}
 use Rattle.intake.proofs.input.read_some.Tie as tie
 
-words-ahead-requires : tie.Need-words-ahead-requires
-words-ahead-requires c κs = search needs
+look-ahead-requires : tie.Need-look-ahead-requires
+look-ahead-requires c κs = search needs
+
+enum-known-ahead : tie.Need-enum-known-ahead
+enum-known-ahead c = search needs
+
+enum-told : tie.Need-enum-told
+enum-told c = search needs
 
 shared-slice-read-read-byte : tie.Need-shared-slice-read-read-byte
 shared-slice-read-read-byte c = search needs
@@ -23,39 +29,60 @@ same-length c = search needs
 
 returns : tie.Need-returns
 returns c =
-    let c9 = c .before .before .before .before .before .before .before .before .before in
-    let a = c9 .args in
+    let s = c .before .before .before .before .before .before .before .before .before .before in
+    let a = s .args in
     record {
       some = omega arith;
-      inside = omega (arith, c9 .pre .0);
-      feeds = λ T m. feed-one (a .input .now) (a .session) (storeOf (a .words .now) T m) (c9 .pre .0) ∙ c .before .before .read-byte .ensures T m;
+      inside = omega (arith, s .pre .0);
+      feeds = λ T m. feed-one (a .input .now) (a .session) (storeOf (a .words .now) T m) (s .pre .0) ∙ c .before .before .read-byte .ensures T m;
     }
 
 field-at-requires : tie.Need-field-at-requires
-field-at-requires c κs = let w = c .before .words-ahead .ensures (c .if1 .left) in omega (arith, w .inside)
+field-at-requires c κs =
+    let c1 = c .before in
+    let g = c1 .ahead .given in
+    omega (arith, c1 .before .before .look-ahead .ensures (g .0 .0) (g .1) .inside)
 
 sub-read-words : tie.Need-sub-read-words
-sub-read-words c = let w = c .before .before .words-ahead .ensures (c .before .if1 .left) in omega (arith, w .inside)
+sub-read-words c =
+    let c2 = c .before .before in
+    let g = c2 .ahead .given in
+    omega (arith, c2 .before .before .look-ahead .ensures (g .0 .0) (g .1) .inside)
 
 part-read-words-start : tie.Need-part-read-words-start
-part-read-words-start c = let w = c .before .before .words-ahead .ensures (c .before .if1 .left) in omega (arith, w .inside)
+part-read-words-start c =
+    let c2 = c .before .before in
+    let g = c2 .ahead .given in
+    omega (arith, c2 .before .before .look-ahead .ensures (g .0 .0) (g .1) .inside)
 
 part-read-words-end : tie.Need-part-read-words-end
 part-read-words-end c = search needs
 
 read-words-requires : tie.Need-read-words-requires
 read-words-requires c κs =
-    let w = c .before .before .before .before .words-ahead .ensures (c .before .before .before .if1 .left) in
-    (simp (length-take, length-drop) (omega (arith, w .inside)), omega (arith, w .few, c .before .before .before .before .before .before .before .pre .1))
+    let c4 = c .before .before .before .before in
+    let c6 = c4 .before .before in
+    let g = c4 .ahead .given in
+    let w = c6 .look-ahead .ensures (g .0 .0) (g .1) in
+    (simp (length-take, length-drop) (omega (arith, w .inside)), omega (arith, w .few, c6 .before .before .before .pre .1))
 
 mul-t14 : tie.Need-mul-t14
-mul-t14 c = search needs
+mul-t14 c =
+    let c7 = c .before .before .before .before .before .before .before in
+    let g = c7 .ahead .given in
+    record { fits = omega (arith, c7 .before .before .look-ahead .ensures (g .0 .0) (g .1) .few) }
 
 add-t19 : tie.Need-add-t19
-add-t19 c = search needs
+add-t19 c =
+    let c7 = c .before .before .before .before .before .before .before in
+    let g = c7 .ahead .given in
+    record { fits = omega (arith, c7 .before .before .look-ahead .ensures (g .0 .0) (g .1) .few) }
 
 cast-t20 : tie.Need-cast-t20
-cast-t20 c = search needs
+cast-t20 c =
+    let c7 = c .before .before .before .before .before .before .before in
+    let g = c7 .ahead .given in
+    record { fits = omega (arith, c7 .before .before .look-ahead .ensures (g .0 .0) (g .1) .few) }
 
 same-length-2 : tie.Need-same-length-2
 same-length-2 c = search needs
@@ -63,18 +90,20 @@ same-length-2 c = search needs
 returns-2 : tie.Need-returns-2
 returns-2 c =
     let c5 = c .before .before .before .before .before in
-    let c6 = c5 .before in
-    let c7 = c6 .before in
-    let c10 = c7 .before .before .before in
-    let a = c10 .args in
-    let w = c7 .words-ahead .ensures (c6 .if1 .left) in
-    record-read (a .session) (a .input .now) (a .words .now) (c7 .words-ahead .result) w (c5 .field-at .ensures) refl (c .before .before .read-words .ensures)
+    let c7 = c5 .before .before in
+    let c9 = c7 .before .before in
+    let a = c9 .before .before .before .args in
+    let g = c7 .ahead .given in
+    let w = c9 .look-ahead .ensures (g .0 .0) (g .1) in
+    record-read (a .session) (a .input .now) (a .words .now) (g .0 .0) w (c5 .field-at .ensures) refl (c .before .before .read-words .ensures)
 
 pub read-some-spec : {M : Type 1} → statement M
 read-some-spec =
     tie.close
     (tie.spec
-    words-ahead-requires
+    look-ahead-requires
+    enum-known-ahead
+    enum-told
     shared-slice-read-read-byte
     read-byte-requires
     same-length

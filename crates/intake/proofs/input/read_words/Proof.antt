@@ -46,7 +46,8 @@ loop-again c =
     let l = c .before .before .loop in
     let a = c .before .before .before .before .before .args in
     let h : l .at + 1 < length (a .input .now) = omega (arith, c .before .before .before .before .before .pre .0, l .inv .2, c .before .loop-test .taken) in
-    (simp length-set (l .inv .0), omega arith, omega arith, l .inv .3 ∙ read-more (a .input .now) (l .words) (l .at) (l .i) (a .count) h (c .before .loop-test .taken) ∙ rw (c .field-at .ensures))
+    let m = read-more (a .input .now) (l .words) (l .at) (l .i) (a .count) h (c .before .loop-test .taken) in
+    (simp length-set (l .inv .0), omega arith, omega arith, l .inv .3 ∙ m ∙ rw (c .field-at .ensures))
 
 same-length : tie.Need-same-length Inv-loop μ-loop
 same-length c = search needs

@@ -13,25 +13,24 @@ put-decimal-requires c κs = omega (arith, c .before .before .pre, decimal-lengt
 
 put-outcome-requires : tie.Need-put-outcome-requires
 put-outcome-requires c κs =
-    let a = c .before .before .before .before .before .before .args in
-    omega (arith, c .before .before .before .before .before .before .pre, placed (decimal (a .number)) (a .output .now) (a .at) (c .before .before .before .put-decimal .ensures), decimal-length 4 (a .number) (search needs))
+    let c3 = c .before .before .before in
+    let s = c3 .before .before .before in
+    let n = s .args .number in
+    omega (arith, s .pre, placed (decimal n) (s .args .output .now) (s .args .at) (c3 .put-decimal .ensures), decimal-length 4 n (search needs))
 
 slice-aggregate-put-text : tie.Need-slice-aggregate-put-text
 slice-aggregate-put-text c = search needs
 
 put-text-requires : tie.Need-put-text-requires
 put-text-requires c κs =
-    let a = c .before .before .before .before .before .before .before .before .before .before .before .args in
-    let d = c .before .before .before .before .before .before .before .before .put-decimal in
-    let o = c .before .before .before .before .put-outcome in
-    omega (
-      arith,
-      c .before .before .before .before .before .before .before .before .before .before .before .pre,
-      placed (decimal (a .number)) (a .output .now) (a .at) (d .ensures),
-      decimal-length 4 (a .number) (search needs),
-      o .ensures .1,
-      placed (saying (a .outcome)) (d .last .0) (d .result) (o .ensures .0),
-    )
+    let c4 = c .before .before .before .before in
+    let c8 = c4 .before .before .before .before in
+    let s = c8 .before .before .before in
+    let n = s .args .number in
+    let d = c8 .put-decimal in
+    let o = c4 .put-outcome .ensures in
+    let k = placed (decimal n) (s .args .output .now) (s .args .at) (d .ensures) in
+    omega (arith, s .pre, k, decimal-length 4 n (search needs), o .1, placed (saying (s .args .outcome)) (d .last .0) (d .result) (o .0))
 
 same-length : tie.Need-same-length
 same-length c = search needs
@@ -39,13 +38,18 @@ same-length c = search needs
 returns : tie.Need-returns
 unfolding lineOf
 returns c =
-    let a = c .before .before .before .before .before .before .before .before .before .before .before .before .before .before .args in
-    let d = c .before .before .before .before .before .before .before .before .before .before .before .put-decimal in
-    let o = c .before .before .before .before .before .before .before .put-outcome in
-    let t = c .before .before .put-text in (
-      joined (decimal (a .number)) (saying (a .outcome) ++ lineEnd) (a .output .now) (a .at) (d .ensures)
-          (joined (saying (a .outcome)) lineEnd (d .last .0) (d .result) (o .ensures .0) (t .ensures)),
-      omega (arith, placed (decimal (a .number)) (a .output .now) (a .at) (d .ensures), decimal-length 4 (a .number) (search needs), o .ensures .1, placed lineEnd (o .last .0) (o .result) (t .ensures)),
+    let c2 = c .before .before in
+    let c7 = c2 .before .before .before .before .before in
+    let c11 = c7 .before .before .before .before in
+    let a = c11 .before .before .before .args in
+    let n = a .number in
+    let says = saying (a .outcome) in
+    let d = c11 .put-decimal in
+    let o = c7 .put-outcome in
+    let e = c2 .put-text .ensures in
+    let k = placed (decimal n) (a .output .now) (a .at) (d .ensures) in (
+      joined (decimal n) (says ++ lineEnd) (a .output .now) (a .at) (d .ensures) (joined says lineEnd (d .last .0) (d .result) (o .ensures .0) e),
+      omega (arith, k, decimal-length 4 n (search needs), o .ensures .1, placed lineEnd (o .last .0) (o .result) e),
     )
 
 pub put-line-spec : {M : Type 1} → statement M

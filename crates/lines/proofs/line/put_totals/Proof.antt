@@ -2,7 +2,7 @@
 use native.Mathlib.Omega.{arith}
 use mathlib.Core.List.{_++_}
 use Rattle.record.specs.Line.{lineEnd, named, saysFirst, saysStruck, saysRefused, totalsLine}
-use Rattle.lines.proofs.Writing.{placed, joined, decimal-length}
+use Rattle.lines.proofs.Writing.{placed, joined, decimal-length, named-put}
 use borrow.Author.Needs.{needs}
 use Rattle.lines.proofs.line.put_totals.Statement.{statement}
 use Rattle.lines.proofs.line.put_totals.Tie as tie
@@ -20,31 +20,45 @@ slice-aggregate-put-named-2 c = search needs
 
 put-named-requires-2 : tie.Need-put-named-requires-2
 put-named-requires-2 c κs =
-    let a = c .before .before .before .before .before .before .before .before .args in
-    let k = c .before .before .before .before .put-named in
-    omega (arith, c .before .before .before .before .before .before .before .before .pre, placed (named saysFirst (a .totals .kept)) (a .output .now) (a .at) (k .ensures), decimal-length 19 (a .totals .kept) (search needs), decimal-length 19 (a .totals .struck) (search needs))
+    let c4 = c .before .before .before .before in
+    let s = c4 .before .before .before .before in
+    let o = s .args .output .now in
+    let t = s .args .totals in
+    let k = named-put saysFirst 19 (t .kept) (omega (arith, s .good)) o (s .args .at) (c4 .put-named .ensures) in
+    omega (arith, s .pre, k, decimal-length 19 (t .struck) (omega (arith, s .good)))
 
 slice-aggregate-put-named-3 : tie.Need-slice-aggregate-put-named-3
 slice-aggregate-put-named-3 c = search needs
 
 put-named-requires-3 : tie.Need-put-named-requires-3
 put-named-requires-3 c κs =
-    let a = c .before .before .before .before .before .before .before .before .before .before .before .before .before .args in
-    let k = c .before .before .before .before .before .before .before .before .before .put-named in
-    let s = c .before .before .before .before .put-named2 in
-    omega (arith, c .before .before .before .before .before .before .before .before .before .before .before .before .before .pre, placed (named saysFirst (a .totals .kept)) (a .output .now) (a .at) (k .ensures), placed (named saysStruck (a .totals .struck)) (k .last .0) (k .result) (s .ensures), decimal-length 19 (a .totals .kept) (search needs), decimal-length 19 (a .totals .struck) (search needs), decimal-length 19 (a .totals .refused) (search needs))
+    let c4 = c .before .before .before .before in
+    let c9 = c4 .before .before .before .before .before in
+    let s = c9 .before .before .before .before in
+    let o = s .args .output .now in
+    let t = s .args .totals in
+    let p = c9 .put-named in
+    let k = named-put saysFirst 19 (t .kept) (omega (arith, s .good)) o (s .args .at) (p .ensures) in
+    let l = named-put saysStruck 19 (t .struck) (omega (arith, s .good)) (p .last .0) (p .result) (c4 .put-named2 .ensures) in
+    omega (arith, s .pre, k, l, decimal-length 19 (t .refused) (omega (arith, s .good)))
 
 slice-aggregate-put-text : tie.Need-slice-aggregate-put-text
 slice-aggregate-put-text c = search needs
 
 put-text-requires : tie.Need-put-text-requires
 put-text-requires c κs =
-    let a = c .before .before .before .before .before .before .before .before .before .before .before .before .before .before .before .before .before .before .args in
-    let g = c .before .before .before .before .before .before .before .before .before .before .before .before .before .before .before .before .before .before .good in
-    let k = c .before .before .before .before .before .before .before .before .before .before .before .before .before .before .put-named in
-    let s = c .before .before .before .before .before .before .before .before .before .put-named2 in
-    let r = c .before .before .before .before .put-named3 in
-    omega (arith, c .before .before .before .before .before .before .before .before .before .before .before .before .before .before .before .before .before .before .pre, placed (named saysFirst (a .totals .kept)) (a .output .now) (a .at) (k .ensures), placed (named saysStruck (a .totals .struck)) (k .last .0) (k .result) (s .ensures), placed (named saysRefused (a .totals .refused)) (s .last .0) (s .result) (r .ensures), decimal-length 19 (a .totals .kept) (search needs), decimal-length 19 (a .totals .struck) (search needs), decimal-length 19 (a .totals .refused) (search needs))
+    let c4 = c .before .before .before .before in
+    let c9 = c4 .before .before .before .before .before in
+    let c14 = c9 .before .before .before .before .before in
+    let s = c14 .before .before .before .before in
+    let o = s .args .output .now in
+    let t = s .args .totals in
+    let p = c14 .put-named in
+    let q = c9 .put-named2 in
+    let k = named-put saysFirst 19 (t .kept) (omega (arith, s .good)) o (s .args .at) (p .ensures) in
+    let l = named-put saysStruck 19 (t .struck) (omega (arith, s .good)) (p .last .0) (p .result) (q .ensures) in
+    let m = named-put saysRefused 19 (t .refused) (omega (arith, s .good)) (q .last .0) (q .result) (c4 .put-named3 .ensures) in
+    omega (arith, s .pre, k, l, m)
 
 same-length : tie.Need-same-length
 same-length c = search needs
@@ -52,15 +66,25 @@ same-length c = search needs
 returns : tie.Need-returns
 unfolding totalsLine
 returns c =
-    let a = c .before .before .before .before .before .before .before .before .before .before .before .before .before .before .before .before .before .before .before .before .before .args in
-    let g = c .before .before .before .before .before .before .before .before .before .before .before .before .before .before .before .before .before .before .before .before .before .good in
-    let k = c .before .before .before .before .before .before .before .before .before .before .before .before .before .before .before .before .before .put-named in
-    let s = c .before .before .before .before .before .before .before .before .before .before .before .before .put-named2 in
-    let r = c .before .before .before .before .before .before .before .put-named3 in
-    let t = c .before .before .put-text in (
-      joined (named saysFirst (a .totals .kept)) (named saysStruck (a .totals .struck) ++ (named saysRefused (a .totals .refused) ++ lineEnd)) (a .output .now) (a .at) (k .ensures)
-          (joined (named saysStruck (a .totals .struck)) (named saysRefused (a .totals .refused) ++ lineEnd) (k .last .0) (k .result) (s .ensures) (joined (named saysRefused (a .totals .refused)) lineEnd (s .last .0) (s .result) (r .ensures) (t .ensures))),
-      omega (arith, placed (named saysFirst (a .totals .kept)) (a .output .now) (a .at) (k .ensures), placed (named saysStruck (a .totals .struck)) (k .last .0) (k .result) (s .ensures), placed (named saysRefused (a .totals .refused)) (s .last .0) (s .result) (r .ensures), placed lineEnd (r .last .0) (r .result) (t .ensures), decimal-length 19 (a .totals .kept) (search needs), decimal-length 19 (a .totals .struck) (search needs), decimal-length 19 (a .totals .refused) (search needs)),
+    let c2 = c .before .before in
+    let c7 = c2 .before .before .before .before .before in
+    let c12 = c7 .before .before .before .before .before in
+    let c17 = c12 .before .before .before .before .before in
+    let s = c17 .before .before .before .before in
+    let o = s .args .output .now in
+    let t = s .args .totals in
+    let p = c17 .put-named in
+    let q = c12 .put-named2 in
+    let r = c7 .put-named3 in
+    let e = c2 .put-text .ensures in
+    let last = named saysRefused (t .refused) ++ lineEnd in
+    let k = named-put saysFirst 19 (t .kept) (omega (arith, s .good)) o (s .args .at) (p .ensures) in
+    let l = named-put saysStruck 19 (t .struck) (omega (arith, s .good)) (p .last .0) (p .result) (q .ensures) in
+    let m = named-put saysRefused 19 (t .refused) (omega (arith, s .good)) (q .last .0) (q .result) (r .ensures) in (
+      joined (named saysFirst (t .kept)) (named saysStruck (t .struck) ++ last) o (s .args .at) (p .ensures)
+          (joined (named saysStruck (t .struck)) last (p .last .0) (p .result) (q .ensures)
+          (joined (named saysRefused (t .refused)) lineEnd (q .last .0) (q .result) (r .ensures) e)),
+      omega (arith, k, l, m, placed lineEnd (r .last .0) (r .result) e),
     )
 
 pub put-totals-spec : {M : Type 1} → statement M

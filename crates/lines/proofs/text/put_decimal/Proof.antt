@@ -12,7 +12,8 @@ use Rattle.lines.proofs.text.put_decimal.Tie as tie
 
 abbrev Inv-loop : tie.InvT-loop
 Inv-loop output₀ at number end left₀ last₀ output left last =
-    (length output ≡ length output₀) × (last + 1 ≤ end) × (last + 1 ≡ at + length (decimal left)) × (sets output₀ at (decimal number) ≡ sets output at (decimal left))
+    (length output ≡ length output₀) × (last + 1 ≤ end) × (last + 1 ≡ at + length (decimal left))
+    × (sets output₀ at (decimal number) ≡ sets output at (decimal left))
 
 abbrev μ-loop : tie.MeasureT-loop
 μ-loop output₀ at number end left₀ last₀ output left last = left
@@ -51,7 +52,8 @@ loop-again c =
     let l = c .before .loop in
     let e = length-large (l .left) (c .loop-test .taken) in
     let s = decimal-some (l .left / 10) in
-    (simp length-set (l .inv .0), omega arith, omega (arith, l .inv .2, e, s), l .inv .3 ∙ put-last (l .left) (l .output) (c .before .before .before .before .args .at) (l .last) (c .loop-test .taken) (l .inv .2))
+    let p = put-last (l .left) (l .output) (c .before .before .before .before .args .at) (l .last) (c .loop-test .taken) (l .inv .2) in
+    (simp length-set (l .inv .0), omega arith, omega (arith, l .inv .2, e, s), l .inv .3 ∙ p)
 
 cast-output-2 : tie.Need-cast-output-2 Inv-loop μ-loop
 cast-output-2 c = search needs
@@ -68,7 +70,8 @@ same-length c = simp length-set (c .before .loop .inv .0)
 returns : tie.Need-returns Inv-loop μ-loop
 returns c =
     let l = c .before .loop in
-    rw (c .before .before .digits .ensures, ← put-only (l .left) (l .output) (c .before .before .before .before .args .at) (l .last) (c .loop-test .left) (l .inv .2), ← l .inv .3)
+    let p = put-only (l .left) (l .output) (c .before .before .before .before .args .at) (l .last) (c .loop-test .left) (l .inv .2) in
+    rw (c .before .before .digits .ensures, ← p, ← l .inv .3)
 
 pub put-decimal-spec : {M : Type 1} → statement M
 put-decimal-spec =

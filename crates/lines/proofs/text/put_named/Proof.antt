@@ -12,16 +12,19 @@ put-text-requires c κs =
 
 put-decimal-requires : tie.Need-put-decimal-requires
 put-decimal-requires c κs =
-    let a = c .before .before .before .before .before .before .before .args in
-    rest-fits (a .text .now) (decimal (a .number)) (a .output .now) (a .at) (c .before .before .before .before .before .before .before .pre) (c .before .before .before .put-text .ensures)
+    let c3 = c .before .before .before in
+    let s = c3 .before .before .before .before in
+    let a = s .args in
+    rest-fits (a .text .now) (decimal (a .number)) (a .output .now) (a .at) (s .pre) (c3 .put-text .ensures)
 
 same-length : tie.Need-same-length
 same-length c = search needs
 
 returns : tie.Need-returns
 returns c =
-    let a = c .before .before .before .before .before .before .before .before .before .before .args in
-    joined (a .text .now) (decimal (a .number)) (a .output .now) (a .at) (c .before .before .before .before .before .before .put-text .ensures) (c .before .before .put-decimal .ensures)
+    let c6 = c .before .before .before .before .before .before in
+    let a = c6 .before .before .before .before .args in
+    joined (a .text .now) (decimal (a .number)) (a .output .now) (a .at) (c6 .put-text .ensures) (c .before .before .put-decimal .ensures)
 
 pub put-named-spec : {M : Type 1} → statement M
 put-named-spec = tie.close (tie.spec put-text-requires put-decimal-requires same-length returns)

@@ -1,8 +1,10 @@
--- Either the answer is 65, or all the tests were passed.
+-- Bytes, or all the tests were passed.
+use mathlib.Core.Path.{_≡_, _∙_}
 use native.Mathlib.Omega.{arith}
+use Rattle.clause.proofs.Apart.{apart}
 use borrow.Author.Needs.{needs}
-use Rattle.intake.proofs.input.words_ahead.Statement.{statement}
-use Rattle.intake.proofs.input.words_ahead.Tie as tie
+use Rattle.intake.proofs.input.look_ahead.Statement.{statement}
+use Rattle.intake.proofs.input.look_ahead.Tie as tie
 
 enum-told : tie.Need-enum-told
 enum-told c = search needs
@@ -11,16 +13,16 @@ enum-told-2 : tie.Need-enum-told-2
 enum-told-2 c = search needs
 
 returns : tie.Need-returns
-returns c h = absurd (omega arith)
+returns c n e = apart cc
 
 enum-told-3 : tie.Need-enum-told-3
 enum-told-3 c = search needs
 
 returns-2 : tie.Need-returns-2
-returns-2 c h = absurd (omega arith)
+returns-2 c n e = apart cc
 
 returns-3 : tie.Need-returns-3
-returns-3 c h = absurd (omega arith)
+returns-3 c n e = apart cc
 
 field-at-requires : tie.Need-field-at-requires
 field-at-requires c κs = search needs
@@ -29,7 +31,7 @@ cast-count : tie.Need-cast-count
 cast-count c = search needs
 
 returns-4 : tie.Need-returns-4
-returns-4 c h = absurd (omega arith)
+returns-4 c n e = apart cc
 
 sub-if3 : tie.Need-sub-if3
 sub-if3 c = search needs
@@ -38,13 +40,19 @@ mul-if3 : tie.Need-mul-if3
 mul-if3 c = search needs
 
 returns-5 : tie.Need-returns-5
-returns-5 c h = absurd (omega arith)
+returns-5 c n e = apart cc
 
 returns-6 : tie.Need-returns-6
-returns-6 c h = record { half = c .before .before .before .before .before .before .enum-told .given .1; stage = c .before .before .before .before .enum-told3 .given .1; few = h; inside = omega (arith, c .if3 .left, c .before .before .before .if1 .left); counts = c .before .before .field-at .ensures }
+returns-6 c n e =
+    let c2 = c .before .before in
+    let c3 = c2 .before in
+    let c4 = c3 .before in
+    let half = c4 .before .before .enum-told .given .1 in
+    let q : n ≡ c2 .field-at .result = cc in
+    record { half = half; stage = c4 .enum-told3 .given .1; few = omega arith; inside = omega (arith, c .if3 .left, c3 .if1 .left); counts = q ∙ c2 .field-at .ensures }
 
-pub words-ahead-spec : {M : Type 1} → statement M
-words-ahead-spec =
+pub look-ahead-spec : {M : Type 1} → statement M
+look-ahead-spec =
     tie.close
     (tie.spec
     enum-told
