@@ -14,7 +14,7 @@ fn number_at(calls: &[u16], at: usize) -> u32
     requires { ⌜ at + 2 ≤ length (now calls) ⌝ }
     ensures { λ r. ⌜ r ≡ whole (getD (now (calls .entry)) at 0) (getD (now (calls .entry)) (at + 1) 0) ⌝ }
 {
-    calls[at] as u32 * 65536 + calls[at + 1] as u32
+    calls[at] as u32 * 0x1_0000 + calls[at + 1] as u32
 }
 
 // Where a clause of `count` words ends, which begins at a position: no further than the words do.

@@ -1,9 +1,9 @@
--- `repeat` stays within the clause.
+-- `spell` stays within the clause.
 use mathlib.Core.Path.{_≡_}
-use borrow.Author.Needs.{needs}
 use lib.ListN.{length}
-use Rattle.cases.proofs.pieces.repeat.Statement.{statement}
-use Rattle.cases.proofs.pieces.repeat.Tie as tie
+use borrow.Author.Needs.{needs}
+use Rattle.cases.proofs.lines.spell.Statement.{statement}
+use Rattle.cases.proofs.lines.spell.Tie as tie
 
 abbrev Inv-loop : tie.InvT-loop
 Inv-loop word count from clause₀ at₀ left₀ clause at left = length clause ≡ length clause₀
@@ -44,8 +44,8 @@ same-length-2 c = search needs
 returns-2 : tie.Need-returns-2 Inv-loop μ-loop
 returns-2 c = search needs
 
-pub repeat-spec : {M : Type 1} → statement M
-repeat-spec =
+pub spell-spec : {M : Type 1} → statement M
+spell-spec =
     tie.close
     (tie.spec
     Inv-loop
