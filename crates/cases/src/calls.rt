@@ -107,7 +107,7 @@ fn run_compile(clause: &[u16]) {
     }
     let mut keys = [0u64; Sequence::KEYS];
     let count = machine::compile(clause, &mut keys);
-    write_words(&keys[..count], 9);
+    write_words(&keys[..count], 0, 9);
 }
 
 // Puts the clause as a query with a witness.
@@ -138,22 +138,15 @@ fn run_ceiling(words: &[u64]) {
     write_reply(returned, &told);
 }
 
-// Commands that leave the words.
-fn look(letter: u8, number: u64, budget: u64, tree: &[u64], clause: &[u16]) {
+// Commands on the tree and the clause.
+pub fn call(letter: u8, number: u64, budget: u64, tree: &mut [u64], clause: &[u16]) {
     match letter {
+        b'Y' => fill(tree, number),
         b'V' => run_read(clause),
         b'G' => run_compile(clause),
         b'W' => run_blank(number, budget, tree, clause),
         b'N' => run_ceiling(tree),
-        _ => write_words(tree, 16),
-    }
-}
-
-// Commands on the tree and the clause.
-pub fn call(letter: u8, number: u64, budget: u64, tree: &mut [u64], clause: &[u16]) {
-    match letter {
-        b'F' | b'K' | b'R' => run_change(letter, number, tree, clause),
-        b'Y' => fill(tree, number),
-        _ => look(letter, number, budget, tree, clause),
+        b'S' => write_words(tree, 0, 16),
+        _ => run_change(letter, number, tree, clause),
     }
 }

@@ -3,7 +3,7 @@ use crate::calls::call;
 use crate::writing::write;
 
 // What the bytes before have set: whether commands stand here, the number before the next letter, how many words the slice and the clause have,
-// how many times the next word stands, and the budget.
+// how many times the slice's next word stands, and the budget.
 pub struct State {
     pub commands: bool,
     pub number: u64,
@@ -13,18 +13,7 @@ pub struct State {
     pub budget: u64,
 }
 
-// A number with one digit more; 0 after a letter; as it is after any other byte.
-fn with_digit(number: u64, b: u8) -> u64 {
-    let high = number % 0x1000_0000_0000_0000 * 16;
-    match b {
-        b'0'..=b'9' => high + (b - b'0') as u64,
-        b'A'..=b'Z' => 0,
-        b'a'..=b'f' => high + (b - b'a' + 10) as u64,
-        _ => number,
-    }
-}
-
-// Writes a word so many times from a place on, and gives the place after them.
+// T: so many times the next word of the slice.
 fn give(word: u64, count: u64, from: usize, slice: &mut [u64]) -> usize {
     let mut at = from;
     let mut left = count;
@@ -39,19 +28,15 @@ fn give(word: u64, count: u64, from: usize, slice: &mut [u64]) -> usize {
     at
 }
 
-// The same of a clause.
-fn spell(word: u16, count: u64, from: usize, clause: &mut [u16]) -> usize {
-    let mut at = from;
-    let mut left = count;
-    while left > 0 {
-        if at >= clause.len() {
-            return at;
-        }
-        clause[at] = word;
-        at += 1;
-        left -= 1;
+// C: the next word of the clause.
+fn spell(before: State, clause: &mut [u16]) -> State {
+    let mut state = before;
+    let at = state.words;
+    if at < clause.len() {
+        clause[at] = (state.number % 0x1_0000) as u16;
+        state.words = at + 1;
     }
-    at
+    state
 }
 
 // Calls with the words that are set; the clause is then used up.
@@ -76,7 +61,7 @@ fn ask(letter: u8, before: State, slice: &mut [u64], clause: &[u16]) -> State {
     state
 }
 
-// Follows a command, by its letter; any other byte is none.
+// Follows a command, by its letter.
 fn follow(letter: u8, before: State, slice: &mut [u64], clause: &mut [u16]) -> State {
     let mut state = before;
     match letter {
@@ -97,19 +82,21 @@ fn follow(letter: u8, before: State, slice: &mut [u64], clause: &mut [u16]) -> S
             state.times = 1;
             state
         }
-        b'C' => {
-            state.words = spell(
-                (state.number % 0x1_0000) as u16,
-                state.times,
-                state.words,
-                clause,
-            );
-            state.times = 1;
-            state
-        }
-        b'A'..=b'Z' => ask(letter, state, slice, clause),
-        _ => state,
+        b'C' => spell(state, clause),
+        _ => ask(letter, state, slice, clause),
     }
+}
+
+// Takes a byte of a command: the letter, or a digit; a space, which stands after a letter, leaves 0.
+fn read(b: u8, before: State, slice: &mut [u64], clause: &mut [u16]) -> State {
+    let mut state = before;
+    if b / 32 == 2 {
+        state = follow(b, state, slice, clause);
+        state.number = 0;
+        return state;
+    }
+    state.number = state.number % 0x1000_0000_0000_0000 * 16 + ((b % 16 + b / 64 * 9) % 16) as u64;
+    state
 }
 
 // Takes a byte. One that is no part of a command is written.
@@ -117,9 +104,7 @@ fn take(b: u8, before: State, slice: &mut [u64], clause: &mut [u16]) -> State {
     let mut state = before;
     if state.commands {
         if b != b'\n' {
-            state = follow(b, state, slice, clause);
-            state.number = with_digit(state.number, b);
-            return state;
+            return read(b, state, slice, clause);
         }
     }
     write(&[b]);

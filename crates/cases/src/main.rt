@@ -2,9 +2,9 @@
 // (a label such as C-1, T-3 or W-9 names one). The expected lines are the plain model's: in tests/rust, `cargo run --release -p model --bin cases`
 // writes them, and tests/rust/tests/cases.rs holds the model to them. A line to be added is read against document 01.
 // A line of the input is a label, a colon and commands; written is the label and what the commands answer. One without a colon is written as it is.
-// A command is a number in hexadecimal, underscores left out, and a letter. What a command sets stays for the lines after it, but a clause for one call.
-// L: the slice ends at this index, and its next word stands there; 0L begins one. T: its next word. C: the next word of the clause.
-// M: so many times the next word of either. B: the budget.
+// A command is a number in hexadecimal and a letter. What a command sets stays for the lines after it, but a clause for one call.
+// L: the slice ends at this index, and its next word stands there; 0L begins one. T: its next word. M: so many times that. C: the next word of the clause.
+// B: the budget.
 // F: fresh. K: keep the clause under a number. R: remove a number. W: put the clause as a query, with a blank witness of so many words.
 // N: the ceiling of the slice's three words. These are the calls of the C interface (include/code_tree.h), and write the number returned and the words
 // told; F, K and R then `left` or `changed`, for the slice, and its header; W the index and value of each word of the witness that the query wrote.

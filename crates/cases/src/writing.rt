@@ -16,18 +16,22 @@ pub fn write_number(text: &[u8], number: u64) {
     io::print_decimal(1, number);
 }
 
-// Writes a word in so many digits.
+// Writes a word in so many hexadecimal digits, or for 0 of them in base ten.
 pub fn write_word(word: u64, digits: usize) {
     io::write_all(1, b" ");
-    io::print_hex(1, word, digits);
+    if digits == 0 {
+        io::print_decimal(1, word);
+    } else {
+        io::print_hex(1, word, digits);
+    }
 }
 
-// Writes the words that are not 0.
-pub fn write_words(words: &[u64], digits: usize) {
+// Writes words so, but for those of one value.
+pub fn write_words(words: &[u64], blank: u64, digits: usize) {
     let mut i = 0;
     while i < words.len() {
         let word = words[i];
-        if word != 0 {
+        if word != blank {
             write_word(word, digits);
         }
         i += 1;
@@ -36,15 +40,8 @@ pub fn write_words(words: &[u64], digits: usize) {
 
 // Writes the number that a call returned and what it told.
 pub fn write_reply(returned: u64, told: &[u64]) {
-    write_number(b" ", returned);
-    let mut i = 0;
-    while i < told.len() {
-        let word = told[i];
-        if word != UNTOLD {
-            write_number(b" ", word);
-        }
-        i += 1;
-    }
+    write_word(returned, 0);
+    write_words(told, UNTOLD, 0);
 }
 
 // Writes an index and the word there.

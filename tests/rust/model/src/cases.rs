@@ -16,7 +16,7 @@ pub fn output(rows: &str) -> String {
     rows.lines().map(|row| cases.line(row) + "\n").collect()
 }
 
-// What the commands have set: the words that slices are the first of, the slice's length, the clause, how often the next word stands, the budget.
+// What the commands have set: the words that slices are the first of, the slice's length, the clause, how often the slice's next word stands, the budget.
 struct Cases {
     words: Vec<u64>,
     length: usize,
@@ -57,7 +57,7 @@ impl Cases {
             "L" => self.length = number as usize,
             "T" => self.give(number),
             "M" => self.times = number as usize,
-            "C" => self.spell(number as u16),
+            "C" => self.clause.push(number as u16),
             "B" => self.budget = number,
             _ => {
                 let clause = std::mem::take(&mut self.clause);
@@ -71,12 +71,6 @@ impl Cases {
         let end = self.length + self.times;
         self.words[self.length..end].fill(word);
         self.length = end;
-        self.times = 1;
-    }
-
-    fn spell(&mut self, word: u16) {
-        let words = std::iter::repeat_n(word, self.times);
-        self.clause.extend(words);
         self.times = 1;
     }
 
@@ -143,9 +137,9 @@ impl Cases {
     }
 }
 
-// A number in hexadecimal, underscores left out; without digits it is 0.
+// A number in hexadecimal; without digits it is 0.
 fn number(digits: &str) -> u64 {
-    let digits = format!("0{digits}").replace('_', "");
+    let digits = format!("0{digits}");
     u64::from_str_radix(&digits, 16).expect("a number of up to 64 bits")
 }
 

@@ -6,10 +6,10 @@ use Rattle.cases.proofs.writing.write_words.Statement.{statement}
 use Rattle.cases.proofs.writing.write_words.Tie as tie
 
 abbrev Inv-loop : tie.InvT-loop
-Inv-loop words digits i₀ i = i ≤ length words
+Inv-loop words blank digits i₀ i = i ≤ length words
 
 abbrev μ-loop : tie.MeasureT-loop
-μ-loop words digits i₀ i = length words - i
+μ-loop words blank digits i₀ i = length words - i
 
 loop-holds : tie.Need-loop-holds Inv-loop μ-loop
 loop-holds c = search needs
