@@ -90,7 +90,7 @@ fn fill(tree: &mut [u64], number: u64) {
 
 // V: reads the clause.
 fn run_read(clause: &[u16]) {
-    match clause::read(clause) {
+    match reading::read(clause) {
         Shape::Whole(literals) => write_number(b" whole ", literals as u64),
         Shape::Faulty(fault) => {
             let mut told = [UNTOLD; 1];
@@ -106,7 +106,7 @@ fn run_compile(clause: &[u16]) {
         return;
     }
     let mut keys = [0u64; Sequence::KEYS];
-    let count = machine::compile(clause, &mut keys);
+    let count = compiling::compile(clause, &mut keys);
     write_words(&keys[..count], 0, 9);
 }
 

@@ -2,4 +2,3 @@ pub mod Region
 pub mod Rows
 pub mod Unlike
 pub mod Places
-pub mod Visits

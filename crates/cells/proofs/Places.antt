@@ -7,7 +7,6 @@ use mathlib.Core.List.{List, [], _∷_, map}
 use native.Mathlib.Omega.{arith}
 use native.Mathlib.Numerals.{add-one}
 use lib.Dec.{eqb}
-use Rattle.cells.specs.declared.Go.{Go}
 use lib.ListN.{length, getD, take, drop, set, length-take, length-drop, length-set}
 use lib.Seq.{take-set-le, take-set-lt, drop-set-lt, drop-set-add, take-suc-set, getD-take, getD-drop, getD-set-same, getD-set-other, set-set, set-getD, set-comm}
 use borrow.Author.Tests.{eq-eqb, ne-eqb}
@@ -17,7 +16,7 @@ use Rattle.clause.proofs.Literals.{accepted}
 use Rattle.machine.specs.Machine.{slots}
 use Rattle.machine.proofs.Safe.{start-in}
 use Rattle.cells.specs.inner.Cells.{putsAt, pushesAt, countAt, cellCount, noPosition, countIn, HasPlace, positionIn, placed, stateOf, restored}
-use Rattle.cells.specs.inner.Cells.{Marked, plain, store, unwound, reserved, candidate, released, keptIn, headAt, startAt, Walkable}
+use Rattle.cells.specs.inner.Cells.{unwound, reserved, candidate, released, keptIn, headAt, startAt, Walkable}
 
 pub place-none : {x : ℕ} → x ≡ noPosition → positionIn x ≡ none
 unfolding positionIn
@@ -197,17 +196,6 @@ restored-low t m l h n =
     let e : (t * 2 ^ 16 + m) / 256 % 256 ≡ m / 256 % 256 = omega arith in
     let f : (t * 2 ^ 16 + m) % 256 ≡ m % 256 = omega arith in
     rw (ne-eqb (t * 2 ^ 16 + m) 0 (λ z. n (omega arith)), ne-eqb m 0 n, e, f)
-
--- what a visit stored over is stored back
-pub restored-marked : {l after : List ℕ} {g : Go} {m : ℕ} → Marked l g m after → restored m after ≡ l
-unfolding restored
-restored-marked (plain g n) = refl
-restored-marked {l} (store i x low high small) =
-    let v = getD l i 0 in
-    let e : (i * 256 + v) / 256 % 256 ≡ i = omega arith in
-    let f : (i * 256 + v) % 256 ≡ v = omega arith in
-    let g : eqb (i * 256 + v) 0 ≡ false = ne-eqb (i * 256 + v) 0 (λ z. omega arith) in
-    rw (g, e, f, set-set l i x v, set-getD l i 0)
 
 pub unwound-none : (l : List ℕ) → unwound 0 l ≡ l
 unfolding unwound restored

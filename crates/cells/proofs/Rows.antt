@@ -1,24 +1,23 @@
 -- The walk at a place of a row, in the terms of the loop over siblings: the words from that place on.
-use Prim.Native.Nat.{ℕ, zero, suc, pred, _+_, _-_, _*_, _/_, _%_, _^_, _≤_, _<_}
+use Prim.Native.Nat.{ℕ, suc, pred, _+_, _-_, _*_, _/_, _%_, _^_, _≤_, _<_}
 use mathlib.Core.Path.{_≡_, refl, sym, _∙_}
-use mathlib.Core.Bool.{Bool, true, false, cond}
-use mathlib.Core.Option.{Option, none, some}
+use mathlib.Core.Bool.{Bool, true, false}
+use mathlib.Core.Option.{some}
 use mathlib.Core.List.{List, _∷_}
 use native.Mathlib.Omega.{arith}
 use native.Mathlib.Numerals.{add-one}
 use native.Mathlib.Decide.{ℕ-discrete}
-use lib.Dec.{ltb, eqb}
+use lib.Dec.{eqb}
 use lib.ListN.{length, getD, take, drop, length-drop, drop-of-length-le}
 use lib.Seq.{drop-cons, drop-drop}
 use borrow.Author.Tests.{le-leb, lt-leb, eq-eqb, ne-eqb}
-use Rattle.clause.specs.Clause.{literals, maxLiterals}
-use Rattle.machine.specs.Instr.{Instr, First, Do, Success, Check, instruction, instrOf}
-use Rattle.machine.specs.Machine.{State, Outcome, next, fails, stuck, step, stepFrom, stepAt, enter, finish, require}
+use Rattle.machine.specs.Instr.{instruction}
+use Rattle.machine.specs.Machine.{State, step, stepFrom, stepAt, require}
 use Rattle.tree.specs.Laid.{keyOf, extentOf}
-use Rattle.walk.specs.Walk.{Machine, covered, notCovered, broken, Part, andThen, follow, tries, visitAt, visit, upTo}
+use Rattle.walk.specs.Walk.{Machine, notCovered, broken, andThen, visit}
 use Rattle.walk.specs.Words.{extends, walkWords}
 use Rattle.walk.specs.Query.{machine}
-use Rattle.cells.specs.inner.Cells.{Met, past, bad, hit, firsts, below, stepped, reached, metAs, meeting, entered, Skipped}
+use Rattle.cells.specs.inner.Cells.{Skipped}
 use Rattle.walk.proofs.Fuel.{walkWords-cons}
 use Rattle.cells.proofs.Region.{instrOf-word, success-word}
 
@@ -78,94 +77,6 @@ module _ (M : Machine) (allow : ℕ → Bool) (T : List ℕ) (at : ℕ) (h : at 
       let n : pred (extentOf (getD T at 0)) ≡ at + x - (at + 1) = omega arith in
       let m : at + 1 + (at + x - (at + 1)) ≡ at + x = omega arith in
       rw (split, walkWords-cons M allow (getD T at 0) (drop (at + 1) T) s c, after, ok, n, drop-drop (at + x - (at + 1)) (at + 1) T, m)
-
--- a word that extends has an extent
-pub extends-some : (w n : ℕ) → extends w n ≡ true → 1 ≤ extentOf w
-unfolding extends
-extends-some w n e = go (extentOf w) refl
-  where
-    go : (x : ℕ) → extentOf w ≡ x → 1 ≤ extentOf w
-    go zero f = let z : false ≡ true = rw (lt-leb 1 (extentOf w) (omega arith)) at e in let y : _≡_ {A = ℕ} 0 1 = cc in absurd (omega arith)
-    go (suc x) f = omega arith
-
--- what follows a word: what it comes to, with the walk below it
-unfoldable pub goingOn : List ℕ → (budget number : ℕ) → Met → (State → Part State) → Part State
-goingOn d b n past k c = notCovered c
-goingOn d b n bad k c = broken
-goingOn d b n (hit s) k c = covered n s c
-goingOn d b n (firsts s) k c = entered d b true k s c
-goingOn d b n (below s) k c = k s c
-
--- the number of a Success is its operand
-number : (op x n : ℕ) → instruction op x ≡ some (Success n) → n ≡ x
-unfolding instruction
-number zero x n e = cc
-number (suc zero) x n e = let z : _≡_ {A = ℕ} 0 1 = cc in absurd (omega arith)
-number (suc (suc zero)) x n e = let z : _≡_ {A = ℕ} 0 1 = cc in absurd (omega arith)
-number (suc (suc (suc zero))) x n e = let z : _≡_ {A = ℕ} 0 1 = cc in absurd (omega arith)
-number (suc (suc (suc (suc zero)))) x n e = let z : _≡_ {A = ℕ} 0 1 = cc in absurd (omega arith)
-number (suc (suc (suc (suc (suc zero))))) x n e = let z : _≡_ {A = ℕ} 0 1 = cc in absurd (omega arith)
-number (suc (suc (suc (suc (suc (suc zero)))))) x n e = let z : _≡_ {A = ℕ} 0 1 = cc in absurd (omega arith)
-number (suc (suc (suc (suc (suc (suc (suc zero))))))) x n e = let z : _≡_ {A = ℕ} 0 1 = cc in absurd (omega arith)
-number (suc (suc (suc (suc (suc (suc (suc (suc zero)))))))) x n e = let z : _≡_ {A = ℕ} 0 1 = cc in absurd (omega arith)
-number (suc (suc (suc (suc (suc (suc (suc (suc (suc op))))))))) x n e = let z : _≡_ {A = ℕ} 0 1 = cc in absurd (omega arith)
-
-module _ (d : List ℕ) (b n : ℕ) (k : State → Part State) (s : State) (c : ℕ) where
-  follow-step : (o : Outcome State) → follow o k c ≡ goingOn d b n (stepped o) k c
-  unfolding goingOn stepped
-  follow-step (next t) = refl
-  follow-step fails = refl
-  follow-step stuck = refl
-
-  follow-finish : (o : Outcome State) → follow o (covered n) c ≡ goingOn d b n (reached o) k c
-  unfolding goingOn reached
-  follow-finish (next t) = refl
-  follow-finish fails = refl
-  follow-finish stuck = refl
-
-  -- a First: with eight candidates so far it is broken
-  try-first : (q : ℕ) → length (literals d) ≡ suc q → (e : Bool) → ltb (length (s .chosen)) maxLiterals ≡ e
-      → tries (machine d) (upTo b) k s (length (literals d)) 0 c ≡ goingOn d b n (cond (ltb (length (s .chosen)) maxLiterals) (firsts s) bad) k c
-  unfolding goingOn entered enter require
-  try-first q l true e = rw e
-  try-first q l false e = rw (e, l, e)
-
-  visit-met : (q : ℕ) → length (literals d) ≡ suc q → (o : Option Instr) → ((m : ℕ) → o ≡ some (Success m) → m ≡ n)
-      → visitAt (machine d) (upTo b) o k s c ≡ goingOn d b n (metAs d o s) k c
-  unfolding goingOn metAs
-  visit-met q l none i = refl
-  visit-met q l (some First) i = try-first q l (ltb (length (s .chosen)) maxLiterals) refl
-  visit-met q l (some (Do x)) i = follow-step (step d x s)
-  visit-met q l (some (Success m)) i = rw (i m refl) (follow-finish (finish s))
-
--- at the first word of a row: what it comes to, then its siblings
-module _ (d : List ℕ) (b : ℕ) (T : List ℕ) (h : 0 < length T) (s : State) (c : ℕ) (q : ℕ) (l : length (literals d) ≡ suc q) where
-  pub meets :
-      (x : ℕ) → x ≡ extentOf (getD T 0 0)
-      → walkWords (machine d) (upTo b) T s c
-      ≡ andThen (goingOn d b (getD T 0 0 / 2 ^ 28 % 2 ^ 32) (meeting d (getD T 0 0) (length T) s) (walkWords (machine d) (upTo b) (take (x - 1) (drop 1 T))) c)
-      (walkWords (machine d) (upTo b) (drop x T) s)
-  unfolding meeting goingOn
-  meets x e = go (extends (getD T 0 0) (length T - 1)) refl
-    where
-      no-more : length T - 0 - 1 ≡ length T - 1
-      no-more = omega arith
-
-      go :
-          (v : Bool) → extends (getD T 0 0) (length T - 1) ≡ v
-          → walkWords (machine d) (upTo b) T s c
-          ≡ andThen (goingOn d b (getD T 0 0 / 2 ^ 28 % 2 ^ 32) (meeting d (getD T 0 0) (length T) s) (walkWords (machine d) (upTo b) (take (x - 1) (drop 1 T))) c)
-          (walkWords (machine d) (upTo b) (drop x T) s)
-      go false f = rw (row-broken (machine d) (upTo b) T 0 h s c (rw no-more f), f)
-      go true f =
-          let w = getD T 0 0 in
-          let k = walkWords (machine d) (upTo b) (take (x - 1) (drop 1 T)) in
-          let y : 0 + x - (0 + 1) ≡ x - 1 = omega arith in
-          let z : 0 + x ≡ x = omega arith in
-          let u : 0 + 1 ≡ 1 = omega arith in
-          let r = row-node (machine d) (upTo b) T 0 h s c x e (rw e (extends-some w (length T - 1) f)) (rw no-more f) in
-          rw (y, u, z) at r
-          ∙ rw (f, visit-met d b (w / 2 ^ 28 % 2 ^ 32) k s c q l (instrOf (keyOf w)) (λ m g. number (w / 2 ^ 60) (w / 2 ^ 28 % 2 ^ 32) m (sym (instrOf-word w) ∙ g)))
 
 -- a Check that fails
 pub fails-there :

@@ -1,10 +1,8 @@
-// The state of the walk's path in lent cells, and one word of a row on them.
+// The state of the walk's path in lent cells, and the words of a row that are passed over.
 mod row;
 mod state;
-mod step;
 
 use clause::Clause;
-pub use row::operand;
 pub use row::skip;
 pub use row::wanted;
 pub use state::begin;
@@ -16,8 +14,6 @@ pub use state::restore;
 pub use state::trace;
 pub use state::unwind;
 pub use state::wide;
-pub use step::meet;
-pub use step::meet_top;
 
 // A path's state in lent cells: the candidates first, then the positions put, the positions pushed, and how many candidates there are.
 pub struct Path {}
@@ -43,38 +39,4 @@ impl Path {
 
     // A trail below this has room for one more mark.
     pub const TRAIL: u64 = 0x1_0000_0000_0000;
-}
-
-// What a node asks for: to go on past it, nothing more (it is broken), to end with its number, to try the candidates, to go on below it, to go on
-// below it after a store.
-pub enum Go {
-    Fails,
-    Stuck,
-    Hit,
-    Tries,
-    Below,
-    Stored,
-}
-
-// A visited node: where the walk goes on, and what brings back the cell that the visit stored over.
-pub struct Visit {
-    pub go: Go,
-    pub head: usize,
-    pub mark: u64,
-}
-
-impl Visit {
-    // A broken node.
-    pub const STUCK: Visit = Visit {
-        go: Go::Stuck,
-        head: Path::NONE,
-        mark: 0,
-    };
-
-    // A node that fails.
-    pub const FAILS: Visit = Visit {
-        go: Go::Fails,
-        head: Path::NONE,
-        mark: 0,
-    };
 }

@@ -1,24 +1,10 @@
-// The words of a row: their fields, and the Checks that fail among them.
+// The words of a row: the Checks that fail among them.
 use tree::extent;
 ghost use mathlib.Core.Path.{_≡_};
 ghost use mathlib.Core.Bool.{true};
-ghost use Prim.Native.Nat.{_-_, _≤_, _<_, _/_, _%_, _^_};
+ghost use Prim.Native.Nat.{_-_, _≤_, _<_, _/_, _^_};
 ghost use lib.ListN.{length};
 ghost use Rattle.cells.specs.inner.Cells.{wantedAt, Skipped};
-
-// The operation of a word.
-pub fn operation(w: u64) -> u64
-    ensures { λ r. ⌜ r ≡ w / 2 ^ 60 ⌝ }
-{
-    w / 0x1000_0000_0000_0000
-}
-
-// The operand of a word.
-pub fn operand(w: u64) -> u32
-    ensures { λ r. ⌜ r ≡ w / 2 ^ 28 % 2 ^ 32 ⌝ }
-{
-    (w / 0x1000_0000 % 0x1_0000_0000) as u32
-}
 
 // The key of the Check that fits at the head.
 pub fn wanted(query: &[u16], head: usize) -> u64

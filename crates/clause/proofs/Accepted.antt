@@ -132,8 +132,10 @@ module _ (ws : List ℕ) where
             L = literals-whole (take at ws ++ S .more) (S .n) (rw f at (S .completed))
 
             split : Dec (at < length ws) → ((at < length ws) × (Begins (take (suc at) ws) → ⊥) × (IsNinth ws at → ⊥)) ⊎ ((at ≡ length ws) × (Rules ws → ⊥))
-            split (yes l) =
-                inl (l, λ B. let (n, L′, few) = B .1 in (rw f at (S .broken)) l (B .0) n (whole-literals (take (suc at) ws ++ B .0) n L′ few), λ N. let g = ninth-scan ws at N in apart cc)
+            split (yes l) = inl (l, more, λ N. let g = ninth-scan ws at N in apart cc)
+              where
+                more : Begins (take (suc at) ws) → ⊥
+                more B = let (n, L′, few) = B .1 in (rw f at (S .broken)) l (B .0) n (whole-literals (take (suc at) ws ++ B .0) n L′ few)
             split (no l) = inr (omega (arith, S .inside, f), λ r. rules r e)
 
         to : (Fits ws × (shape ws ≡ scan ws 0 0 0)) ⊎ ((Fits ws → ⊥) × (shape ws ≡ Faulty BadLength)) → Fits ws × Breaks ws at

@@ -35,7 +35,15 @@ pub record Stops (ws : List ℕ) (need lits p q : ℕ) : Type 0 where
 
 stops-here : (w : ℕ) (ws : List ℕ) (need lits p q : ℕ) → ((xs : List ℕ) → scan (w ∷ xs) need lits p ≡ Faulty (Bad p)) → p ≡ q → Stops (w ∷ ws) need lits p q
 stops-here w ws need lits p q f e =
-    record { i = 0; place = omega arith; inside = omega arith; more = replicate need filler; n = lits; completed = filled need lits p; broken = λ h more n u. let v = f more in apart cc }
+    record {
+      i = 0;
+      place = omega arith;
+      inside = omega arith;
+      more = replicate need filler;
+      n = lits;
+      completed = filled need lits p;
+      broken = λ h more n u. let v = f more in apart cc;
+    }
 
 stops-later : (w : ℕ) (ws : List ℕ) (need lits p q need′ lits′ : ℕ)
     → ((xs : List ℕ) → scan (w ∷ xs) need lits p ≡ scan xs need′ lits′ (suc p)) → Stops ws need′ lits′ (suc p) q
@@ -107,7 +115,8 @@ meets (w ∷ ws) need lits p q h e = go (sort w) need refl e (meets ws)
       where
         room : (b : Bool) → ltb lits maxLiterals ≡ b → cond b (scan ws (arity w) (suc lits) (suc p)) (Faulty (Ninth p)) ≡ Faulty (Ninth q) → Meets (w ∷ ws) 0 lits p q
         room true v e′ =
-            meets-later w ws 0 lits p q (arity w) (suc lits) (scan-head w u lits p (ltb-true lits maxLiterals v)) (ih (arity w) (suc lits) (suc p) q (ltb-true lits maxLiterals v) e′)
+            let r = ltb-true lits maxLiterals v in
+            meets-later w ws 0 lits p q (arity w) (suc lits) (scan-head w u lits p r) (ih (arity w) (suc lits) (suc p) q r e′)
         room false v e′ =
             let z : p ≡ q = cc in
             let l : lits ≡ maxLiterals = omega (arith, ltb-false lits maxLiterals v) in

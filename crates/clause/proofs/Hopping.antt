@@ -86,8 +86,11 @@ module _ (d : List ℕ) (A : Accepted d) (count at : ℕ) {table : List ℕ} (H 
       let l : length (take count (starts d)) ≡ count = length-take-le count (starts d) (omega arith) in
       let m : length (take count (starts d)) < maxLiterals = rw l (omega arith) in
       let t : take (suc count) (starts d) ≡ take count (starts d) ++ (at ∷ []) = rw (take-suc (starts d) count 0 k, hopped-start g .1) in
-      let s : set table count at ≡ packed (take (suc count) (starts d)) (ends d) (siblings d []) 0 =
-      rw (H .is, t) (ap (λ (i : ℕ). set (packed (take count (starts d)) (ends d) (siblings d []) 0) i at) (sym l) ∙ set-start (take count (starts d)) (ends d) (siblings d []) 0 at m) in (
+      let u : set (packed (take count (starts d)) (ends d) (siblings d []) 0) count at
+      ≡ packed (take count (starts d) ++ (at ∷ [])) (ends d) (siblings d []) 0 =
+      ap (λ (i : ℕ). set (packed (take count (starts d)) (ends d) (siblings d []) 0) i at) (sym l)
+      ∙ set-start (take count (starts d)) (ends d) (siblings d []) 0 at m in
+      let s : set table count at ≡ packed (take (suc count) (starts d)) (ends d) (siblings d []) 0 = rw (H .is, t) u in (
         omega (arith, jump-one d at h, jump-from d (arity (getD d at 0)) (suc at)),
         ap (λ (x : List ℕ). getD x (atEnds + at) 0) s ∙ end-at (take (suc count) (starts d)) (ends d) (siblings d []) 0 at (omega arith) ∙ ends-at d at h,
         rw add-one (record { few = omega arith; place = hopped-end g; is = s }),

@@ -16,7 +16,7 @@ use Rattle.clause.proofs.Skip.{Enough, enough-fewer}
 use Rattle.clause.proofs.Jump.{jump-zero, jump-suc, enough-here, enough-word, enough-term}
 use Rattle.clause.proofs.Literals.{accepted}
 use Rattle.clause.proofs.Ends.{skip-le, length-ends, ends-at, jump-one, jump-le, jump-from}
-use Rattle.clause.proofs.Siblings.{rightsOf, passed, total, Positive, siblings-cons, length-siblings, push-append, push-total, push-positive, enough-rights}
+use Rattle.clause.proofs.Siblings.{rightsOf, afterTerm, total, Positive, siblings-cons, length-siblings, push-append, push-total, push-positive, enough-rights}
 use Rattle.clause.proofs.Packing.{getD-after, packed-zeros, end-at, set-end, set-right}
 
 -- right siblings up to the end of the arguments still to come, and after it
@@ -39,7 +39,7 @@ inner d at = take (skip (arity (getD d at 0)) (drop (suc at) d)) (siblings (drop
 
 module _ (d : List ℕ) (at : ℕ) (h : at < length d) where
   -- the right siblings from a term on: its own, those inside it, and those after it
-  siblings-term : (rest : List ℕ) → siblings (drop at d) rest ≡ rightsOf rest ∷ inner d at ++ siblings (drop (jump d 1 at) d) (passed rest)
+  siblings-term : (rest : List ℕ) → siblings (drop at d) rest ≡ rightsOf rest ∷ inner d at ++ siblings (drop (jump d 1 at) d) (afterTerm rest)
   unfolding jump skip inner
   siblings-term rest =
       let w = getD d at 0 in
@@ -49,7 +49,7 @@ module _ (d : List ℕ) (at : ℕ) (h : at < length d) where
       let t : a ≡ total (pushDue a []) = rw (push-total a []) (omega arith) in
       let g : suc at + skip a ws ≡ at + suc (skip a ws) = omega arith in
       let f : drop (skip a ws) ws ≡ drop (at + suc (skip (a + 0) ws)) d = rw (drop-drop, add-zero, g) in
-      rw (c, siblings-cons w ws rest, push-append a [] (passed rest), seam ws (pushDue a []) (passed rest) a (push-positive a none) t, f)
+      rw (c, siblings-cons w ws rest, push-append a [] (afterTerm rest), seam ws (pushDue a []) (afterTerm rest) a (push-positive a none) t, f)
 
   inner-size : (x : ℕ) → at + length (x ∷ inner d at) ≡ jump d 1 at
   unfolding jump skip inner

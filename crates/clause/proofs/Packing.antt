@@ -60,8 +60,8 @@ module _ (s e r : List ℕ) (n : ℕ) where
   end-at k h =
       let b : atEnds + k < length (padded maxLiterals s ++ padded maxWords e) = rw first-two (omega arith) in
       let c : atEnds + k < length (padded maxLiterals s ++ padded maxWords e ++ padded maxWords r) = rw first-three (omega arith) in
-      rw (List·getD-append _ (n ∷ []) 0 (atEnds + k) c, List·getD-append _ (padded maxWords r) 0 (atEnds + k) b, getD-after _ (padded maxWords e) atEnds k (length-padded maxLiterals s))
-      (padded-get maxWords e k h)
+      let a = getD-after (padded maxLiterals s) (padded maxWords e) atEnds k (length-padded maxLiterals s) in
+      rw (List·getD-append _ (n ∷ []) 0 (atEnds + k) c, List·getD-append _ (padded maxWords r) 0 (atEnds + k) b, a) (padded-get maxWords e k h)
 
   pub right-at : (k : ℕ) → k < maxWords → getD (packed s e r n) (atSiblings + k) 0 ≡ getD r k 0
   unfolding packed

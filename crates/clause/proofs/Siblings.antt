@@ -26,17 +26,17 @@ rightsOf (zero ∷ due) = 0
 rightsOf (suc n ∷ due) = n
 
 -- the arguments still to come after one more term
-abbrev pub passed : List ℕ → List ℕ
-passed [] = []
-passed (zero ∷ due) = due
-passed (suc n ∷ due) = pushDue n due
+abbrev pub afterTerm : List ℕ → List ℕ
+afterTerm [] = []
+afterTerm (zero ∷ due) = due
+afterTerm (suc n ∷ due) = pushDue n due
 
 -- the arguments still to come after words
 unfoldable pub dueAfter : List ℕ → List ℕ → List ℕ
 dueAfter [] due = due
-dueAfter (w ∷ ws) due = dueAfter ws (pushDue (arity w) (passed due))
+dueAfter (w ∷ ws) due = dueAfter ws (pushDue (arity w) (afterTerm due))
 
-pub siblings-cons : (w : ℕ) (ws due : List ℕ) → siblings (w ∷ ws) due ≡ rightsOf due ∷ siblings ws (pushDue (arity w) (passed due))
+pub siblings-cons : (w : ℕ) (ws due : List ℕ) → siblings (w ∷ ws) due ≡ rightsOf due ∷ siblings ws (pushDue (arity w) (afterTerm due))
 unfolding siblings
 siblings-cons w ws [] = refl
 siblings-cons w ws (zero ∷ due) = refl
@@ -45,27 +45,27 @@ siblings-cons w ws (suc n ∷ due) = refl
 pub due-append : (u v due : List ℕ) → dueAfter (u ++ v) due ≡ dueAfter v (dueAfter u due)
 unfolding dueAfter
 due-append [] v due = refl
-due-append (w ∷ u) v due = due-append u v (pushDue (arity w) (passed due))
+due-append (w ∷ u) v due = due-append u v (pushDue (arity w) (afterTerm due))
 
 -- each word's right siblings by the words before it
 pub siblings-at : (ws due : List ℕ) (p : ℕ) → p < length ws → getD (siblings ws due) p 0 ≡ rightsOf (dueAfter (take p ws) due)
 unfolding dueAfter
 siblings-at [] due p h = absurd (omega arith)
 siblings-at (w ∷ ws) due zero h = rw (siblings-cons w ws due)
-siblings-at (w ∷ ws) due (suc p) h = rw (siblings-cons w ws due) (siblings-at ws (pushDue (arity w) (passed due)) p (omega arith))
+siblings-at (w ∷ ws) due (suc p) h = rw (siblings-cons w ws due) (siblings-at ws (pushDue (arity w) (afterTerm due)) p (omega arith))
 
 pub length-siblings : (ws due : List ℕ) → length (siblings ws due) ≡ length ws
 unfolding siblings
 length-siblings [] due = refl
-length-siblings (w ∷ ws) due = rw (siblings-cons w ws due) (ap suc (length-siblings ws (pushDue (arity w) (passed due))))
+length-siblings (w ∷ ws) due = rw (siblings-cons w ws due) (ap suc (length-siblings ws (pushDue (arity w) (afterTerm due))))
 
 -- one more term has one right sibling fewer
-rights-passed : (due : List ℕ) (l : ℕ) → rightsOf due ≡ suc l → rightsOf (passed due) ≡ l
+rights-after : (due : List ℕ) (l : ℕ) → rightsOf due ≡ suc l → rightsOf (afterTerm due) ≡ l
 unfolding pushDue
-rights-passed [] l e = absurd (omega arith)
-rights-passed (zero ∷ due) l e = absurd (omega arith)
-rights-passed (suc zero ∷ due) l e = absurd (omega arith)
-rights-passed (suc (suc n) ∷ due) l e = omega arith
+rights-after [] l e = absurd (omega arith)
+rights-after (zero ∷ due) l e = absurd (omega arith)
+rights-after (suc zero ∷ due) l e = absurd (omega arith)
+rights-after (suc (suc n) ∷ due) l e = omega arith
 
 -- how many arguments are still to come in all
 abbrev pub total : List ℕ → ℕ
@@ -103,14 +103,14 @@ clear (next-word {w} h) (suc j ∷ due) rest (also q p) e =
     (clear h (pushDue (arity w) (pushDue j due)) rest (push-positive (arity w) (push-positive j p)) (simp push-total (omega arith)))
 
 -- after a whole term one argument fewer is to come
-pub due-term : {u : List ℕ} → Shaped 1 u → (due : List ℕ) → dueAfter u due ≡ passed due
+pub due-term : {u : List ℕ} → Shaped 1 u → (due : List ℕ) → dueAfter u due ≡ afterTerm due
 unfolding dueAfter
 due-term h due = go h refl
   where
-    go : {n : ℕ} {u : List ℕ} → Shaped n u → n ≡ 1 → dueAfter u due ≡ passed due
+    go : {n : ℕ} {u : List ℕ} → Shaped n u → n ≡ 1 → dueAfter u due ≡ afterTerm due
     go end e = absurd (omega arith)
     go (next-word {w} h) e =
-        rw (push-append (arity w) [] (passed due)) (clear h (pushDue (arity w) []) (passed due) (push-positive (arity w) none) (simp push-total (omega arith)))
+        rw (push-append (arity w) [] (afterTerm due)) (clear h (pushDue (arity w) []) (afterTerm due) (push-positive (arity w) none) (simp push-total (omega arith)))
 
 -- the first k terms, where there are as many
 pub enough-shaped : {k : ℕ} {ws : List ℕ} → Enough k ws → Shaped k (take (skip k ws) ws)
@@ -119,7 +119,7 @@ enough-shaped (done {ws}) = rw (skip-zero ws) end
 enough-shaped (more h) = next-word (enough-shaped h)
 
 -- and so it is from a position to the end of its term
-pub due-jump : (d due : List ℕ) (p : ℕ) → Enough 1 (drop p d) → dueAfter (take (jump d 1 p) d) due ≡ passed (dueAfter (take p d) due)
+pub due-jump : (d due : List ℕ) (p : ℕ) → Enough 1 (drop p d) → dueAfter (take (jump d 1 p) d) due ≡ afterTerm (dueAfter (take p d) due)
 unfolding jump
 due-jump d due p h = rw (take-add, due-append, due-term (enough-shaped h) (dueAfter (take p d) due))
 
@@ -132,11 +132,11 @@ record Reached (due ws : List ℕ) : Type 0 where
 shaped-tail : {n w : ℕ} {ws : List ℕ} → Shaped n (w ∷ ws) → (k : ℕ) × (n ≡ suc k) × Shaped (arity w + k) ws
 shaped-tail (next-word {w} {k} h) = (k, refl, h)
 
-reached-word : (due : List ℕ) (w : ℕ) (ws : List ℕ) → Reached due (w ∷ ws) → Reached (pushDue (arity w) (passed due)) ws
+reached-word : (due : List ℕ) (w : ℕ) (ws : List ℕ) → Reached due (w ∷ ws) → Reached (pushDue (arity w) (afterTerm due)) ws
 reached-word due w ws R = let (k, e, h) = shaped-tail (R .shaped) in go due (R .positive) k e h
   where
     go : (due : List ℕ) → Positive due → (k : ℕ) → total due + R .others ≡ suc k → Shaped (arity w + k) ws
-        → Reached (pushDue (arity w) (passed due)) ws
+        → Reached (pushDue (arity w) (afterTerm due)) ws
     go [] p k e h =
         let f : total (pushDue (arity w) []) + k ≡ arity w + k = rw (push-total (arity w) []) (omega arith) in
         record { positive = push-positive (arity w) none; others = k; shaped = rw f h }
@@ -149,7 +149,7 @@ reached-at : (due ws : List ℕ) → Reached due ws → (p : ℕ) → Reached (d
 unfolding dueAfter
 reached-at due ws R zero = R
 reached-at due [] R (suc p) = R
-reached-at due (w ∷ ws) R (suc p) = reached-at (pushDue (arity w) (passed due)) ws (reached-word due w ws R) p
+reached-at due (w ∷ ws) R (suc p) = reached-at (pushDue (arity w) (afterTerm due)) ws (reached-word due w ws R) p
 
 -- where a word is left, a term and its right siblings are
 reached-enough : (due ws : List ℕ) → Reached due ws → 0 < length ws → Enough (suc (rightsOf due)) ws
@@ -236,4 +236,4 @@ module _ (d : List ℕ) (D : Clause d) where
   rights-right p l h e =
       let f : rightsOf (dueAfter (take p d) []) ≡ suc l = sym (siblings-at d [] p h) ∙ e in
       rw (siblings-at d [] (jump d 1 p) (right-inside p l h e), due-jump d [] p (enough-fewer (enough-rights p h) 1 (omega arith)))
-      (rights-passed (dueAfter (take p d) []) l f)
+      (rights-after (dueAfter (take p d) []) l f)

@@ -1,13 +1,12 @@
-// Clauses: their words, their faults, the reading (document 01, "Clause words").
+// Clauses: their words, their shapes and faults, their tables (document 01, "Clause words").
 mod equality;
-mod moves;
-mod reader;
 mod tables;
 mod word;
 
 pub use equality::same;
-pub use reader::read;
 pub use word::arity;
+ghost use mathlib.Core.Path.{_≡_};
+ghost use Rattle.clause.specs.Clause.{faultOf};
 
 // What is wrong with a clause: its length (code 3), a word or the end that breaks the rules (4) or a ninth head (5), each with its position.
 pub enum Fault {
@@ -22,22 +21,16 @@ pub enum Shape {
     Whole(usize),
 }
 
-// A position in a clause, and how many right siblings the term there has.
-pub struct Cursor {
-    pub at: usize,
-    pub left: usize,
-}
-
-// Where a cursor gets to: another term, or nowhere.
-pub enum Move {
-    To(Cursor),
-    Nowhere,
-}
-
-// What reading past terms gives: the cursor after them, or the position of the word, or of the end, that breaks the rules.
-pub enum Passed {
-    At(Cursor),
-    Off(usize),
+impl Shape {
+    // The fault, of a shape that has one.
+    pub fn fault(self) -> Fault
+        ensures { λ r. ⌜ r ≡ faultOf self ⌝ }
+    {
+        match self {
+            Shape::Faulty(fault) => fault,
+            Shape::Whole(_) => Fault::BadLength,
+        }
+    }
 }
 
 // An accepted clause's tables: where each literal starts, where the term at each position ends, how many right siblings it has,

@@ -1,35 +1,37 @@
--- The input byte by byte: what each function of the reading leaves is what the definition says.
+-- A block record by record: what the functions leave is what the definition says, byte after byte.
 use mathlib.Core.Path.{_≡_, refl, sym, ap, _∙_}
-use mathlib.Core.List.{List, [], _∷_, _++_, append-assoc, append-nil}
-use Prim.Native.Nat.{ℕ, _+_, _-_, _*_, _≤_, _<_}
+use mathlib.Core.List.{List, [], _∷_}
+use Prim.Native.Nat.{ℕ, _+_, _-_, _*_, _≤_}
 use native.Mathlib.Omega.{arith}
-use lib.ListN.{length, take, drop, getD, set, length-take}
+use lib.ListN.{length, take, drop, length-take}
 use lib.Seq.{take-add, take-take, take-all}
-use borrow.Author.Tests.{lt-ltb, le-ltb, eq-eqb, ne-eqb}
-use Rattle.record.specs.Text.{Written, written}
+use Rattle.record.specs.Text.{Written, putAt}
 use Rattle.record.specs.Line.{longestLine, lineOf}
 use Rattle.record.specs.Output.{counted}
-use Rattle.feeding.specs.Feed.{Store, storeOf, Fed, finishing, recordEnded, advanced, stored, proceeding, takeField, takeAs, takeByte, feedThen, feed}
-use Rattle.feeding.specs.inner.Steady.{FedInto, fedInto, Steady, CameOut, Took, Stepped, recordsIn}
-use Rattle.lines.proofs.Writing.{written-append, text-there}
 use Rattle.record.specs.declared.Outcome.{Outcome}
 use Rattle.record.specs.declared.Outcome.the-variants.{Kept, Struck, Refused}
 use Rattle.record.specs.declared.Totals.{Totals}
-use Rattle.feeding.specs.declared.Half.{Half}
-use Rattle.feeding.specs.declared.Half.the-variants.{Even, Odd}
-use Rattle.feeding.specs.declared.Stage.{Stage}
-use Rattle.feeding.specs.declared.Stage.the-variants.{AtNumber, AtCount, AtWord}
-use Rattle.feeding.specs.declared.Session.{Session}
-use Rattle.feeding.specs.declared.Head.{Head}
-use Rattle.feeding.specs.declared.Next.{Next}
-use Rattle.feeding.specs.declared.Next.the-variants.{Reads, Ends}
-use Rattle.feeding.specs.declared.Step.{Step}
+use Rattle.lines.proofs.Writing.{putAt-append, text-there}
+use Rattle.answering.specs.inner.Steady.{Steady, CameOut}
+use Rattle.intake.specs.Feed.{Store, storeOf, Fed, finishing, recordEnded, advanced, stored, proceeding, takeField, takeAs, takeByte, feedThen, feed}
+use Rattle.intake.specs.inner.Steps.{Stepped}
+use Rattle.intake.specs.declared.Half.{Half}
+use Rattle.intake.specs.declared.Half.the-variants.{Even, Odd}
+use Rattle.intake.specs.declared.Stage.{Stage}
+use Rattle.intake.specs.declared.Stage.the-variants.{AtNumber}
+use Rattle.intake.specs.declared.Session.{Session}
+use Rattle.intake.specs.declared.Head.{Head}
+use Rattle.intake.specs.declared.Next.{Next}
+use Rattle.intake.specs.declared.Next.the-variants.{Reads, Ends}
+use Rattle.intake.specs.declared.Step.{Step}
+use Rattle.intake.proofs.Bytes.{feed-append}
+use Rattle.feeding.specs.inner.Blocks.{FedInto, fedInto, Took, recordsIn}
 
 -- a whole record ended
 pub finishes : (n count : ℕ) (t : Totals) (m : Store) (o : List ℕ) (at : ℕ) {r : Outcome} {T K p : List ℕ} {u : Totals} {next : ℕ}
     → CameOut (finishing n count (m .words) (m .slice)) n (m .marks) r T K
     → u ≡ counted r t
-    → _≡_ {A = Written} (record { next = next; output = p }) (written (lineOf n r) o at)
+    → _≡_ {A = Written} (record { next = next; output = p }) (putAt (lineOf n r) o at)
     → next ≤ at + longestLine
     → Took (recordEnded n count t m) 1 at o (record { half = Even; stage = AtNumber; totals = u }) (record { words = m .words; slice = T; marks = K })
     (record { next = next; output = p })
@@ -51,43 +53,6 @@ goes h g t m o at e d =
 pub ends : (x : Head) (t : Totals) (m : Store) {y : Next} → y ≡ Ends x → proceeding y t m ≡ recordEnded (x .number) (x .count) t m
 ends x t m e = ap (λ (z : Next). proceeding z t m) e
 
--- ---- one field, by its stage
-
--- the reading goes on with another field
-abbrev pub going : Stage → Totals → Store → Fed
-going g t m = proceeding (Reads Even g) t m
-
--- the words with one more stored
-abbrev pub storing : Store → (at word : ℕ) → Store
-storing m at w = record { words = set (m .words) at w; slice = m .slice; marks = m .marks }
-
-module _ (t : Totals) (m : Store) (w : ℕ) where
-  pub at-number : {g : Stage} → g ≡ AtNumber → takeField g t m w ≡ going (AtCount w) t m
-  unfolding takeField
-  at-number e = rw e
-
-  pub at-count : (n : ℕ) {g : Stage} → g ≡ AtCount n → 0 < w → takeField g t m w ≡ going (AtWord n w 0) t m
-  unfolding takeField
-  at-count n e h = rw (e, ne-eqb w 0 (λ z. omega arith))
-
-  pub at-empty : (n : ℕ) {g : Stage} → g ≡ AtCount n → w ≤ 0 → takeField g t m w ≡ recordEnded n 0 t m
-  unfolding takeField
-  at-empty n e h = rw (e, eq-eqb w 0 (omega arith))
-
-  pub at-word : (n count i : ℕ) {g : Stage} → g ≡ AtWord n count i → i + 1 < count → takeField g t m w ≡ going (AtWord n count (i + 1)) t (storing m i w)
-  unfolding takeField
-  at-word n count i e h = rw (e, lt-ltb (i + 1) count h)
-
-  pub at-last : (n count i : ℕ) {g : Stage} → g ≡ AtWord n count i → count ≤ i + 1 → takeField g t m w ≡ recordEnded n count t (storing m i w)
-  unfolding takeField
-  at-last n count i e h = rw (e, le-ltb (i + 1) count h)
-
--- a field that is no word is not stored
-pub no-word : (g : Stage) (ws : List ℕ) (w : ℕ) → ((n count i : ℕ) → g ≡ AtWord n count i → ⊥) → ws ≡ stored g ws w
-no-word AtNumber ws w h = refl
-no-word (AtCount n) ws w h = refl
-no-word (AtWord n count i) ws w h = absurd (h n count i refl)
-
 -- ---- one more outcome, one more record
 
 counted-one : (o : Outcome) (t : Totals) → recordsIn (counted o t) ≡ recordsIn t + 1
@@ -106,19 +71,7 @@ unfolding takeField
 few-records Even g t m b = few-next (Reads (Odd b) g) t m
 few-records (Odd a) g t m b = few-next (advanced g (a * 256 + b)) t (storeOf (stored g (m .words) (a * 256 + b)) (m .slice) (m .marks))
 
--- ---- one byte after another
-
--- first some bytes, then others
-pub feed-append : (a b : List ℕ) (s : Session) (m : Store) → feed s m (a ++ b) ≡ feedThen (feed s m a) (λ s′ m′. feed s′ m′ b)
-unfolding feed
-feed-append [] b s m = refl
-feed-append (x ∷ a) b s m = rw (feed-append a b (takeByte s m x .session) (takeByte s m x .store), append-assoc)
-
--- one byte
-pub feed-one : (input : List ℕ) (s : Session) (m : Store) → 0 < length input → feed s m (take 1 input) ≡ takeByte s m (getD input 0 0)
-unfolding feed
-feed-one [] s m h = absurd (omega arith)
-feed-one (b ∷ input) s m h = rw append-nil
+-- ---- some bytes after others
 
 -- some bytes more
 feed-on : (input : List ℕ) (i k : ℕ) (s : Session) (m : Store)
@@ -133,29 +86,20 @@ feed-records (b ∷ bs) s m = omega (arith, few-records (s .half) (s .stage) (s 
 
 -- what was fed, and then more, put into the output
 pub placed-then : (f : Fed) (k : Session → Store → Fed) (o : List ℕ) (at : ℕ) {s : Session} {m : Store} {w : Written}
-    → _≡_ {A = FedInto} (record { session = s; store = m; written = w }) (fedInto f o at)
+    → _≡_ {A = FedInto} (record { session = s; store = m; printed = w }) (fedInto f o at)
     → fedInto (k s m) (w .output) (w .next) ≡ fedInto (feedThen f k) o at
 placed-then f k o at e =
-    ap (λ (p : FedInto). fedInto (k (p .session) (p .store)) (p .written .output) (p .written .next)) e
-    ∙ rw (written-append (f .text) (k (f .session) (f .store) .text) o at)
+    ap (λ (p : FedInto). fedInto (k (p .session) (p .store)) (p .printed .output) (p .printed .next)) e
+    ∙ rw (putAt-append (f .text) (k (f .session) (f .store) .text) o at)
 
 -- the text of what was fed stands at the beginning of the output
 pub text-of : {f : Fed} {k : ℕ} {o : List ℕ} {s : Session} {m : Store} {next : ℕ} {p : List ℕ} → Took f k 0 o s m (record { next = next; output = p })
     → k * longestLine ≤ length o → record { session = s; store = m; text = take next p } ≡ f
 text-of {f} {o = o} t h =
     let e = t .placed in
-    let l : length (f .text) ≤ length o = omega (arith, t .short, ap (λ (x : FedInto). x .written .next) e) in
-    let w = text-there (f .text) o l (ap (λ (x : FedInto). x .written) e) in
+    let l : length (f .text) ≤ length o = omega (arith, t .short, ap (λ (x : FedInto). x .printed .next) e) in
+    let w = text-there (f .text) o l (ap (λ (x : FedInto). x .printed) e) in
     rw (ap (λ (x : FedInto). x .session) e, ap (λ (x : FedInto). x .store) e, w)
-
--- the first byte of a field, and the second
-pub first-byte : (s : Session) (m : Store) (b : ℕ) {x : Next} → s .half ≡ Even → x ≡ Reads (Odd b) (s .stage) → takeByte s m b ≡ proceeding x (s .totals) m
-first-byte s m b e f = ap (λ (x : Half). takeAs x (s .stage) (s .totals) m b) e ∙ ap (λ (x : Next). proceeding x (s .totals) m) (sym f)
-
-pub second-byte : (s : Session) (m : Store) (b a : ℕ) {w : ℕ} {ws : List ℕ} {x : Next} → s .half ≡ Odd a → w ≡ a * 256 + b → ws ≡ stored (s .stage) (m .words) w
-    → x ≡ advanced (s .stage) w → takeByte s m b ≡ proceeding x (s .totals) (storeOf ws (m .slice) (m .marks))
-unfolding takeField
-second-byte s m b a e f g h = ap (λ (x : Half). takeAs x (s .stage) (s .totals) m b) e ∙ rw (h, g, f)
 
 -- ---- the loop over a block
 

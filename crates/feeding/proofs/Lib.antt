@@ -1,5 +1,1 @@
 pub mod Blocks
-pub mod Whole
-pub mod Steady
-pub mod Keeping
-pub mod Records

@@ -1,13 +1,13 @@
 // The records of the input, one after another, as it comes in blocks.
-use crate::Half;
-use crate::Head;
-use crate::Next;
-use crate::Session;
-use crate::Stage;
 use crate::Turn;
-use crate::answering::answer;
-use crate::reading::read_some;
+use answering::answer;
 use clause::Clause;
+use intake::Half;
+use intake::Head;
+use intake::Next;
+use intake::Session;
+use intake::Stage;
+use intake::read_some;
 use lines::put_line;
 use machine::Sequence;
 use record::Outcome;
@@ -17,24 +17,10 @@ ghost use Prim.Native.Nat.{_+_, _^_, _<_};
 ghost use lib.ListN.{length};
 ghost use Rattle.clause.specs.Clause.{maxWords};
 ghost use Rattle.record.specs.Output.{counted};
-ghost use Rattle.feeding.specs.Feed.{storeOf, finishing, recordEnded, proceeding, firstSession, WholeInput};
-ghost use Rattle.feeding.specs.inner.Steady.{Steady, CameOut, recordsIn, Ready, Took};
-ghost use Rattle.feeding.specs.Feed.{feed as Feed·feed};
-
-// The session before the first byte.
-pub fn begin() -> Session
-    ensures { λ r. ⌜ r ≡ firstSession ⌝ }
-{
-    Session {
-        half: Half::Even,
-        stage: Stage::AtNumber,
-        totals: Totals {
-            kept: 0,
-            struck: 0,
-            refused: 0,
-        },
-    }
-}
+ghost use Rattle.answering.specs.inner.Steady.{Steady, CameOut};
+ghost use Rattle.intake.specs.Feed.{storeOf, finishing, recordEnded, proceeding, WholeInput};
+ghost use Rattle.feeding.specs.inner.Blocks.{recordsIn, Feedable, Took};
+ghost use Rattle.intake.specs.Feed.{feed as Feed·feed};
 
 // The totals with one more outcome.
 fn count_outcome(totals: Totals, outcome: Outcome) -> Totals
@@ -89,7 +75,7 @@ fn finish(
     words: &[u16],
     output: &mut [u8],
 ) -> Turn
-    requires { ⌜ Ready (storeOf (now words) (now tree) (now marks)) (turn .session .totals) 1 (turn .next) (now output) ⌝ }
+    requires { ⌜ Feedable (storeOf (now words) (now tree) (now marks)) (turn .session .totals) 1 (turn .next) (now output) ⌝ }
     ensures { λ r. ⌜ Took
         (recordEnded (head .number) (head .count) (turn .session .totals) (storeOf (now (words .entry)) (now (tree .entry)) (now (marks .entry)))) 1
         (turn .next) (now (output .entry)) (r .session) (storeOf (now (words .entry)) (now (tree .exit)) (now (marks .exit)))
@@ -120,7 +106,7 @@ fn proceed(
     words: &[u16],
     output: &mut [u8],
 ) -> Turn
-    requires { ⌜ Ready (storeOf (now words) (now tree) (now marks)) (turn .session .totals) 1 (turn .next) (now output) ⌝ }
+    requires { ⌜ Feedable (storeOf (now words) (now tree) (now marks)) (turn .session .totals) 1 (turn .next) (now output) ⌝ }
     ensures { λ r. ⌜ Took (proceeding next (turn .session .totals) (storeOf (now (words .entry)) (now (tree .entry)) (now (marks .entry)))) 1
         (turn .next) (now (output .entry)) (r .session) (storeOf (now (words .entry)) (now (tree .exit)) (now (marks .exit)))
         (record { next = r .next; output = now (output .exit) }) ⌝ }
@@ -151,7 +137,7 @@ pub fn feed(
     words: &mut [u16],
     output: &mut [u8],
 ) -> Turn
-    requires { ⌜ Ready (storeOf (now words) (now tree) (now marks)) (session .totals) (length (now input)) 0 (now output) ⌝ }
+    requires { ⌜ Feedable (storeOf (now words) (now tree) (now marks)) (session .totals) (length (now input)) 0 (now output) ⌝ }
     ensures took { λ r. ⌜ Took (Feed·feed session (storeOf (now (words .entry)) (now (tree .entry)) (now (marks .entry))) (now (input .entry)))
         (length (now (input .entry))) 0 (now (output .entry)) (r .session) (storeOf (now (words .exit)) (now (tree .exit)) (now (marks .exit)))
         (record { next = r .next; output = now (output .exit) }) ⌝ }

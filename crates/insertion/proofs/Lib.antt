@@ -1,9 +1,1 @@
-pub mod Seeking
-pub mod Raising
-pub mod ShiftRight
-pub mod Chain
 pub mod Scanning
-pub mod UsedWords
-pub mod Fitted
-pub mod InsertCases
-pub mod KeysOf

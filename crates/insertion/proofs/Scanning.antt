@@ -7,8 +7,9 @@ use mathlib.Core.List.{List, []}
 use Prim.Native.Nat.{ℕ, _+_, _≤_, _<_}
 use native.Mathlib.Numerals.{add-one}
 use lib.ListN.{length, drop, getD, drop-of-length-le}
+use Rattle.clause.proofs.Apart.{apart}
 use Rattle.tree.specs.inner.Cut.{begin, locate}
-use Rattle.insertion.specs.inner.Inserting.{isSome}
+use Rattle.insertion.specs.inner.Taken.{isSome}
 use Rattle.tree.proofs.Hops.{keyAt, extentAt, locate-stop, locate-step}
 
 -- the words before p do not have the number n
@@ -36,3 +37,8 @@ module _ {W : List ℕ} {n p : ℕ} (s : Scanned W n p) where
 pub is-none : {A : Type 0} (o : Option A) → isSome o ≡ false → o ≡ none
 is-none none e = refl
 is-none (some a) e = cc
+
+-- something was found
+pub is-some : {A : Type 0} (o : Option A) → isSome o ≡ true → (a : A) × (o ≡ some a)
+is-some none e = apart cc
+is-some (some a) e = (a, refl)

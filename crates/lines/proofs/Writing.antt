@@ -9,7 +9,7 @@ use native.Mathlib.Numerals.{add-one}
 use lib.ListN.{length, take, drop, getD, length-append, set}
 use lib.Seq.{sets, sets-eq, set-comm, length-sets, take-suc, take-at, length-take-le}
 use borrow.Author.Tests.{lt-ltb, le-ltb}
-use Rattle.record.specs.Text.{digitsFor, decimal, Written, written}
+use Rattle.record.specs.Text.{digitsFor, decimal, Written, putAt}
 
 -- one digit, or the digits before the last one and the last one
 digits-small : (f n : ℕ) → n < 10 → digitsFor (suc f) n ≡ (48 + n) ∷ []
@@ -47,16 +47,16 @@ sets-append : (s t o : List ℕ) (at : ℕ) → sets o at (s ++ t) ≡ sets (set
 sets-append [] t o at = let e : at + 0 ≡ at = omega arith in rw e
 sets-append (b ∷ s) t o at = let e : at + suc (length s) ≡ suc at + length s = omega arith in rw e (sets-append s t (set o at b) (suc at))
 
-pub written-append : (s t o : List ℕ) (at : ℕ) → written (s ++ t) o at ≡ written t (written s o at .output) (written s o at .next)
-written-append s t o at = rw (length-append, sets-append s t o at) (let e : at + (length s + length t) ≡ (at + length s) + length t = omega arith in rw e)
+pub putAt-append : (s t o : List ℕ) (at : ℕ) → putAt (s ++ t) o at ≡ putAt t (putAt s o at .output) (putAt s o at .next)
+putAt-append s t o at = rw (length-append, sets-append s t o at) (let e : at + (length s + length t) ≡ (at + length s) + length t = omega arith in rw e)
 
 -- the place after some text, and the output's length
-pub placed : (t o : List ℕ) (at : ℕ) {r : ℕ} {p : List ℕ} → _≡_ {A = Written} (record { next = r; output = p }) (written t o at)
+pub placed : (t o : List ℕ) (at : ℕ) {r : ℕ} {p : List ℕ} → _≡_ {A = Written} (record { next = r; output = p }) (putAt t o at)
     → (r ≡ at + length t) × (length p ≡ length o)
 placed t o at e = (ap (λ (w : Written). w .next) e, ap (λ (w : Written). length (w .output)) e ∙ length-sets o at t)
 
 -- what was put at the beginning of the output stands there
-pub text-there : (t o : List ℕ) {r : ℕ} {p : List ℕ} → length t ≤ length o → _≡_ {A = Written} (record { next = r; output = p }) (written t o 0) → take r p ≡ t
+pub text-there : (t o : List ℕ) {r : ℕ} {p : List ℕ} → length t ≤ length o → _≡_ {A = Written} (record { next = r; output = p }) (putAt t o 0) → take r p ≡ t
 text-there t o h e =
     ap (λ (w : Written). take (w .next) (w .output)) e
     ∙ rw (sets-eq t o 0 (omega arith)) (take-at t (drop (0 + length t) o) (0 + length t) (omega arith))
@@ -108,14 +108,14 @@ first-fits s t at n h = omega (arith, length-append s t)
 
 -- and after it for the rest
 pub rest-fits : (s t o : List ℕ) (at : ℕ) {r : ℕ} {p : List ℕ} → at + length (s ++ t) ≤ length o
-    → _≡_ {A = Written} (record { next = r; output = p }) (written s o at) → r + length t ≤ length p
+    → _≡_ {A = Written} (record { next = r; output = p }) (putAt s o at) → r + length t ≤ length p
 rest-fits s t o at h e =
     omega (arith, length-append s t, placed s o at e)
 
 -- the first piece and then the rest is the whole
-pub joined : (s t o : List ℕ) (at : ℕ) {r : ℕ} {p : List ℕ} {w : Written} → _≡_ {A = Written} (record { next = r; output = p }) (written s o at)
-    → w ≡ written t p r → w ≡ written (s ++ t) o at
-joined s t o at e f = f ∙ ap (λ (v : Written). written t (v .output) (v .next)) e ∙ sym (written-append s t o at)
+pub joined : (s t o : List ℕ) (at : ℕ) {r : ℕ} {p : List ℕ} {w : Written} → _≡_ {A = Written} (record { next = r; output = p }) (putAt s o at)
+    → w ≡ putAt t p r → w ≡ putAt (s ++ t) o at
+joined s t o at e f = f ∙ ap (λ (v : Written). putAt t (v .output) (v .next)) e ∙ sym (putAt-append s t o at)
 
 -- ---- how long a number is
 

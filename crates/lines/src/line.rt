@@ -7,13 +7,13 @@ use record::Totals;
 ghost use mathlib.Core.Path.{_≡_};
 ghost use Prim.Native.Nat.{_+_, _≤_};
 ghost use lib.ListN.{length};
-ghost use Rattle.record.specs.Text.{written};
+ghost use Rattle.record.specs.Text.{putAt};
 ghost use Rattle.record.specs.Line.{longestSaying, longestLine, longestLast, saying, lineOf, totalsLine};
 
 // Puts what became of a record at a place of the output, and gives the place after it. It takes at most 39 bytes.
 fn put_outcome(output: &mut [u8], at: usize, outcome: Outcome) -> usize
     requires { ⌜ at + longestSaying ≤ length (now output) ⌝ }
-    ensures text { λ r. ⌜ record { next = r; output = now (output .exit) } ≡ written (saying outcome) (now (output .entry)) at ⌝ }
+    ensures text { λ r. ⌜ record { next = r; output = now (output .exit) } ≡ putAt (saying outcome) (now (output .entry)) at ⌝ }
     ensures short { λ r. ⌜ r ≤ at + longestSaying ⌝ }
 {
     match outcome {
@@ -29,7 +29,7 @@ fn put_outcome(output: &mut [u8], at: usize, outcome: Outcome) -> usize
 // Puts the line of a record at a place of the output, and gives the place after it. A line takes at most 45 bytes.
 pub fn put_line(output: &mut [u8], at: usize, number: u16, outcome: Outcome) -> usize
     requires { ⌜ at + longestLine ≤ length (now output) ⌝ }
-    ensures text { λ r. ⌜ record { next = r; output = now (output .exit) } ≡ written (lineOf number outcome) (now (output .entry)) at ⌝ }
+    ensures text { λ r. ⌜ record { next = r; output = now (output .exit) } ≡ putAt (lineOf number outcome) (now (output .entry)) at ⌝ }
     ensures short { λ r. ⌜ r ≤ at + longestLine ⌝ }
 {
     let next = put_decimal(output, at, number as u64);
@@ -40,7 +40,7 @@ pub fn put_line(output: &mut [u8], at: usize, number: u16, outcome: Outcome) -> 
 // Puts the last line at a place of the output, and gives the place after it. It takes at most 83 bytes.
 pub fn put_totals(output: &mut [u8], at: usize, totals: Totals) -> usize
     requires { ⌜ at + longestLast ≤ length (now output) ⌝ }
-    ensures text { λ r. ⌜ record { next = r; output = now (output .exit) } ≡ written (totalsLine totals) (now (output .entry)) at ⌝ }
+    ensures text { λ r. ⌜ record { next = r; output = now (output .exit) } ≡ putAt (totalsLine totals) (now (output .entry)) at ⌝ }
     ensures short { λ r. ⌜ r ≤ at + longestLast ⌝ }
 {
     let struck = put_named(output, at, b"kept ", totals.kept);

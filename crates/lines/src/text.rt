@@ -3,7 +3,7 @@ ghost use mathlib.Core.Path.{_≡_};
 ghost use mathlib.Core.List.{_++_};
 ghost use Prim.Native.Nat.{_+_, _≤_};
 ghost use lib.ListN.{length};
-ghost use Rattle.record.specs.Text.{decimal, written};
+ghost use Rattle.record.specs.Text.{decimal, putAt};
 
 // How many digits a number has in base ten.
 fn digits(number: u64) -> usize
@@ -21,7 +21,7 @@ fn digits(number: u64) -> usize
 // Puts the digits of a number in base ten at a place of the output, the last one first, and gives the place after them.
 pub(crate) fn put_decimal(output: &mut [u8], at: usize, number: u64) -> usize
     requires { ⌜ at + length (decimal number) ≤ length (now output) ⌝ }
-    ensures { λ r. ⌜ record { next = r; output = now (output .exit) } ≡ written (decimal number) (now (output .entry)) at ⌝ }
+    ensures { λ r. ⌜ record { next = r; output = now (output .exit) } ≡ putAt (decimal number) (now (output .entry)) at ⌝ }
 {
     let end = at + digits(number);
     let mut left = number;
@@ -38,7 +38,7 @@ pub(crate) fn put_decimal(output: &mut [u8], at: usize, number: u64) -> usize
 // Puts some text at a place of the output, and gives the place after it.
 pub(crate) fn put_text(output: &mut [u8], at: usize, text: &[u8]) -> usize
     requires { ⌜ at + length (now text) ≤ length (now output) ⌝ }
-    ensures { λ r. ⌜ record { next = r; output = now (output .exit) } ≡ written (now (text .entry)) (now (output .entry)) at ⌝ }
+    ensures { λ r. ⌜ record { next = r; output = now (output .exit) } ≡ putAt (now (text .entry)) (now (output .entry)) at ⌝ }
 {
     let mut i = 0;
     while i < text.len() {
@@ -51,7 +51,7 @@ pub(crate) fn put_text(output: &mut [u8], at: usize, text: &[u8]) -> usize
 // Puts some text and a number after it at a place of the output, and gives the place after both.
 pub(crate) fn put_named(output: &mut [u8], at: usize, text: &[u8], number: u64) -> usize
     requires { ⌜ at + length (now text ++ decimal number) ≤ length (now output) ⌝ }
-    ensures { λ r. ⌜ record { next = r; output = now (output .exit) } ≡ written (now (text .entry) ++ decimal number) (now (output .entry)) at ⌝ }
+    ensures { λ r. ⌜ record { next = r; output = now (output .exit) } ≡ putAt (now (text .entry) ++ decimal number) (now (output .entry)) at ⌝ }
 {
     let next = put_text(output, at, text);
     put_decimal(output, next, number)

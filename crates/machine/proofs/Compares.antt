@@ -171,7 +171,8 @@ module _ (d : List ℕ) (sequence : List Instr) (js : List ℕ) (s : State) (c :
       go (yes e) = ap (λ i. termAt d (getD poss i 0)) e
       go (no n) =
           let g : first (getD puts k 0) puts < k = omega (arith, first-le puts k j) in
-          decided-next (one (first (getD puts k 0) puts) k (omega arith) j) (compares-each puts from p (first (getD puts k 0) puts) k (omega arith) j (repeats-first puts from k h g))
+          let e = compares-each puts from p (first (getD puts k 0) puts) k (omega arith) j (repeats-first puts from k h g) in
+          decided-next (one (first (getD puts k 0) puts) k (omega arith) j) e
 
   pub run-compares : (from : ℕ) → Decided (Consistent d puts poss from) (run d (map Do (compares puts from) ++ sequence) js s) (run d sequence js s)
   run-compares from =

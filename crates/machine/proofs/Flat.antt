@@ -154,7 +154,8 @@ module _ (d rest : List ℕ) (from : ℕ) (js : List ℕ) where
 
     -- a variable takes the whole term at p
     reach-variable : (s : State) → sort w ≡ variable → Aligned (w ∷ ws) (inside l saved) puts n p s
-        → Agrees s (length puts) (putsAll (puts ++ (w ∷ [])) ws) (run d (Do (Put (length puts)) ∷ onward (puts ++ (w ∷ []))) js s) (Option·map (λ ps. p ∷ ps) (flat d ws (jump d 1 p)))
+        → Agrees s (length puts) (putsAll (puts ++ (w ∷ [])) ws) (run d (Do (Put (length puts)) ∷ onward (puts ++ (w ∷ []))) js s)
+        (Option·map (λ ps. p ∷ ps) (flat d ws (jump d 1 p)))
     unfolding need Stands
     reach-variable s e r =
         let z : arity w ≡ 0 = variable-arity w e in

@@ -145,7 +145,8 @@ module _ (d : List ℕ) where
           let e′ : drop p d ≡ s .front ++ (s .back ++ r) = e ∙ rw (s .joined) (append-assoc (s .front) (s .back) r) in
           let (qs, found, is) = map-eq-some-iff _ (flat d ws (jump d 1 p)) .0 (sym (flat-variable d w ws p v) ∙ f) in
           let back : Shaped (arity w + k) (s .back) = rw (variable-arity w v, zero-add) (s .back-shaped) in
-          rw (s .joined, ← is) (m-variable v (s .front-shaped) (term-at d p _ (s .front-shaped) e′) (ih (s .back) (jump d 1 p) qs r back (term-next d p _ (s .front-shaped) e′) found))
+          let rest = ih (s .back) (jump d 1 p) qs r back (term-next d p _ (s .front-shaped) e′) found in
+          rw (s .joined, ← is) (m-variable v (s .front-shaped) (term-at d p _ (s .front-shaped) e′) rest)
 
       go : Dec (sort w ≡ variable) → IH → Match d (w ∷ ws) u p ps
       go (no n) ih = hit n ih (ℕ-discrete (getD d p 0) w)

@@ -110,7 +110,8 @@ module _ (d : List ℕ) (D : Clause d) where
           pushes = B .pushes;
         }
 
-    module _ (o : Outcome State) (ps : List ℕ) (f : flat d l (startOf d j) ≡ some ps) (A : After d (flatten ls) (length puts) js (starting d s j) (length puts) (putsAll puts l) o ps) where
+    module _ (o : Outcome State) (ps : List ℕ) (f : flat d l (startOf d j) ≡ some ps)
+        (A : After d (flatten ls) (length puts) js (starting d s j) (length puts) (putsAll puts l) o ps) where
       stored-more : A .state .puts ≡ filled (poss ++ ps)
       stored-more = A .stored ∙ rw (B .stored, B .equal) (filled-more poss ps)
 
@@ -127,7 +128,8 @@ module _ (d : List ℕ) (D : Clause d) where
             placed = λ e. (A .cursor, A .placed);
           }
 
-      literal-compares : Decided (Consistent d (puts ++ vars l) (poss ++ ps) (length puts)) o (run d (sequenceFrom (flatten ls) ended (puts ++ vars l) (length puts) (A .pushed)) js (A .state))
+      literal-compares : Decided (Consistent d (puts ++ vars l) (poss ++ ps) (length puts)) o
+          (run d (sequenceFrom (flatten ls) ended (puts ++ vars l) (length puts) (A .pushed)) js (A .state))
       literal-compares =
           decided-from (rw puts-vars at (A .goes))
           (run-compares d _ js (A .state) (A .cursor) (A .placed) (puts ++ vars l) (poss ++ ps) (omega (arith, begins-next .put-room))

@@ -10,7 +10,8 @@ use lib.ListN.{length, getD, set}
 use lib.Seq.{getD-set-same, getD-set-other, set-out}
 use Rattle.clause.specs.Clause.{literals, startOf}
 use Rattle.machine.specs.Instr.{Step, Down, Right, Put, Push, Pop, Check, Compare}
-use Rattle.machine.specs.Machine.{onto, down, right, State, initial, headed, pushing, given, Outcome, next, fails, stuck, require, compareTerms, stepAt, stepFrom, step, starting}
+use Rattle.machine.specs.Machine.{onto, down, right, State, initial, headed, pushing, given, Outcome, next, fails, stuck, require, compareTerms}
+use Rattle.machine.specs.Machine.{stepAt, stepFrom, step, starting}
 use Rattle.machine.specs.inner.Safe.{Safe}
 use Rattle.clause.proofs.Literals.{Clause}
 use Rattle.clause.proofs.Siblings.{enough-start, down-inside, right-inside}

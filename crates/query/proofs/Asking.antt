@@ -21,7 +21,8 @@ use Rattle.walk.specs.Walk.{Answer, covered, notCovered, spent, broken, upTo}
 use Rattle.walk.specs.Words.{walkWords}
 use Rattle.walk.specs.Query.{witnessWords, machine, unanswered, told, walkSlice, queryAs, query}
 use Rattle.cells.specs.inner.Cells.{countAt, cellCount, noPosition, positionIn, placed, stateOf, Tables, Walkable}
-use Rattle.query.specs.inner.Findings.{seen, toldOut, refusalOf}
+use Rattle.walking.specs.inner.Findings.{seen}
+use Rattle.query.specs.inner.Telling.{toldOut, refusalOf}
 
 -- the cells before the first candidate
 abbrev pub fresh : List ℕ

@@ -1,7 +1,4 @@
 // The query: what is asked of a tree.
-use crate::End;
-use crate::Finding;
-use crate::below::walk_top;
 use cells::Path;
 use cells::wide;
 use clause::Clause;
@@ -10,6 +7,9 @@ use tree::Refusal;
 use tree::Tree;
 use walk::QueryAnswer;
 use walk::Witness;
+use walking::End;
+use walking::Finding;
+use walking::walk_top;
 ghost use mathlib.Core.Path.{_≡_};
 ghost use mathlib.Core.Bool.{cond};
 ghost use mathlib.Core.Option.{none, some};
@@ -18,7 +18,8 @@ ghost use lib.ListN.{length, getD};
 ghost use Rattle.clause.specs.Clause.{Accepted};
 ghost use Rattle.tree.specs.Laid.{usedOf};
 ghost use Rattle.cells.specs.inner.Cells.{cellCount, noPosition, stateOf};
-ghost use Rattle.query.specs.inner.Findings.{outBy, refusalOf, toldOut};
+ghost use Rattle.walking.specs.inner.Findings.{outBy};
+ghost use Rattle.query.specs.inner.Telling.{refusalOf, toldOut};
 ghost use Rattle.walk.specs.Query as q;
 ghost use Rattle.walk.specs.Query.{witnessWords};
 
@@ -114,7 +115,7 @@ pub fn query(tree: &[u64], words: &[u16], budget: u64, witness: &mut [u16]) -> Q
     if !Tree::sized(tree.len()) {
         return QueryAnswer::Unanswered(Refusal::BadSlice);
     }
-    let shape = clause::read(words);
+    let shape = reading::read(words);
     let Shape::Whole(_) = shape else {
         return QueryAnswer::Unanswered(refusal(shape));
     };

@@ -7,10 +7,11 @@ use native.Mathlib.Omega.{arith}
 use lib.ListN.{length}
 use Rattle.clause.specs.Lists.{All, none, also}
 use Rattle.clause.specs.Clause.{Subsumes}
+use Rattle.clause.proofs.Apart.{apart}
 use Rattle.tree.specs.Forest.{layout}
 use Rattle.tree.specs.Entries.{Pair}
 use Rattle.book.specs.Book.{Call, AllFit, call, after, bookStep, bookFrom, treeOf}
-use Rattle.record.specs.Answer.{treeWords, Record, answered, callsFor}
+use Rattle.record.specs.Answer.{treeWords, Record, answerTo, callsFor}
 use Rattle.record.specs.Output.{Row, rowOn, rowsFrom, rowCalls, counted, totalsWith}
 use Rattle.record.specs.Ruled.{pairOf, IsKept}
 use Rattle.record.specs.Sheet.{keptOn, keptPairs}
@@ -51,7 +52,7 @@ standing-after (x ∷ xs) K T s f =
     standing-after xs (bookStep treeWords K x) (call T x .slice) (standing-step K x T s (steps treeWords K (treeOf K) (s .holds) (omega arith) (omega arith) x (f .0))) (f .1)
 
 -- the slice after the calls for a record and some others
-pub slice-more : (T : List ℕ) (x : Record) (cs : List Call) → after T (callsFor T x ++ cs) ≡ after (answered T x .slice) cs
+pub slice-more : (T : List ℕ) (x : Record) (cs : List Call) → after T (callsFor T x ++ cs) ≡ after (answerTo T x .slice) cs
 slice-more T x cs = after-append T (callsFor T x) cs ∙ ap (λ (U : List ℕ). after U cs) (sym (slice-after T x))
 
 -- ---- rows one after another
@@ -64,12 +65,12 @@ pub data Made : (slice : List ℕ) → List Row → Type 0 where
 pub made : (T : List ℕ) (xs : List Record) → All FitRecord xs → Made T (rowsFrom T xs)
 unfolding rowsFrom rowOn
 made T [] none = made-none
-made T (x ∷ xs) (also f h) = made-more {T = T} {r = rowOn T x} {rs = rowsFrom (answered T x .slice) xs} refl f (rw (← slice-after T x) (made (answered T x .slice) xs h))
+made T (x ∷ xs) (also f h) = made-more {T = T} {r = rowOn T x} {rs = rowsFrom (answerTo T x .slice) xs} refl f (rw (← slice-after T x) (made (answerTo T x .slice) xs h))
 
 pub rows-records : (T : List ℕ) (xs : List Record) → map (λ r. r .of) (rowsFrom T xs) ≡ xs
 unfolding rowsFrom rowOn
 rows-records T [] = refl
-rows-records T (x ∷ xs) = ap (λ (l : List Record). x ∷ l) (rows-records (answered T x .slice) xs)
+rows-records T (x ∷ xs) = ap (λ (l : List Record). x ∷ l) (rows-records (answerTo T x .slice) xs)
 
 pub made-first : (rs rest : List Row) (T : List ℕ) → Made T (rs ++ rest) → Made T rs
 made-first [] rest T m = made-none
@@ -101,7 +102,7 @@ pub data Fated : List Pair → List Row → Type 0 where
 fate-row : (K : List Pair) (T : List ℕ) (r : Row) → Standing K T → r ≡ rowOn T (r .of) → FitRecord (r .of) → Fate K (r .of) (r .outcome) (bookFrom treeWords K (r .calls))
 unfolding rowOn
 fate-row K T r s e f =
-    let o : r .outcome ≡ answered T (r .of) .outcome = ap (λ (y : Row). y .outcome) e in
+    let o : r .outcome ≡ answerTo T (r .of) .outcome = ap (λ (y : Row). y .outcome) e in
     let c : r .calls ≡ callsFor T (r .of) = ap (λ (y : Row). y .calls) e in
     rw (o, c, s .slice) (fate K (s .holds) (r .of) f)
 
@@ -195,9 +196,9 @@ abbrev pub StruckBy : List Pair → Record → (number : ℕ) → Type 0
 StruckBy K x n = (p : Pair) × List·Memᴰ p K × (p .number ≡ n) × Subsumes (p .clause) (x .words)
 
 pub fate-struck : {K L : List Pair} {x : Record} {o : Outcome} → Fate K x o L → (n k : ℕ) → o ≡ Struck n k → StruckBy K x n
-fate-struck (refuses r) n k e = let z : _≡_ {A = ℕ} 0 1 = cc in absurd (omega arith)
+fate-struck (refuses r) n k e = apart cc
 fate-struck (strikes {n = m} s) n k e = let i : m ≡ n = cc in (s .striking, s .kept, s .number ∙ i, s .subsumes)
-fate-struck (keeps t) n k e = let z : _≡_ {A = ℕ} 0 1 = cc in absurd (omega arith)
+fate-struck (keeps t) n k e = apart cc
 
 pub struck-book : {K : List Pair} {rs : List Row} → Fated K rs → (r : Row) → List·Memᴰ r rs → (n k : ℕ) → r .outcome ≡ Struck n k
     → StruckBy (bookFrom treeWords K (rowCalls rs)) (r .of) n

@@ -25,7 +25,7 @@ use Rattle.walk.specs.Walk.{Answer, covered, notCovered, spent, broken, upTo, w
 use Rattle.walk.specs.Query.{machine, witnessWords, told, query}
 use Rattle.walk.specs.Covering.{Subsumed, Shows, candidates, IsCovered, IsNotCovered, IsSpent, Answers}
 use Rattle.book.specs.Book.{insert, Fit, AllFit, after, bookStep, bookFrom, treeOf}
-use Rattle.record.specs.Answer.{budget, treeWords, Record, insertedAs, answeredAs, answered, callsOn, callsFor}
+use Rattle.record.specs.Answer.{budget, treeWords, Record, insertedAs, answerAs, answerTo, callsOn, callsFor}
 use Rattle.record.specs.Ruled.{pairOf, Numbered, wordsOf, Decided, Uncovered, Takes, Strikes, Reason, faulty, number-taken, list-full, no-room, over-budget, Ruled}
 use Rattle.clause.specs.declared.Fault.{Fault}
 use Rattle.clause.specs.declared.Fault.the-variants.{BadLength, Bad, Ninth}
@@ -41,6 +41,7 @@ use Rattle.record.specs.declared.Outcome.the-variants.{Kept, Struck, Ref
 use Rattle.clause.proofs.Literals.{accepted}
 use Rattle.clause.proofs.Order.{subsumes-refl}
 use Rattle.clause.proofs.Lists.{all-mem}
+use Rattle.clause.proofs.Apart.{apart}
 use Rattle.machine.proofs.Codes.{sequence-plain}
 use Rattle.tree.proofs.Plain.{plain-body}
 use Rattle.tree.proofs.Words.{length-layout}
@@ -79,7 +80,7 @@ variant-subsumed p d s D w e =
 -- ---- the cases exclude each other
 
 shape-faulty : {s : Shape} {n : ℕ} {f : Fault} → s ≡ Faulty f → s ≡ Whole n → ⊥
-shape-faulty e i = let j = sym e ∙ i in let z : _≡_ {A = ℕ} 0 1 = cc in omega arith
+shape-faulty e i = let j = sym e ∙ i in apart cc
 
 module _ {K : List Pair} {x : Record} where
   reason-subsumed : {c : ℕ} → Reason K x c → Decided K x → Subsumed K (x .words) → ⊥
@@ -143,13 +144,13 @@ pub data Fate (K : List Pair) (x : Record) : Outcome → List Pair → Type 0 wh
   keeps : Takes K x → Fate K x (Kept (wordsOf (pairOf x ∷ K))) (pairOf x ∷ K)
 
 kept-code : (u c : ℕ) → Kept u ≡ Refused c → ⊥
-kept-code u c e = let z : _≡_ {A = ℕ} 0 1 = cc in omega arith
+kept-code u c e = apart cc
 
 kept-struck : (u n k : ℕ) → Kept u ≡ Struck n k → ⊥
-kept-struck u n k e = let z : _≡_ {A = ℕ} 0 1 = cc in omega arith
+kept-struck u n k e = apart cc
 
 struck-code : (n k c : ℕ) → Struck n k ≡ Refused c → ⊥
-struck-code n k c e = let z : _≡_ {A = ℕ} 0 1 = cc in omega arith
+struck-code n k c e = apart cc
 
 pub ruled : {K : List Pair} {x : Record} {o : Outcome} {L : List Pair} → Fate K x o L → Ruled K x o L
 ruled {K} {x} (refuses {c = c} r) =
@@ -203,7 +204,7 @@ unfolding layout
 used-layout len F h = omega arith
 
 refuse≢change : (r : Refusal) (G : Forest) → refuse r ≡ change G → ⊥
-refuse≢change r G e = let z : _≡_ {A = ℕ} 0 1 = cc in omega arith
+refuse≢change r G e = apart cc
 
 module _ (K : List Pair) (F : Forest) (h : Holds treeWords K F) (x : Record) (f : Fit (insert (x .words) (x .number))) (q : ℕ) (s : shape (x .words) ≡ Whole q) where
   body : Body (keys (x .words))
@@ -292,9 +293,9 @@ module _ (K : List Pair) (F : Forest) (h : Holds treeWords K F) (x : Record) (f 
 -- what the walk answers where the query is answered covered
 told-covered : (b : ℕ) (W : List ℕ) (a : Answer State) (n k : ℕ) → told b W a .answer ≡ Covered n k → (t : State) × (a ≡ covered n t k)
 told-covered b W (covered m t l) n k e = let i : m ≡ n = cc in let j : l ≡ k = cc in (t, rw (i, j))
-told-covered b W (notCovered c) n k e = let z : _≡_ {A = ℕ} 0 1 = cc in absurd (omega arith)
-told-covered b W spent n k e = let z : _≡_ {A = ℕ} 0 1 = cc in absurd (omega arith)
-told-covered b W broken n k e = let z : _≡_ {A = ℕ} 0 1 = cc in absurd (omega arith)
+told-covered b W (notCovered c) n k e = apart cc
+told-covered b W spent n k e = apart cc
+told-covered b W broken n k e = apart cc
 
 module _ (K : List Pair) (h : Holds treeWords K (treeOf K)) (x : Record) (f : Fit (insert (x .words) (x .number))) where
   abbrev T : List ℕ
@@ -304,9 +305,9 @@ module _ (K : List Pair) (h : Holds treeWords K (treeOf K)) (x : Record) (f : Fi
   W = replicate witnessWords 0
 
   -- by the query's answer
-  fate-as : (a : QueryAnswer) → query T (x .words) budget W .answer ≡ a → Fate K x (answeredAs a T x .outcome) (bookFrom treeWords K (callsOn a x))
-      → Fate K x (answered T x .outcome) (bookFrom treeWords K (callsFor T x))
-  unfolding answered callsFor
+  fate-as : (a : QueryAnswer) → query T (x .words) budget W .answer ≡ a → Fate K x (answerAs a T x .outcome) (bookFrom treeWords K (callsOn a x))
+      → Fate K x (answerTo T x .outcome) (bookFrom treeWords K (callsFor T x))
+  unfolding answerTo callsFor
   fate-as a e r = rw e r
 
   -- a clause with a fault
@@ -348,7 +349,7 @@ module _ (K : List Pair) (h : Holds treeWords K (treeOf K)) (x : Record) (f : Fi
         record { decided = within (λ z. let y = sym e ∙ z in let o : _≡_ {A = ℕ} 0 1 = cc in omega arith); unsubsumed = asked .spares k e .0 }
 
     fate-kinds : IsCovered T (x .words) budget W ⊎ (IsNotCovered T (x .words) budget W ⊎ IsSpent T (x .words) budget W)
-        → Fate K x (answered T x .outcome) (bookFrom treeWords K (callsFor T x))
+        → Fate K x (answerTo T x .outcome) (bookFrom treeWords K (callsFor T x))
     fate-kinds (inl (n, k, e)) = fate-as (Covered n k) e (strikes (fate-covered n k e))
     fate-kinds (inr (inl (k, e))) =
         fate-as (NotCovered k) e
@@ -356,19 +357,19 @@ module _ (K : List Pair) (h : Holds treeWords K (treeOf K)) (x : Record) (f : Fi
         (fate-inserted K (treeOf K) h x f q s (fate-new k e) refl (tried K (treeOf K) h x f q s)))
     fate-kinds (inr (inr e)) = fate-as (Unanswered (Spent budget)) e (refuses (over-budget (q, s) (asked .spends .0 e)))
 
-  pub fate : Fate K x (answered T x .outcome) (bookFrom treeWords K (callsFor T x))
+  pub fate : Fate K x (answerTo T x .outcome) (bookFrom treeWords K (callsFor T x))
   fate = go (shape (x .words)) refl
     where
-      go : (s : Shape) → shape (x .words) ≡ s → Fate K x (answered T x .outcome) (bookFrom treeWords K (callsFor T x))
+      go : (s : Shape) → shape (x .words) ≡ s → Fate K x (answerTo T x .outcome) (bookFrom treeWords K (callsFor T x))
       go (Faulty v) e = fate-as (Unanswered (BadClause v)) (asked-faulty v e) (refuses (faulty v e))
       go (Whole q) e = fate-kinds q e (asked q e .kinds)
 
 -- the slice after a record is that after its insertion, if any
-pub slice-after : (T : List ℕ) (x : Record) → answered T x .slice ≡ after T (callsFor T x)
-unfolding answered callsFor
+pub slice-after : (T : List ℕ) (x : Record) → answerTo T x .slice ≡ after T (callsFor T x)
+unfolding answerTo callsFor
 slice-after T x = go (query T (x .words) budget (replicate witnessWords 0) .answer)
   where
-    go : (a : QueryAnswer) → answeredAs a T x .slice ≡ after T (callsOn a x)
+    go : (a : QueryAnswer) → answerAs a T x .slice ≡ after T (callsOn a x)
     go (Unanswered r) = refl
     go (Covered n k) = refl
     go (NotCovered k) = refl

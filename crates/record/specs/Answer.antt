@@ -44,14 +44,14 @@ abbrev pub inserted : Called → Answered
 inserted r = record { outcome = insertedAs (r .answer) (r .slice); slice = r .slice }
 
 -- what a query's answer makes of a record: it is inserted only on "not covered"
-abbrev pub answeredAs : QueryAnswer → (slice : List ℕ) → Record → Answered
-answeredAs (Unanswered r) T x = record { outcome = Refused (codeOf r); slice = T }
-answeredAs (Covered n c) T x = record { outcome = Struck n c; slice = T }
-answeredAs (NotCovered c) T x = inserted (insertion T (x .words) (x .number))
+abbrev pub answerAs : QueryAnswer → (slice : List ℕ) → Record → Answered
+answerAs (Unanswered r) T x = record { outcome = Refused (codeOf r); slice = T }
+answerAs (Covered n c) T x = record { outcome = Struck n c; slice = T }
+answerAs (NotCovered c) T x = inserted (insertion T (x .words) (x .number))
 
 -- a record queried, and inserted where it is not covered; the answer to a query does not depend on the words of its witness
-unfoldable pub answered : (slice : List ℕ) → Record → Answered
-answered T x = answeredAs (query T (x .words) budget (replicate witnessWords 0) .answer) T x
+unfoldable pub answerTo : (slice : List ℕ) → Record → Answered
+answerTo T x = answerAs (query T (x .words) budget (replicate witnessWords 0) .answer) T x
 
 -- the calls that an answer to a query brings about: the record is inserted exactly if it is not covered
 abbrev pub callsOn : QueryAnswer → Record → List Call

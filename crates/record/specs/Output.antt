@@ -6,7 +6,7 @@ use lib.Dec.{leb}
 use lib.ListN.{length, take, drop, replicate}
 use Rattle.book.specs.Book.{Call}
 use Rattle.record.specs.Line.{lineOf, totalsLine}
-use Rattle.record.specs.Answer.{treeWords, Record, answered, callsFor}
+use Rattle.record.specs.Answer.{treeWords, Record, answerTo, callsFor}
 use Rattle.record.specs.declared.Outcome.{Outcome}
 use Rattle.record.specs.declared.Outcome.the-variants.{Kept, Struck, Refused}
 use Rattle.record.specs.declared.Totals.{Totals}
@@ -45,12 +45,12 @@ pub record Row : Type 0 where
 
 -- the row of a record that is asked on a slice
 unfoldable pub rowOn : (slice : List ℕ) → Record → Row
-rowOn T x = record { of = x; outcome = answered T x .outcome; calls = callsFor T x }
+rowOn T x = record { of = x; outcome = answerTo T x .outcome; calls = callsFor T x }
 
 -- the rows of some records, the first asked on a slice, and each other one on the slice as the one before it left it
 unfoldable pub rowsFrom : (slice : List ℕ) → List Record → List Row
 rowsFrom T [] = []
-rowsFrom T (x ∷ xs) = rowOn T x ∷ rowsFrom (answered T x .slice) xs
+rowsFrom T (x ∷ xs) = rowOn T x ∷ rowsFrom (answerTo T x .slice) xs
 
 -- the slice before the first record: fresh, all zeros
 abbrev pub freshSlice : List ℕ

@@ -21,5 +21,5 @@ pub record Written : Type 0 where
   pub output : List ℕ
 
 -- some text put into the output, byte after byte from a place on
-abbrev pub written : (text output : List ℕ) (at : ℕ) → Written
-written t o at = record { next = at + length t; output = sets o at t }
+abbrev pub putAt : (text output : List ℕ) (at : ℕ) → Written
+putAt t o at = record { next = at + length t; output = sets o at t }

@@ -7,15 +7,17 @@ use lib.ListN.{length, replicate, length-replicate}
 use Rattle.clause.specs.Lists.{none as nothing}
 use Rattle.clause.proofs.Lists.{all-append}
 use Rattle.clause.specs.Clause.{maxWords}
-use Rattle.record.specs.Text.{Written, written}
+use Rattle.record.specs.Text.{Written, putAt}
 use Rattle.record.specs.Line.{longestLine, longestLast, totalsLine}
 use Rattle.record.specs.Sheet.{Bytes}
 use Rattle.lines.proofs.Writing.{text-there}
-use Rattle.feeding.specs.Feed.{Store, Fed, feed, firstSession, firstStore}
-use Rattle.feeding.specs.inner.Steady.{Steady, recordsIn, Ready}
-use Rattle.feeding.specs.declared.Session.{Session}
-use Rattle.feeding.proofs.Blocks.{feed-append, feed-records}
-use Rattle.feeding.proofs.Steady.{steady-fresh}
+use Rattle.intake.specs.Feed.{Store, Fed, feed, firstSession, firstStore}
+use Rattle.answering.specs.inner.Steady.{Steady}
+use Rattle.feeding.specs.inner.Blocks.{recordsIn, Feedable}
+use Rattle.intake.specs.declared.Session.{Session}
+use Rattle.intake.proofs.Bytes.{feed-append}
+use Rattle.feeding.proofs.Blocks.{feed-records}
+use Rattle.answering.proofs.Steady.{steady-fresh}
 use Rattle.subsume.specs.Run.{blockBytes, mostBlocks, FedSoFar, LastLine}
 
 -- where the run is before a block: what was fed, what holds from record to record, and the blocks that may still come
@@ -40,7 +42,7 @@ running-none e f =
 
 -- a block can be fed
 pub block-ready : {s : Session} {m : Store} {n k : ℕ} {o : List ℕ} → Running s m n → 0 < n → k ≤ blockBytes → blockBytes * longestLine ≤ length o
-    → Ready m (s .totals) k 0 o
+    → Feedable m (s .totals) k 0 o
 block-ready r h l b = record { steady = r .steady; words = r .words; counts = omega (arith, r .counts); room = omega arith }
 
 -- one block more
@@ -69,7 +71,7 @@ running-more {s} {s′} {m} {m′} block v r h l e d w =
 
 -- the last line
 pub last-line : {s : Session} {m : Store} (o : List ℕ) {r : ℕ} {p : List ℕ} → FedSoFar s m
-    → _≡_ {A = Written} (record { next = r; output = p }) (written (totalsLine (s .totals)) o 0) → r ≤ longestLast → longestLast ≤ length o → LastLine m p r
+    → _≡_ {A = Written} (record { next = r; output = p }) (putAt (totalsLine (s .totals)) o 0) → r ≤ longestLast → longestLast ≤ length o → LastLine m p r
 last-line {s} o h e l k =
     let n : length (totalsLine (s .totals)) ≤ length o = omega (arith, ap (λ (w : Written). w .next) e) in
     record { bytes = h .bytes; small = h .small; lent = h .lent; line = text-there (totalsLine (s .totals)) o n e ∙ ap (λ (x : Session). totalsLine (x .totals)) (h .read) }

@@ -5,8 +5,8 @@ use Prim.Native.Nat.{ℕ, _*_, _≤_}
 use lib.ListN.{length, take}
 use Rattle.record.specs.Line.{longestLine, totalsLine}
 use Rattle.record.specs.Sheet.{Bytes}
-use Rattle.feeding.specs.Feed.{Store, feed, firstSession, firstStore}
-use Rattle.feeding.specs.declared.Session.{Session}
+use Rattle.intake.specs.Feed.{Store, feed, firstSession, firstStore}
+use Rattle.intake.specs.declared.Session.{Session}
 
 -- the most bytes of a block
 abbrev pub blockBytes : ℕ

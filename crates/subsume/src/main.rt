@@ -2,9 +2,9 @@
 // A record's line is made by `feeding::feed`, the last one by `lines::put_totals`; here is only what moves the bytes.
 use clause::Clause;
 use feeding::Lent;
-use feeding::Session;
-use feeding::begin;
 use feeding::feed;
+use intake::Session;
+use intake::begin;
 use libc::STDIN_FILENO;
 use libc::STDOUT_FILENO;
 use lines::Longest;
@@ -12,9 +12,10 @@ use lines::put_totals;
 ghost use mathlib.Core.Path.{_≡_};
 ghost use Prim.Native.Nat.{_≤_, _<_};
 ghost use lib.ListN.{length, take};
-ghost use Rattle.feeding.specs.Feed.{storeOf, firstStore};
-ghost use Rattle.feeding.specs.inner.Steady.{Steady, Ready};
-ghost use Rattle.feeding.specs.Feed.{feed as Feed·feed};
+ghost use Rattle.intake.specs.Feed.{storeOf, firstStore};
+ghost use Rattle.answering.specs.inner.Steady.{Steady};
+ghost use Rattle.feeding.specs.inner.Blocks.{Feedable};
+ghost use Rattle.intake.specs.Feed.{feed as Feed·feed};
 ghost use Rattle.record.specs.Sheet.{Bytes};
 ghost use Rattle.subsume.specs.Run.{Buffers, FedSoFar, LastLine};
 
@@ -91,7 +92,7 @@ fn feed_block(
     words: &mut [u16],
     output: &mut [u8],
 ) -> Fed
-    requires { ⌜ Ready (storeOf (now words) (now tree) (now marks)) (session .totals) (length (now block)) 0 (now output) ⌝ }
+    requires { ⌜ Feedable (storeOf (now words) (now tree) (now marks)) (session .totals) (length (now block)) 0 (now output) ⌝ }
     ensures fed { λ r. ⌜ record {
       session = r .session;
       store = storeOf (now (words .exit)) (now (tree .exit)) (now (marks .exit));

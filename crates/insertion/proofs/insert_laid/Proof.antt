@@ -1,7 +1,7 @@
 -- `insertion::insert_laid` meets its contract.
 use mathlib.Core.Path.{sym, _∙_}
-use Rattle.insertion.proofs.Scanning.{is-none}
-use Rattle.insertion.proofs.InsertCases.{insert-taken}
+use Rattle.insertion.proofs.Scanning.{is-none, is-some}
+use Rattle.merging.proofs.InsertCases.{insert-taken}
 use borrow.Author.Needs.{needs}
 use Rattle.insertion.proofs.insert_laid.Statement.{statement}
 use Rattle.insertion.proofs.insert_laid.Tie as tie
@@ -13,7 +13,10 @@ same-length : tie.Need-same-length
 same-length c = search needs
 
 returns : tie.Need-returns
-returns c = let s = c .before .before .before .before .before in insert-taken (s .pre) (s .args .number) (sym (c .if1 .taken) ∙ c .before .taken .ensures)
+returns c =
+    let s = c .before .before .before .before .before in
+    let found = is-some _ (sym (c .before .taken .ensures) ∙ c .if1 .taken) in
+    insert-taken (s .pre) (s .args .number) (found .0) (found .1)
 
 insert-new-requires : tie.Need-insert-new-requires
 insert-new-requires c κs = (c .before .before .before .before .before .before .pre, is-none _ (sym (c .before .before .taken .ensures) ∙ c .before .if1 .left))

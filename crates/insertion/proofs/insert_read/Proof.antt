@@ -6,7 +6,7 @@ use lib.ListN.{getD}
 use lib.Seq.{length-take-le}
 use Rattle.clause.proofs.Literals.{accepted}
 use Rattle.tree.proofs.ByWords.{insertion-words}
-use Rattle.insertion.proofs.KeysOf.{all-below, keys-body, keys-few}
+use Rattle.merging.proofs.KeysOf.{all-below, keys-body, keys-few}
 use Rattle.machine.proofs.Compiled.{compiled-fits, compiled-keys}
 use borrow.Author.Needs.{needs}
 use Rattle.insertion.proofs.insert_read.Statement.{statement}

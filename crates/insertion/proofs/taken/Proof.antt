@@ -4,8 +4,8 @@ use mathlib.Core.List.{List}
 use Prim.Native.Nat.{ℕ}
 use native.Mathlib.Omega.{arith}
 use Rattle.tree.specs.inner.Cut.{locate}
-use Rattle.insertion.specs.inner.Inserting.{isSome}
-use Rattle.insertion.proofs.UsedWords.{parts}
+use Rattle.insertion.specs.inner.Taken.{isSome}
+use Rattle.merging.proofs.UsedWords.{parts}
 use borrow.Author.Needs.{needs}
 use Rattle.insertion.proofs.taken.Statement.{statement}
 use Rattle.insertion.proofs.taken.Tie as tie

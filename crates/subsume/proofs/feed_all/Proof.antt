@@ -3,7 +3,7 @@ use mathlib.Core.Path.{_≡_, refl, sym, _∙_}
 use native.Mathlib.Omega.{arith}
 use lib.ListN.{length, length-take}
 use lib.Seq.{length-take-le}
-use Rattle.feeding.specs.Feed.{storeOf}
+use Rattle.intake.specs.Feed.{storeOf}
 use Rattle.subsume.proofs.Blocks.{Running, running-none, block-ready, running-more}
 use Rattle.subsume.proofs.feed_all.Statement.{statement}
 use Rattle.subsume.proofs.feed_all.Tie as tie

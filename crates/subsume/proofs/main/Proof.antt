@@ -2,7 +2,7 @@
 use mathlib.Core.Path.{refl, sym}
 use Prim.Native.Nat.{ℕ}
 use lib.ListN.{length-replicate}
-use Rattle.feeding.specs.Feed.{firstStore}
+use Rattle.intake.specs.Feed.{firstStore}
 use Rattle.subsume.proofs.Blocks.{room-in, enough}
 use borrow.Author.Needs.{needs}
 use Rattle.subsume.proofs.main.Statement.{statement}

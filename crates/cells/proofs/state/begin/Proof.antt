@@ -6,9 +6,6 @@ use Rattle.cells.specs.inner.Cells.{candidate, headAt}
 use borrow.Author.Needs.{needs}
 use Rattle.cells.proofs.state.begin.Statement.{statement}
 use Rattle.cells.proofs.state.begin.Tie as tie
-use Rattle.cells.proofs.state.begin.Reads as reads
-use Rattle.cells.proofs.state.begin.Lts as lts
-use Rattle.cells.proofs.state.wide.Reads as wide-reads
 
 element-copy-out-slot : tie.Need-element-copy-out-slot
 element-copy-out-slot c = search needs

@@ -7,8 +7,6 @@ use Rattle.cells.specs.inner.Cells.{reserved, keptIn}
 use borrow.Author.Needs.{needs}
 use Rattle.cells.proofs.state.reserve.Statement.{statement}
 use Rattle.cells.proofs.state.reserve.Tie as tie
-use Rattle.cells.proofs.state.reserve.Reads as reads
-use Rattle.cells.proofs.state.reserve.Lts as lts
 
 element-copy-out-chosen : tie.Need-element-copy-out-chosen
 element-copy-out-chosen c = search needs

@@ -4,8 +4,6 @@ use Rattle.cells.specs.inner.Cells.{restored}
 use borrow.Author.Needs.{needs}
 use Rattle.cells.proofs.state.restore.Statement.{statement}
 use Rattle.cells.proofs.state.restore.Tie as tie
-use Rattle.cells.proofs.state.restore.Reads as reads
-use Rattle.cells.proofs.state.restore.Lts as lts
 
 returns : tie.Need-returns
 unfolding restored

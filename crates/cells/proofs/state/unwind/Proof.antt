@@ -7,9 +7,6 @@ use Rattle.cells.specs.inner.Cells.{unwound}
 use Rattle.cells.proofs.Places.{restored-size, unwound-none, unwound-next}
 use Rattle.cells.proofs.state.unwind.Statement.{statement}
 use Rattle.cells.proofs.state.unwind.Tie as tie
-use Rattle.cells.proofs.state.unwind.Reads as reads
-use Rattle.cells.proofs.state.unwind.Lts as lts
-use Rattle.cells.proofs.state.restore.Reads as restore-reads
 
 abbrev Inv-loop : tie.InvT-loop
 Inv-loop cells₀ trail left₀ cells left = (length cells ≡ 256) × (unwound trail cells₀ ≡ unwound left cells) × (left < 2 ^ 64)

@@ -3,7 +3,6 @@ use mathlib.Core.Path.{ap}
 use mathlib.Core.List.{List}
 use Prim.Native.Nat.{ℕ}
 use borrow.Author.Needs.{needs}
-use Rattle.clause.specs.declared.Clause.{Clause}
 use Rattle.clause.proofs.Clause.of.Statement.{statement}
 use Rattle.clause.proofs.Clause.of.Tie as tie
 

@@ -3,9 +3,9 @@ use mathlib.Core.Path.{_∙_}
 use Prim.Native.Nat.{_+_, _-_, _≤_}
 use native.Mathlib.Omega.{arith}
 use lib.ListN.{length, length-take, length-drop}
-use Rattle.feeding.specs.Feed.{storeOf}
+use Rattle.intake.specs.Feed.{storeOf}
 use Rattle.feeding.proofs.Blocks.{Feeding, feeding-none, feeding-more, feeding-done}
-use Rattle.feeding.proofs.Records.{whole-input}
+use Rattle.intake.proofs.Records.{whole-input}
 use borrow.Author.Needs.{needs}
 use Rattle.feeding.proofs.feeding.feed.Statement.{statement}
 use Rattle.feeding.proofs.feeding.feed.Tie as tie

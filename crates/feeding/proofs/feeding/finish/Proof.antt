@@ -1,5 +1,5 @@
 -- The outcome, its line, the totals.
-use Rattle.feeding.specs.Feed.{storeOf}
+use Rattle.intake.specs.Feed.{storeOf}
 use Rattle.feeding.proofs.Blocks.{finishes}
 use borrow.Author.Needs.{needs}
 use Rattle.feeding.proofs.feeding.finish.Statement.{statement}

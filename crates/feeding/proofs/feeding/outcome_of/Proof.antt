@@ -2,7 +2,7 @@
 use mathlib.Core.Path.{refl, sym}
 use native.Mathlib.Omega.{arith}
 use lib.Seq.{length-take-le}
-use Rattle.feeding.specs.Feed.{finishing}
+use Rattle.intake.specs.Feed.{finishing}
 use Rattle.clause.specs.Clause.{maxWords}
 use borrow.Author.Tests.{lt-ltb, le-ltb}
 use borrow.Author.Needs.{needs}

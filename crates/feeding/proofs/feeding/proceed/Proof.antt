@@ -1,5 +1,5 @@
 -- The reading goes on, or a record is ended.
-use Rattle.feeding.specs.Feed.{storeOf}
+use Rattle.intake.specs.Feed.{storeOf}
 use Rattle.feeding.proofs.Blocks.{goes, ends, took-as}
 use borrow.Author.Needs.{needs}
 use Rattle.feeding.proofs.feeding.proceed.Statement.{statement}

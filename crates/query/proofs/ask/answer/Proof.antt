@@ -1,7 +1,8 @@
 -- `answer` meets its contract.
 use mathlib.Core.Path.{sym, ap}
-use Rattle.query.specs.declared.End.{End}
-use Rattle.query.specs.inner.Findings.{outBy, toldOut}
+use Rattle.walking.specs.declared.End.{End}
+use Rattle.walking.specs.inner.Findings.{outBy}
+use Rattle.query.specs.inner.Telling.{toldOut}
 use borrow.Author.Needs.{needs}
 use Rattle.query.proofs.ask.answer.Statement.{statement}
 use Rattle.query.proofs.ask.answer.Tie as tie

@@ -1,6 +1,6 @@
 -- `refusal` meets its contract.
 use mathlib.Core.Path.{sym, ap}
-use Rattle.query.specs.inner.Findings.{refusalOf}
+use Rattle.query.specs.inner.Telling.{refusalOf}
 use borrow.Author.Needs.{needs}
 use Rattle.query.proofs.ask.refusal.Statement.{statement}
 use Rattle.query.proofs.ask.refusal.Tie as tie

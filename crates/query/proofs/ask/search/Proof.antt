@@ -1,7 +1,7 @@
 -- `search` meets its contract.
 use mathlib.Core.Path.{ap, _∙_}
 use Prim.Native.Nat.{ℕ, _+_}
-use Rattle.query.specs.inner.Findings.{toldOut}
+use Rattle.query.specs.inner.Telling.{toldOut}
 use Rattle.query.proofs.Asking.{fresh-ready, searched}
 use Rattle.query.proofs.Packed.{clause-read}
 use borrow.Author.Needs.{needs}

@@ -1,0 +1,115 @@
+-- A marked number is taken; else the keys are inserted.
+use mathlib.Core.Path.{sym}
+use mathlib.Core.List.{[], _∷_}
+use native.Mathlib.Omega.{arith}
+use lib.Seq.{length-take-le}
+use types.Run.{miss}
+use Rattle.machine.proofs.Compiled.{compiled-fits, compiled-keys}
+use Rattle.answering.proofs.Keeping.{clause-short, insertable, ready, number-new, keep-marked, keep-refused, keep-kept}
+use borrow.Author.Needs.{needs}
+use Rattle.answering.proofs.answering.keep.Statement.{statement}
+use Rattle.answering.proofs.answering.keep.Tie as tie
+
+slice-read-if1 : tie.Need-slice-read-if1
+slice-read-if1 c = search needs
+
+returns : tie.Need-returns
+returns c =
+    let c2 = c .before .before in
+    let s = c2 .before .before .before .before in
+    let g = insertable (s .args .number) (s .pre .0) (s .pre .1) (λ i. omega (arith, c2 .shared-slice-known .given i)) (omega (arith, s .fits .number)) in
+    keep-marked g (c .if1 .taken)
+
+compile-requires : tie.Need-compile-requires
+compile-requires c κs = let p = c .before .before .before .before .before .before .before .pre in (clause-short _ (p .1), p .2)
+
+slice-reshare-prefix-insert-new : tie.Need-slice-reshare-prefix-insert-new
+slice-reshare-prefix-insert-new c = compiled-fits (c .before .before .before .compile .ensures)
+
+slice-aggregate-insert-new : tie.Need-slice-aggregate-insert-new
+slice-aggregate-insert-new c = sym (length-take-le _ _ (compiled-fits (c .before .before .before .before .compile .ensures)))
+
+insert-new-requires : tie.Need-insert-new-requires
+insert-new-requires c κs =
+    let c4 = c .before .before .before .before in
+    let c6 = c4 .before .before in
+    let c8 = c6 .before .before in
+    let s = c8 .before .before .before .before in
+    let g = insertable (s .args .number) (s .pre .0) (s .pre .1) (λ i. omega (arith, c8 .shared-slice-known .given i)) (omega (arith, s .fits .number)) in
+    (ready g (compiled-keys (c4 .compile .ensures)), number-new g (c6 .if1 .left))
+
+enum-known-answer : tie.Need-enum-known-answer
+enum-known-answer c = search needs
+
+slice-write-marks : tie.Need-slice-write-marks
+slice-write-marks c = search needs
+
+slice-read-used : tie.Need-slice-read-used
+slice-read-used c = search needs
+
+used-requires : tie.Need-used-requires
+used-requires c κs = search needs
+
+same-length : tie.Need-same-length
+same-length c = search needs
+
+same-length-2 : tie.Need-same-length-2
+same-length-2 c = search needs
+
+same-length-3 : tie.Need-same-length-3
+same-length-3 c = search needs
+
+returns-2 : tie.Need-returns-2
+returns-2 c =
+    let c1 = c .before in
+    let c5 = c1 .before .before .before .before in
+    let c10 = c5 .before .before .before .before .before in
+    let c12 = c10 .before .before in
+    let c14 = c12 .before .before in
+    let s = c14 .before .before .before .before in
+    let g = insertable (s .args .number) (s .pre .0) (s .pre .1) (λ i. omega (arith, c14 .shared-slice-known .given i)) (omega (arith, s .fits .number)) in
+    let k = c1 .before .match .keys2 in
+    keep-kept g (c12 .if1 .left) (compiled-keys (c10 .compile .ensures)) (c5 .insert-new .ensures) (λ f e. miss (1 ∷ 2 ∷ 3 ∷ []) 0 tt (rw e at k)) (c .used .ensures)
+
+code-requires : tie.Need-code-requires
+code-requires c κs = search needs
+
+same-length-4 : tie.Need-same-length-4
+same-length-4 c = search needs
+
+same-length-5 : tie.Need-same-length-5
+same-length-5 c = search needs
+
+returns-3 : tie.Need-returns-3
+returns-3 c =
+    let c6 = c .before .before .before .before .before .before in
+    let c11 = c6 .before .before .before .before .before in
+    let c13 = c11 .before .before in
+    let c15 = c13 .before .before in
+    let s = c15 .before .before .before .before in
+    let g = insertable (s .args .number) (s .pre .0) (s .pre .1) (λ i. omega (arith, c15 .shared-slice-known .given i)) (omega (arith, s .fits .number)) in
+    let a = c .before .before .answer .given in
+    keep-refused g (c13 .if1 .left) (compiled-keys (c11 .compile .ensures)) (c6 .insert-new .ensures) (a .0 .0) (a .1) (c .code .ensures)
+
+pub keep-spec : {M : Type 1} → statement M
+keep-spec =
+    tie.close
+    (tie.spec
+    slice-read-if1
+    returns
+    compile-requires
+    slice-reshare-prefix-insert-new
+    slice-aggregate-insert-new
+    insert-new-requires
+    enum-known-answer
+    slice-write-marks
+    slice-read-used
+    used-requires
+    same-length
+    same-length-2
+    same-length-3
+    returns-2
+    code-requires
+    same-length-4
+    same-length-5
+    returns-3)

@@ -1,0 +1,156 @@
+-- A whole record at once is fed as it is byte after byte.
+use mathlib.Core.Path.{_≡_, refl, sym, ap, ap₂, _∙_}
+use mathlib.Core.List.{List, [], _∷_, _++_, append-nil}
+use mathlib.Core.Bool.{Bool, true, false, cond}
+use Prim.Native.Nat.{ℕ, zero, suc, _+_, _-_, _*_, _≤_, _<_}
+use native.Mathlib.Omega.{arith}
+use native.Mathlib.Decide.{decLt}
+use native.Mathlib.Numerals.{add-one}
+use lib.Dec.{ltb, eqb}
+use lib.ListN.{length, take, drop, getD, set, drop-of-length-le}
+use lib.Seq.{sets, take-all, take-take, drop-cons, length-take-le}
+use Rattle.record.specs.Output.{fields}
+use Rattle.intake.specs.Feed.{Store, Fed, storeOf, recordEnded, proceeding, takeField, feedThen, feed}
+use Rattle.intake.specs.inner.Steps.{WholeRecord, Stepped}
+use Rattle.intake.proofs.Bytes.{storing, at-count, at-empty, at-word, at-last}
+use Rattle.record.specs.declared.Totals.{Totals}
+use Rattle.intake.specs.declared.Half.{Half}
+use Rattle.intake.specs.declared.Half.the-variants.{Even}
+use Rattle.intake.specs.declared.Stage.{Stage}
+use Rattle.intake.specs.declared.Stage.the-variants.{AtNumber, AtCount, AtWord}
+use Rattle.intake.specs.declared.Session.{Session}
+use Rattle.intake.specs.declared.Next.the-variants.{Reads, Ends}
+
+-- ---- field by field
+
+-- one field after another
+unfoldable pub feedFields : Stage → Totals → Store → List ℕ → Fed
+feedFields g t m [] = record { session = record { half = Even; stage = g; totals = t }; store = m; text = [] }
+feedFields g t m (w ∷ ws) = feedThen (takeField g t m w) (λ s m′. feedFields (s .stage) (s .totals) m′ ws)
+
+-- after a whole field the next byte is a first one
+pub even-after : (g : Stage) (t : Totals) (m : Store) (w : ℕ)
+    → takeField g t m w .session ≡ record { half = Even; stage = takeField g t m w .session .stage; totals = takeField g t m w .session .totals }
+unfolding takeField recordEnded
+even-after AtNumber t m w = refl
+even-after (AtCount n) t m w = go (eqb w 0)
+  where
+    after : Bool → Session
+    after b = proceeding (cond b (Ends (record { number = n; count = 0 })) (Reads Even (AtWord n w 0))) t m .session
+
+    go : (b : Bool) → after b ≡ record { half = Even; stage = after b .stage; totals = after b .totals }
+    go true = refl
+    go false = refl
+even-after (AtWord n count i) t m w = go (ltb (i + 1) count)
+  where
+    after : Bool → Session
+    after b = proceeding (cond b (Reads Even (AtWord n count (i + 1))) (Ends (record { number = n; count = count }))) t (storing m i w) .session
+
+    go : (b : Bool) → after b ≡ record { half = Even; stage = after b .stage; totals = after b .totals }
+    go true = refl
+    go false = refl
+
+-- ---- the words of a record, one after another
+
+-- some words stored from a place on
+abbrev pub filling : Store → (at : ℕ) (words : List ℕ) → Store
+filling m i ws = record { words = sets (m .words) i ws; slice = m .slice; marks = m .marks }
+
+-- the words that are still to come are there
+pub collect : (ws : List ℕ) (n count i : ℕ) (t : Totals) (m : Store) → i < count → count ≤ i + length ws
+    → feedFields (AtWord n count i) t m ws
+    ≡ feedThen (recordEnded n count t (filling m i (take (count - i) ws))) (λ s m′. feedFields (s .stage) (s .totals) m′ (drop (count - i) ws))
+unfolding feedFields
+collect [] n count i t m h k = absurd (omega arith)
+collect (w ∷ ws) n count i t m h k = go (decLt (i + 1) count) (collect ws n count (i + 1) t (storing m i w))
+  where
+    go : Dec (i + 1 < count)
+        → (i + 1 < count → count ≤ i + 1 + length ws → feedFields (AtWord n count (i + 1)) t (storing m i w) ws
+        ≡ feedThen (recordEnded n count t (filling (storing m i w) (i + 1) (take (count - (i + 1)) ws))) (λ s m′. feedFields (s .stage) (s .totals) m′ (drop (count - (i + 1)) ws)))
+        → feedThen (takeField (AtWord n count i) t m w) (λ s m′. feedFields (s .stage) (s .totals) m′ ws)
+        ≡ feedThen (recordEnded n count t (filling m i (take (count - i) (w ∷ ws)))) (λ s m′. feedFields (s .stage) (s .totals) m′ (drop (count - i) (w ∷ ws)))
+    go (yes l) ih =
+        let e : count - i ≡ suc (count - (i + 1)) = omega arith in
+        rw (at-word t m w n count i refl l, e) (ih l (omega arith) ∙ rw add-one)
+    go (no l) ih =
+        let e : count - i ≡ 1 = omega arith in
+        rw (at-last t m w n count i refl (omega arith), e)
+
+-- ---- a whole record
+
+-- an even number of bytes is fed field by field
+feed-fields : (bs : List ℕ) (k : ℕ) (g : Stage) (t : Totals) (m : Store) → length bs ≡ k * 2
+    → feed (record { half = Even; stage = g; totals = t }) m bs ≡ feedFields g t m (fields bs)
+unfolding feed feedFields
+feed-fields [] k g t m h = refl
+feed-fields (a ∷ []) k g t m h = absurd (omega arith)
+feed-fields (a ∷ b ∷ bs) k g t m h =
+    let f : Fed = takeField g t m (a * 256 + b) in
+    ap (λ (x : Fed). record { session = x .session; store = x .store; text = f .text ++ x .text })
+    (ap (λ (s : Session). feed s (f .store) bs) (even-after g t m (a * 256 + b)) ∙ feed-fields bs (k - 1) (f .session .stage) (f .session .totals) (f .store) (omega arith))
+
+length-fields : (bs : List ℕ) (k : ℕ) → length bs ≡ k * 2 → length (fields bs) ≡ k
+length-fields [] k h = omega arith
+length-fields (a ∷ []) k h = absurd (omega arith)
+length-fields (a ∷ b ∷ bs) k h = omega (arith, length-fields bs (k - 1) (omega arith))
+
+-- nothing comes after the record
+ended : (n count : ℕ) (t : Totals) (m : Store) → feedThen (recordEnded n count t m) (λ s m′. feedFields (s .stage) (s .totals) m′ []) ≡ recordEnded n count t m
+unfolding recordEnded feedFields
+ended n count t m = rw append-nil
+
+fields-record : (count n : ℕ) (ws : List ℕ) (t : Totals) (m : Store) → length ws ≡ count
+    → feedFields AtNumber t m (n ∷ count ∷ ws) ≡ recordEnded n count t (filling m 0 ws)
+unfolding feedFields takeField
+fields-record zero n [] t m h =
+    ap (λ (f : Fed). feedThen f (λ s m′. feedFields (s .stage) (s .totals) m′ [])) (at-empty t m 0 n refl (omega arith)) ∙ ended n 0 t m
+fields-record zero n (w ∷ ws) t m h = absurd (omega arith)
+fields-record (suc k) n ws t m h =
+    ap (λ (f : Fed). feedThen f (λ s m′. feedFields (s .stage) (s .totals) m′ ws)) (at-count t m (suc k) n refl (omega arith))
+    ∙ collect ws n (suc k) 0 t m (omega arith) (omega arith)
+    ∙ rw (take-all (suc k - 0) ws (omega arith), drop-of-length-le ws {i = suc k - 0} (omega arith)) (ended n (suc k) t (filling m 0 ws))
+
+-- the bytes of a whole record
+pub whole-record : (s : Session) (input : List ℕ) (count : ℕ) (m : Store) → WholeRecord s input count
+    → feed s m (take (4 + count * 2) input)
+    ≡ recordEnded (getD input 0 0 * 256 + getD input 1 0) count (s .totals) (filling m 0 (fields (take (count * 2) (drop 4 input))))
+whole-record s [] count m w = absurd (omega (arith, w .inside))
+whole-record s (a ∷ []) count m w = absurd (omega (arith, w .inside))
+whole-record s (a ∷ b ∷ []) count m w = absurd (omega (arith, w .inside))
+whole-record s (a ∷ b ∷ c ∷ []) count m w = absurd (omega (arith, w .inside))
+whole-record s (a ∷ b ∷ c ∷ d ∷ bs) count m w =
+    let ws : List ℕ = take (count * 2) bs in
+    let l : length ws ≡ count * 2 = length-take-le (count * 2) bs (omega (arith, w .inside)) in
+    let e : 4 + count * 2 ≡ suc (suc (suc (suc (count * 2)))) = omega arith in
+    ap (λ (k : ℕ). feed s m (take k (a ∷ b ∷ c ∷ d ∷ bs))) e
+    ∙ ap₂ (λ (h : Half) (g : Stage). feed (record { half = h; stage = g; totals = s .totals }) m (a ∷ b ∷ c ∷ d ∷ ws)) (w .half) (w .stage)
+    ∙ feed-fields (a ∷ b ∷ c ∷ d ∷ ws) (2 + count) AtNumber (s .totals) m (omega arith)
+    ∙ ap (λ (k : ℕ). feedFields AtNumber (s .totals) m ((a * 256 + b) ∷ k ∷ fields ws)) (sym (w .counts))
+    ∙ fields-record count (a * 256 + b) (fields ws) (s .totals) m (length-fields ws count l)
+
+-- a whole record that was read
+pub record-read : (s : Session) (input words : List ℕ) (count : ℕ) {n c : ℕ} {ws : List ℕ} → WholeRecord s input count
+    → n ≡ getD input 0 0 * 256 + getD input 1 0
+    → c ≡ count
+    → ws ≡ sets words 0 (fields (take (count * 2) (take (length input - 4) (drop 4 input))))
+    → Stepped s input words (record { taken = 4 + count * 2; next = Ends (record { number = n; count = c }) }) ws
+record-read s input words count w en ec ew =
+    let e : take (count * 2) (take (length input - 4) (drop 4 input)) ≡ take (count * 2) (drop 4 input) = take-take (count * 2) (length input - 4) (drop 4 input) (omega (arith, w .inside)) in
+    record { some = omega arith; inside = w .inside; feeds = λ T K. whole-record s input count (storeOf words T K) w ∙ rw (en, ec, ew, e) }
+
+-- ---- the words, one after another
+
+-- the words from one on are stored: the first of them, and then the others
+pub read-more : (input words : List ℕ) (at i count : ℕ) → at + 1 < length input → i < count
+    → sets words i (fields (take ((count - i) * 2) (drop at input)))
+    ≡ sets (set words i (getD input at 0 * 256 + getD input (at + 1) 0)) (i + 1) (fields (take ((count - (i + 1)) * 2) (drop (at + 2) input)))
+read-more input words at i count h l =
+    let e : (count - i) * 2 ≡ suc (suc ((count - (i + 1)) * 2)) = omega arith in
+    let f : at + 2 ≡ suc (suc at) = omega arith in
+    let g : at + 1 ≡ suc at = omega arith in
+    let d : drop at input ≡ getD input at 0 ∷ getD input (suc at) 0 ∷ drop (suc (suc at)) input = drop-cons input at 0 (omega arith) ∙ ap (λ (l : List ℕ). getD input at 0 ∷ l) (drop-cons input (suc at) 0 (omega arith)) in
+    rw (e, f, g, d, add-one)
+
+-- none is left
+pub read-all : (input words : List ℕ) (at i count : ℕ) → count ≤ i → sets words i (fields (take ((count - i) * 2) (drop at input))) ≡ words
+read-all input words at i count h = let e : (count - i) * 2 ≡ 0 = omega arith in rw e

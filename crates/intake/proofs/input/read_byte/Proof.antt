@@ -1,0 +1,54 @@
+-- The first byte of a field, or the second.
+use mathlib.Core.Path.{refl}
+use Rattle.intake.specs.Feed.{storeOf}
+use Rattle.intake.proofs.Bytes.{first-byte, second-byte}
+use borrow.Author.Needs.{needs}
+use Rattle.intake.proofs.input.read_byte.Statement.{statement}
+use Rattle.intake.proofs.input.read_byte.Tie as tie
+
+enum-told : tie.Need-enum-told
+enum-told c = search needs
+
+enum-known-half : tie.Need-enum-known-half
+enum-known-half c = search needs
+
+field-of-requires : tie.Need-field-of-requires
+field-of-requires c κs = search needs
+
+store-requires : tie.Need-store-requires
+store-requires c κs = search needs
+
+advance-requires : tie.Need-advance-requires
+advance-requires c κs = search needs
+
+returns : tie.Need-returns
+returns c = λ T m.
+    let a = c .before .before .before .args in
+    first-byte (a .session) (storeOf (a .words .now) T m) (a .byte) (c .enum-told .given .1) refl
+
+same-length : tie.Need-same-length
+same-length c = search needs
+
+returns-2 : tie.Need-returns-2
+returns-2 c =
+    let c3 = c .before .before .before in
+    let c5 = c3 .before .before in
+    let c7 = c5 .before .before in
+    let c10 = c7 .before .before .before in
+    λ T m.
+    let a = c10 .args in
+    let h = c7 .half .given in
+    second-byte (a .session) (storeOf (a .words .now) T m) (a .byte) (h .0 .0) (h .1) (c5 .field-of .ensures) (c3 .store .ensures) (c .advance .ensures)
+
+pub read-byte-spec : {M : Type 1} → statement M
+read-byte-spec =
+    tie.close
+    (tie.spec
+    enum-told
+    enum-known-half
+    field-of-requires
+    store-requires
+    advance-requires
+    returns
+    same-length
+    returns-2)

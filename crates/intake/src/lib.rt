@@ -1,0 +1,45 @@
+// The program's input, byte by byte and record by record (document 01, "The program").
+use record::Totals;
+
+mod input;
+
+pub use input::begin;
+pub use input::read_some;
+
+// Whether the next byte is the first of a field, or the second, with the first.
+pub enum Half {
+    Even,
+    Odd(u8),
+}
+
+// What the next field is: a record's number; its word count, with its number; or one of its words, with its number, its count and the words so far.
+pub enum Stage {
+    AtNumber,
+    AtCount(u16),
+    AtWord(u16, u16, u16),
+}
+
+// How far the reading of the input is, and the totals.
+pub struct Session {
+    pub half: Half,
+    pub stage: Stage,
+    pub totals: Totals,
+}
+
+// A whole record's number and word count.
+pub struct Head {
+    pub number: u16,
+    pub count: u16,
+}
+
+// What some more of the input leads to: the reading goes on, or a record is whole.
+pub enum Next {
+    Reads(Half, Stage),
+    Ends(Head),
+}
+
+// Some more of the input: how many bytes were taken, and what they lead to.
+pub struct Step {
+    pub taken: usize,
+    pub next: Next,
+}

@@ -1,0 +1,160 @@
+-- `merging::insert_at` meets its contract.
+use mathlib.Core.Path.{ap, _∙_}
+use Prim.Native.Nat.{_+_, _≤_}
+use native.Mathlib.Omega.{arith}
+use lib.ListN.{length, length-set}
+use Rattle.merging.proofs.Chain.{tail-writable}
+use Rattle.merging.proofs.InsertCases.{endOf, newOf, ready-parts, insert-cramped, insert-room, insert-kept}
+use borrow.Author.Needs.{needs}
+use Rattle.merging.proofs.insert_at.Statement.{statement}
+use Rattle.merging.proofs.insert_at.Tie as tie
+
+slice-read-header : tie.Need-slice-read-header
+slice-read-header c = omega (arith, ready-parts (c .before .before .before .pre .0) .room)
+
+used-requires : tie.Need-used-requires
+used-requires c κs = search needs
+
+add-end : tie.Need-add-end
+add-end c = omega (arith, ready-parts (c .before .before .before .before .pre .0) .room)
+
+sub-new : tie.Need-sub-new
+sub-new c = search needs
+
+add-new : tie.Need-add-new
+add-new c = search needs
+
+add-if1 : tie.Need-add-if1
+add-if1 c =
+    let s = c .before .before .before .before in
+    let P = ready-parts (s .pre .0) in
+    omega (arith, P .room, P .short, s .pre .0 .few)
+
+returns : tie.Need-returns
+returns c =
+    let s = c .before .before .before .before .before in
+    insert-cramped (s .args .number) (s .pre .0) (s .pre .1) (omega (arith, c .if1 .taken, c .before .used .ensures))
+
+sub-raise : tie.Need-sub-raise
+sub-raise c = search needs
+
+part-raise-start : tie.Need-part-raise-start
+part-raise-start c = search needs
+
+part-raise-end : tie.Need-part-raise-end
+part-raise-end c = search needs
+
+raise-requires : tie.Need-raise-requires
+raise-requires c κs =
+    let u = c .before .before in
+    let s = u .before .before .before .before in
+    let P = ready-parts (s .pre .0) in
+    (rw (u .used .ensures, P .part) (P .rows), omega (arith, s .pre .0 .few))
+
+add-from : tie.Need-add-from
+add-from c =
+    let s = c .before .before .before .before .before .before .before .before .before in
+    let P = ready-parts (s .pre .0) in
+    omega (arith, P .room, P .many, P .short, s .pre .1 .within)
+
+add-to : tie.Need-add-to
+add-to c = search needs
+
+mul-put-in : tie.Need-mul-put-in
+mul-put-in c =
+    let s = c .before .before .before .before .before .before .before .before .before in
+    let P = ready-parts (s .pre .0) in
+    omega (arith, P .room, P .many, P .short, s .pre .1 .within)
+
+sub-put-in : tie.Need-sub-put-in
+sub-put-in c =
+    let s = c .before .before .before .before .before .before .before .before .before in
+    let P = ready-parts (s .pre .0) in
+    omega (arith, P .room, P .many, P .short, s .pre .1 .within)
+
+part-put-in-start : tie.Need-part-put-in-start
+part-put-in-start c =
+    let s = c .before .before .before .before .before .before .before .before .before in
+    let P = ready-parts (s .pre .0) in
+    omega (arith, P .room, P .many, P .short, s .pre .1 .within)
+
+part-put-in-end : tie.Need-part-put-in-end
+part-put-in-end c = search needs
+
+mul-put-in-2 : tie.Need-mul-put-in-2
+mul-put-in-2 c = search needs
+
+sub-put-in-2 : tie.Need-sub-put-in-2
+sub-put-in-2 c = search needs
+
+part-put-in-start-2 : tie.Need-part-put-in-start-2
+part-put-in-start-2 c = search needs
+
+part-put-in-end-2 : tie.Need-part-put-in-end-2
+part-put-in-end-2 c = search needs
+
+put-in-requires : tie.Need-put-in-requires
+put-in-requires c κs =
+    let u = c .before .before .before .before .before .before .before in
+    let s = u .before .before .before .before in
+    let long = (rw (u .used .ensures) at (c .before .before .before .tree .given .0)) ∙ ap length (ready-parts (s .pre .0) .part) in
+    let room : endOf (s .args .tree .now) + newOf (s .args .keys .now) (s .args .shared) ≤ length (s .args .tree .now) =
+    omega (arith, c .before .before .before .before .before .before .if1 .left, u .used .ensures) in (
+      tail-writable (s .args .keys .now) (s .args .shared) (s .pre .1 .shares) (s .pre .0 .body) (s .pre .0 .few),
+      rw (u .used .ensures) (insert-room (s .args .number) (s .pre .0) (s .pre .1) room (c .before .before .before .before .raise .last .0) long),
+    )
+
+one-more-requires : tie.Need-one-more-requires
+one-more-requires c κs =
+    let u = c .before .before .before .before .before .before .before .before .before .before in
+    omega (arith, c .before .before .before .before .before .before .before .before .before .if1 .left, u .used .ensures, ready-parts (u .before .before .before .before .pre .0) .short)
+
+slice-write-tree : tie.Need-slice-write-tree
+slice-write-tree c = search needs
+
+same-length : tie.Need-same-length
+same-length c = simp length-set (c .before .before .tree2 .given .1 ∙ c .before .before .before .before .before .before .before .tree .given .1)
+
+returns-2 : tie.Need-returns-2
+returns-2 c =
+    let a = c .before .before .before .before .before .before .before .before in
+    let u = a .before .before .before in
+    let s = u .before .before .before .before in
+    let e = u .used .ensures in
+    let P = ready-parts (s .pre .0) in
+    let long = (rw e at (c .before .before .before .before .before .before .before .tree .given .0)) ∙ ap length (P .part) in
+    let room : endOf (s .args .tree .now) + newOf (s .args .keys .now) (s .args .shared) ≤ length (s .args .tree .now) =
+    omega (arith, a .before .before .if1 .left, e) in
+    rw (c .one-more .ensures, e)
+    (insert-kept (s .args .number) (s .pre .0) (s .pre .1) room (a .raise .last .0) long _ (rw (e, P .part) at (a .raise .ensures)) (rw e at (c .before .before .before .put-in .ensures)))
+
+pub insert-at-spec : {M : Type 1} → statement M
+insert-at-spec =
+    tie.close
+    (tie.spec
+    slice-read-header
+    used-requires
+    add-end
+    sub-new
+    add-new
+    add-if1
+    returns
+    sub-raise
+    part-raise-start
+    part-raise-end
+    raise-requires
+    add-from
+    add-to
+    mul-put-in
+    sub-put-in
+    part-put-in-start
+    part-put-in-end
+    mul-put-in-2
+    sub-put-in-2
+    part-put-in-start-2
+    part-put-in-end-2
+    put-in-requires
+    one-more-requires
+    slice-write-tree
+    same-length
+    returns-2)

@@ -1,0 +1,27 @@
+-- `down` meets its contract.
+use mathlib.Core.Path.{refl}
+use Rattle.clause.specs.Word.{arity}
+use Rattle.stepping.proofs.Visits.{stays, sticks, down-stuck, down-below}
+use borrow.Author.Needs.{needs}
+use Rattle.stepping.proofs.step.down.Statement.{statement}
+use Rattle.stepping.proofs.step.down.Tie as tie
+
+mul-if1 : tie.Need-mul-if1
+mul-if1 c = search needs
+
+shared-slice-read-if1 : tie.Need-shared-slice-read-if1
+shared-slice-read-if1 c = search needs
+
+add-to : tie.Need-add-to
+add-to c = search needs
+
+returns : tie.Need-returns
+unfolding arity
+returns c = λ l. sticks l (down-stuck _ _ l (c .if1 .taken))
+
+returns-2 : tie.Need-returns-2
+unfolding arity
+returns-2 c = λ l. stays _ _ l refl (down-below _ _ l (c .before .before .pre) (c .if1 .left))
+
+pub down-spec : {M : Type 1} → statement M
+down-spec = tie.close (tie.spec mul-if1 shared-slice-read-if1 add-to returns returns-2)

@@ -1,0 +1,4 @@
+pub mod Nodes
+pub mod Passes
+pub mod Walking
+pub mod Turns

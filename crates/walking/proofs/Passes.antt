@@ -1,0 +1,126 @@
+-- The passes over the words below a node: one from each candidate of a First, or one from the state itself.
+use Prim.Native.Nat.{ℕ, zero, suc, _+_, _-_, _≤_, _<_}
+use mathlib.Core.Path.{_≡_, refl, _∙_}
+use mathlib.Core.Bool.{Bool, true, false}
+use mathlib.Core.List.{List}
+use native.Mathlib.Omega.{arith}
+use native.Mathlib.Numerals.{add-one}
+use lib.ListN.{length}
+use borrow.Author.Tests.{le-leb, lt-leb, lt-ltb}
+use Rattle.clause.specs.Clause.{maxLiterals, literals}
+use Rattle.machine.specs.Machine.{State, enter, require}
+use Rattle.walk.specs.Walk.{Answer, covered, notCovered, spent, broken, Part, andThen, tries, upTo}
+use Rattle.walk.specs.Query.{machine, shown}
+use Rattle.cells.specs.inner.Cells.{entered, passesOf, startAt, stateOf}
+use Rattle.walking.specs.inner.Findings.{missed, seen, outBy, Walked}
+use Rattle.walking.specs.declared.Finding.{Finding}
+use Rattle.walking.specs.declared.End.{End}
+use Rattle.walking.proofs.Nodes.{then-nothing}
+use Rattle.walking.specs.declared.End.the-variants.{Missed, Found, Broken, Spent}
+
+-- m passes from the j-th on
+unfoldable pub runs : List ℕ → (budget : ℕ) → Bool → (State → Part State) → State → (m j : ℕ) → Part State
+runs d b true k s m j c = tries (machine d) (upTo b) k s m j c
+runs d b false k s zero j c = notCovered c
+runs d b false k s (suc m) j c = andThen (k s c) (runs d b false k s m (suc j))
+
+module _ (d : List ℕ) (b : ℕ) (k : State → Part State) (s : State) where
+  -- all passes
+  pub runs-whole : (first : Bool) {m : ℕ} → m ≡ passesOf first (length (literals d)) → (c : ℕ) → runs d b first k s (m - 0) 0 c ≡ entered d b first k s c
+  unfolding runs entered passesOf
+  runs-whole true {m} e c = let f : m - 0 ≡ length (literals d) = omega arith in rw f
+  runs-whole false {m} e c = let f : m - 0 ≡ 1 = omega arith in rw f (then-nothing (k s c) notCovered (λ i. refl))
+
+  -- no pass is left
+  pub runs-end : (first : Bool) (m j c : ℕ) → m ≤ j → runs d b first k s (m - j) j c ≡ notCovered c
+  unfolding runs
+  runs-end true m j c h = let z : m - j ≡ 0 = omega arith in rw z
+  runs-end false m j c h = let z : m - j ≡ 0 = omega arith in rw z
+
+  -- the next pass
+  pub runs-plain : {first : Bool} → first ≡ false → (m j c : ℕ) → j < m
+      → runs d b first k s (m - j) j c ≡ andThen (k (startAt d first j s) c) (runs d b first k s (m - (j + 1)) (j + 1))
+  unfolding runs startAt
+  runs-plain e m j c h = let n : m - j ≡ suc (m - (j + 1)) = omega arith in rw (e, n, add-one)
+
+  module _ (few : length (s .chosen) < maxLiterals) where
+    pub runs-spent : {first : Bool} → first ≡ true → (m j c : ℕ) → j < m → b ≤ c → runs d b first k s (m - j) j c ≡ spent
+    unfolding runs enter require
+    runs-spent e m j c h g = let n : m - j ≡ suc (m - (j + 1)) = omega arith in rw (e, n, lt-ltb (length (s .chosen)) maxLiterals few, lt-leb (suc c) b (omega arith))
+
+    pub runs-first : {first : Bool} → first ≡ true → (m j c : ℕ) → j < m → c < b
+        → runs d b first k s (m - j) j c ≡ andThen (k (startAt d first j s) (c + 1)) (runs d b first k s (m - (j + 1)) (j + 1))
+    unfolding runs enter require startAt
+    runs-first e m j c h g =
+        let n : m - j ≡ suc (m - (j + 1)) = omega arith in
+        rw (e, n, lt-ltb (length (s .chosen)) maxLiterals few, le-leb (suc c) b (omega arith), add-one j, add-one c)
+
+-- what is seen of an answer
+pub seen-missed : (a : Answer State) {c : ℕ} → missed c ≡ seen a → a ≡ notCovered c
+unfolding seen
+seen-missed (covered n s i) e = let z : _≡_ {A = ℕ} 0 1 = cc in absurd (omega arith)
+seen-missed (notCovered i) e = cc
+seen-missed spent e = let z : _≡_ {A = ℕ} 0 1 = cc in absurd (omega arith)
+seen-missed broken e = let z : _≡_ {A = ℕ} 0 1 = cc in absurd (omega arith)
+
+out-missed : (e : End) (n : ℕ) (l : List ℕ) {c : ℕ} → outBy e n l ≡ missed c → e ≡ Missed
+unfolding outBy
+out-missed Missed n l h = refl
+out-missed (Found k) n l h = let z : _≡_ {A = ℕ} 0 1 = cc in absurd (omega arith)
+out-missed Broken n l h = let z : _≡_ {A = ℕ} 0 1 = cc in absurd (omega arith)
+out-missed Spent n l h = let z : _≡_ {A = ℕ} 0 1 = cc in absurd (omega arith)
+
+-- after a miss the walk goes on, and it ends with anything else
+pub then-on : {a : Answer State} {c : ℕ} (k : Part State) → a ≡ notCovered c → andThen a k ≡ k c
+then-on k e = rw e
+
+pub then-ends : (a : Answer State) (k : Part State) (e : End) (n : ℕ) (l : List ℕ) → (e ≡ Missed → ⊥) → outBy e n l ≡ seen a → andThen a k ≡ a
+unfolding seen
+then-ends (covered i s c) k e n l ne h = refl
+then-ends (notCovered c) k e n l ne h = absurd (ne (out-missed e n l h))
+then-ends spent k e n l ne h = refl
+then-ends broken k e n l ne h = refl
+
+pub missed-of : (a : Answer State) (e : End) (n : ℕ) (l : List ℕ) → e ≡ Missed → outBy e n l ≡ seen a → a ≡ notCovered n
+unfolding outBy
+missed-of a e n l m h = seen-missed a (rw m at h)
+
+pub broken≢missed : Broken ≡ Missed → ⊥
+broken≢missed e = let z : _≡_ {A = ℕ} 0 1 = cc in omega arith
+
+pub spent≢missed : Spent ≡ Missed → ⊥
+spent≢missed e = let z : _≡_ {A = ℕ} 0 1 = cc in omega arith
+
+pub found≢missed : {n : ℕ} → Found n ≡ Missed → ⊥
+found≢missed e = let z : _≡_ {A = ℕ} 0 1 = cc in omega arith
+
+-- what a walk's finding says of its answer
+module _ {a : Answer State} {before after : List ℕ} where
+  pub walked-missed : {c : ℕ} → a ≡ notCovered c → after ≡ before → Walked a before after (record { end = Missed; count = c })
+  unfolding outBy seen
+  walked-missed e b = record { comes = rw e; back = λ _. b; size = rw b }
+
+  pub walked-spent : (c : ℕ) → a ≡ spent → length after ≡ length before → Walked a before after (record { end = Spent; count = c })
+  unfolding outBy seen
+  walked-spent c e l = record { comes = rw e; back = λ m. absurd (spent≢missed m); size = l }
+
+  pub walked-broken : (c : ℕ) → a ≡ broken → length after ≡ length before → Walked a before after (record { end = Broken; count = c })
+  unfolding outBy seen
+  walked-broken c e l = record { comes = rw e; back = λ m. absurd (broken≢missed m); size = l }
+
+  pub walked-found : (h : ℕ) {n i c : ℕ} → i ≡ n → a ≡ covered n (stateOf h after) c → length after ≡ length before → Walked a before after (record { end = Found i; count = c })
+  unfolding outBy seen shown
+  walked-found h f e l = record { comes = rw (f, e); back = λ m. absurd (found≢missed m); size = l }
+
+  pub walked-same : {m : List ℕ} {r : Finding} {x : Answer State} → (r .end ≡ Missed → ⊥) → a ≡ x → Walked x m after r → length m ≡ length before → Walked a before after r
+  walked-same nm e w l = record { comes = rw e (w .comes); back = λ m. absurd (nm m); size = w .size ∙ l }
+
+-- a walk that ends ends what follows it
+pub then-broken : {a : Answer State} (k : Part State) → a ≡ broken → andThen a k ≡ broken
+then-broken k e = rw e
+
+pub then-covered : {a : Answer State} {n c : ℕ} {s : State} (k : Part State) → a ≡ covered n s c → andThen a k ≡ covered n s c
+then-covered k e = rw e
+
+pub then-found : {a x : Answer State} (k : Part State) {m after : List ℕ} {r : Finding} → (r .end ≡ Missed → ⊥) → a ≡ x → Walked x m after r → andThen a k ≡ x
+then-found {x = x} k {after = after} {r} nm e w = rw e (then-ends x k (r .end) (r .count) after nm (w .comes))

@@ -1,0 +1,214 @@
+-- The passes over the words below a node, as the walk's code takes them: where the node is entered, between two passes, and where a pass begins.
+use Prim.Native.Nat.{ℕ, _+_, _-_, _≤_, _<_}
+use mathlib.Core.Path.{_≡_, refl, sym, ap, _∙_}
+use mathlib.Core.Logic.{_⊎_, ⊎-elim}
+use mathlib.Core.Bool.{Bool, true, false}
+use mathlib.Core.List.{List}
+use native.Mathlib.Omega.{arith}
+use lib.Dec.{eqb}
+use lib.ListN.{length, getD}
+use borrow.Author.Tests.{eqb-true, eqb-false}
+use Rattle.clause.specs.Clause.{maxLiterals, literals}
+use Rattle.clause.proofs.Literals.{accepted}
+use Rattle.machine.specs.Machine.{State}
+use Rattle.machine.specs.inner.Safe.{Safe}
+use Rattle.machine.proofs.Safe.{start-in, starting-safe}
+use Rattle.walk.specs.Walk.{Answer, covered, notCovered, broken, Part, andThen, upTo}
+use Rattle.walk.specs.Words.{walkWords}
+use Rattle.walk.specs.Query.{machine}
+use Rattle.cells.specs.inner.Cells.{literalsAt, cellCount, noPosition, HasPlace, HasCandidate, entered, stateOf, Walkable, reserved, candidate, released, keptIn, headAt, startAt, passesOf}
+use Rattle.walking.specs.inner.Findings.{Walked}
+use Rattle.walking.specs.declared.End.the-variants.{Missed, Found, Broken, Spent}
+use Rattle.walking.specs.declared.Finding.{Finding}
+use Rattle.cells.proofs.Places.{place-some, waiting, waiting-reserve, waiting-next, waiting-release, waiting-size, waiting-few, waiting-state}
+use Rattle.stepping.proofs.Visits.{chosen-length}
+use Rattle.walking.proofs.Passes.{runs, runs-whole, runs-end, runs-first, runs-plain, runs-spent}
+use Rattle.walking.proofs.Passes.{then-on, then-broken, then-covered, then-found, walked-missed, walked-spent, walked-broken, walked-found, walked-same}
+
+-- the literal of a pass
+pass-literal : {first : Bool} {last q j : ℕ} → first ≡ true → last ≡ passesOf first q → {n : ℕ} → q ≡ n → j < last → j < n
+unfolding passesOf
+pass-literal {last = last} {q} {j} e f g h = let z : last ≡ q = f ∙ rw e in omega arith
+
+-- the next pass
+turn :
+    (d : List ℕ) (b : ℕ) (k : State → Part State) (first : Bool) (s : State) → (first ≡ true → length (s .chosen) < maxLiterals)
+    → (last j n n′ : ℕ) → j < last → ((first ≡ true) × (n < b) × (n′ ≡ n + 1)) ⊎ ((first ≡ false) × (n′ ≡ n)) → {u : State} → u ≡ startAt d first j s
+    → runs d b first k s (last - j) j n ≡ andThen (k u n′) (runs d b first k s (last - (j + 1)) (j + 1))
+turn d b k first s few last j n n′ more kind e =
+    rw e (⊎-elim
+    (λ w. rw (w .2) (runs-first d b k s (few (w .0)) (w .0) last j n more (w .1)))
+    (λ w. rw (w .1) (runs-plain d b k s (w .0) last j n more))
+    kind)
+
+-- the state at the beginning of a pass
+module _ (d t : List ℕ) (h : ℕ) (l : List ℕ) (R : Walkable d t h l) (first : Bool) (j : ℕ) (more : first ≡ true → (HasPlace l) × (j < length (literals d))) where
+  start-ready : Walkable d t (headAt d first h j) (waiting first j l)
+  unfolding startAt
+  start-ready =
+      record {
+        whole = R .whole;
+        tables = R .tables;
+        safe = rw (waiting-state d t h l R j first more) (go first refl);
+        size = waiting-size first l (R .size) (λ e. more e .0) j ∙ R .size;
+        few = waiting-few first l (R .size) (λ e. more e .0) (R .few) j .0;
+      }
+    where
+      go : (b : Bool) → first ≡ b → Safe d (startAt d b j (stateOf h l))
+      go false e = R .safe
+      go true e = starting-safe d (accepted d (R .whole)) (stateOf h l) (R .safe) j (more e .1)
+
+  start-inside : (first ≡ false → h < length d) → headAt d first h j < length d
+  unfolding headAt
+  start-inside g = go first refl
+    where
+      go : (b : Bool) → first ≡ b → headAt d b h j < length d
+      go false e = g e
+      go true e = start-in d (accepted d (R .whole)) j (more e .1)
+
+-- a First, which hands on no head, finds a place for one candidate more
+pub first-few : (h : ℕ) (l : List ℕ) → (h ≡ noPosition → HasPlace l) → {first : Bool} → first ≡ eqb h noPosition → first ≡ true → HasPlace l
+first-few h l room f e = room (eqb-true _ _ (sym f ∙ e))
+
+-- a node is entered: whether it is a First, how many passes there are, and what stood where the candidate is to stand
+pub record Entry (d t words : List ℕ) (b h : ℕ) (l : List ℕ) (n₀ : ℕ) (first : Bool) (last kept : ℕ) (l₁ : List ℕ) : Type 0 where
+  pub ready : Walkable d t h l
+  pub room : h ≡ noPosition → HasPlace l
+  pub by-head : first ≡ eqb h noPosition
+  pub times : last ≡ passesOf first (getD t literalsAt 0)
+  pub keeps : kept ≡ keptIn first l
+  pub reserves : l₁ ≡ reserved first l
+
+-- between two passes: a place for the candidate, and the walk is the passes that are left; without the place the cells are those at the entry
+pub record Between (d words : List ℕ) (b h n₀ : ℕ) (first : Bool) (last kept : ℕ) (l₁ cells : List ℕ) (n j : ℕ) : Type 0 where
+  pub inside : j ≤ last
+  pub latest : ℕ
+  pub place : cells ≡ candidate first latest l₁
+  pub same :
+      entered d b first (walkWords (machine d) (upTo b) words) (stateOf h (released first kept l₁)) n₀
+      ≡ runs d b first (walkWords (machine d) (upTo b) words) (stateOf h (released first kept l₁)) (last - j) j n
+
+-- a pass begins: its count, its head and its cells
+pub record Begun (d t words : List ℕ) (b h : ℕ) (l : List ℕ) (n₀ : ℕ) (first : Bool) (last kept : ℕ) (l₁ cells : List ℕ) (n j n₁ here : ℕ) (out : List ℕ) : Type 0 where
+  pub entry : Entry d t words b h l n₀ first last kept l₁
+  pub between : Between d words b h n₀ first last kept l₁ cells n j
+  pub more : j < last
+  pub counted : ((first ≡ true) × (n < b) × (n₁ ≡ n + 1)) ⊎ ((first ≡ false) × (n₁ ≡ n))
+  pub head : here ≡ headAt d first h j
+  pub stored : out ≡ candidate first j cells
+
+module _ {d t words : List ℕ} {b h : ℕ} {l : List ℕ} {n₀ : ℕ} {first : Bool} {last kept : ℕ} {l₁ : List ℕ} (E : Entry d t words b h l n₀ first last kept l₁) where
+  abbrev k : State → Part State
+  k = walkWords (machine d) (upTo b) words
+
+  abbrev s : State
+  s = stateOf h l
+
+  size : length l ≡ cellCount
+  size = E .ready .size
+
+  few : first ≡ true → HasPlace l
+  few = first-few h l (E .room) (E .by-head)
+
+  -- any other head stands in the query
+  inside : first ≡ false → h < length d
+  inside e = E .ready .safe .head h (place-some (eqb-false _ _ (sym (E .by-head) ∙ e)))
+
+  -- the walk is entered by the head
+  asked : entered d b (eqb h noPosition) k s n₀ ≡ entered d b first k s n₀
+  asked = ap (λ (f : Bool). entered d b f k s n₀) (sym (E .by-head))
+
+  chosen-few : first ≡ true → length (s .chosen) < maxLiterals
+  chosen-few e = rw (chosen-length d t h l (E .ready)) (few e)
+
+  literal : {j : ℕ} → j < last → first ≡ true → j < length (literals d)
+  literal m e = pass-literal e (E .times) (E .ready .tables .count) m
+
+  base : released first kept l₁ ≡ l
+  base = rw (E .keeps, E .reserves ∙ waiting-reserve first l size few) (waiting-release first l size few (keptIn first l))
+
+  -- before the first pass
+  pub entry-start : Between d words b h n₀ first last kept l₁ l₁ n₀ 0
+  entry-start =
+      record {
+        inside = omega arith;
+        latest = keptIn first l;
+        place = E .reserves ∙ waiting-reserve first l size few ∙ ap (candidate first (keptIn first l)) (sym (E .reserves));
+        same = sym (runs-whole d b k _ first (E .times ∙ ap (passesOf first) (E .ready .tables .count)) n₀);
+      }
+
+  module _ {cells : List ℕ} {n j : ℕ} (B : Between d words b h n₀ first last kept l₁ cells n j) where
+    held : cells ≡ waiting first (B .latest) l
+    held = B .place ∙ ap (candidate first (B .latest)) (E .reserves)
+
+    left : entered d b first k s n₀ ≡ runs d b first k s (last - j) j n
+    left = rw base at (B .same)
+
+    pub between-size : length cells ≡ cellCount
+    between-size = rw held (waiting-size first l size few (B .latest)) ∙ size
+
+    pub between-room : first ≡ true → HasCandidate cells
+    between-room e = let f = waiting-few first l size few (E .ready .few) (B .latest) in rw held (f .1 e, f .0)
+
+    pub between-literal : j < last → first ≡ true → HasCandidate cells × (j < length (literals d))
+    between-literal m e = (between-room e, literal m e)
+
+    -- no pass is left
+    pub between-ends : last ≤ j → {out : List ℕ} → out ≡ released first kept cells → Walked (entered d b (eqb h noPosition) k s n₀) l out (record { end = Missed; count = n })
+    between-ends m o = walked-missed (asked ∙ left ∙ runs-end d b k s first last j n m) (o ∙ rw (E .keeps, held) (waiting-release first l size few (B .latest)))
+
+    -- the budget is spent
+    pub between-spent : first ≡ true → j < last → b ≤ n → Walked (entered d b (eqb h noPosition) k s n₀) l cells (record { end = Spent; count = n })
+    between-spent e m g = walked-spent n (asked ∙ left ∙ runs-spent d b k s (chosen-few e) e last j n m g) (between-size ∙ sym size)
+
+module _ {d t words : List ℕ} {b h : ℕ} {l : List ℕ} {n₀ : ℕ} {first : Bool} {last kept : ℕ} {l₁ cells : List ℕ} {n j n₁ here : ℕ} {out : List ℕ}
+    (P : Begun d t words b h l n₀ first last kept l₁ cells n j n₁ here out) where
+  abbrev E : Entry d t words b h l n₀ first last kept l₁
+  E = P .entry
+
+  abbrev row : State → Part State
+  row = walkWords (machine d) (upTo b) words
+
+  abbrev whole : Answer State
+  whole = entered d b (eqb h noPosition) row (stateOf h l) n₀
+
+  more : first ≡ true → (HasPlace l) × (j < length (literals d))
+  more e = (few E e, literal E (P .more) e)
+
+  begun : out ≡ waiting first j l
+  begun = P .stored ∙ rw (held E (P .between)) (waiting-next first l (size E) (few E) (P .between .latest) j)
+
+  pub begun-ready : Walkable d t here out × (here < length d)
+  begun-ready = (
+    rw (P .head, begun) (start-ready d t h l (E .ready) first j more),
+    rw (P .head) (start-inside d t h l (E .ready) first j more (inside E)),
+  )
+
+  -- the walk from this pass on
+  next : entered d b first row (stateOf h l) n₀ ≡ andThen (row (stateOf here out) n₁) (runs d b first row (stateOf h l) (last - (j + 1)) (j + 1))
+  next =
+      left E (P .between)
+      ∙ turn d b row first (stateOf h l) (chosen-few E) last j n n₁ (P .more) (P .counted) (rw (P .head, begun) (waiting-state d t h l (E .ready) j first more))
+
+  -- its row misses
+  pub pass-missed : {c : ℕ} {after : List ℕ} → row (stateOf here out) n₁ ≡ notCovered c → after ≡ out → Between d words b h n₀ first last kept l₁ after c (j + 1)
+  pass-missed e f =
+      record {
+        inside = let m = P .more in omega arith;
+        latest = j;
+        place = f ∙ begun ∙ ap (candidate first j) (sym (E .reserves));
+        same = rw (base E) (next ∙ then-on _ e);
+      }
+
+  -- its row ends with anything else
+  module _ {after : List ℕ} (sized : length after ≡ cellCount) where
+    pub pass-broken : (c : ℕ) → row (stateOf here out) n₁ ≡ broken → Walked whole l after (record { end = Broken; count = c })
+    pass-broken c e = walked-broken c (asked E ∙ next ∙ then-broken _ e) (sized ∙ sym (size E))
+
+    pub pass-found : (x : ℕ) {m i c : ℕ} → row (stateOf here out) n₁ ≡ covered m (stateOf x after) c → i ≡ m → Walked whole l after (record { end = Found i; count = c })
+    pass-found x e f = walked-found x f (asked E ∙ next ∙ then-covered _ e) (sized ∙ sym (size E))
+
+  pub pass-ends :
+      {m after : List ℕ} {r : Finding} {a : Answer State} → length m ≡ cellCount → (r .end ≡ Missed → ⊥) → row (stateOf here out) n₁ ≡ a → Walked a m after r
+      → Walked whole l after r
+  pass-ends z nm e w = walked-same nm (asked E ∙ next ∙ then-found _ nm e w) w (z ∙ sym (size E))

@@ -1,0 +1,167 @@
+// The walk over the words below a node.
+use crate::End;
+use crate::Finding;
+use cells::Path;
+use cells::begin;
+use cells::is_none;
+use cells::passes;
+use cells::release;
+use cells::reserve;
+use cells::restore;
+use cells::skip;
+use cells::trace;
+use cells::unwind;
+use cells::wanted;
+use clause::Clause;
+use stepping::Go;
+use stepping::meet;
+use stepping::meet_top;
+use stepping::operand;
+use tree::extent;
+ghost use mathlib.Core.Path.{_≡_};
+ghost use Rattle.cells.specs.inner.Cells.{noPosition, HasPlace, Walkable};
+ghost use Rattle.walking.specs.inner.Findings.{walkBelow, walkTop, Walked};
+
+// Walks the words below a node: from each candidate of a First, which hands on no head, or once, siblings in order. After a miss the cells are as before.
+// The last word of a row needs no call: what stands below it is the row from there on, and the trail brings its cell back.
+pub fn walk(
+    words: &[u64],
+    query: &[u16],
+    tables: &[u8; Clause::TABLES],
+    cells: &mut [u8; Path::CELLS],
+    head: usize,
+    count: u64,
+    budget: u64,
+) -> Finding
+    requires { ⌜ Walkable (now query) (now tables) head (now cells) × (head ≡ noPosition → HasPlace (now cells)) ⌝ }
+    ensures { λ r. ⌜ Walked (walkBelow (now (query .entry)) (now (words .entry)) budget head (now (cells .entry)) count)
+        (now (cells .entry)) (now (cells .exit)) r ⌝ }
+{
+    let first = is_none(head);
+    let last = passes(tables, first);
+    let kept = reserve(cells, first);
+    let mut n = count;
+    let mut j = 0;
+    'tries: loop {
+        if j >= last {
+            release(cells, first, kept);
+            break 'tries Finding {
+                end: End::Missed,
+                count: n,
+            };
+        }
+        if first {
+            if n >= budget {
+                break 'tries Finding {
+                    end: End::Spent,
+                    count: n,
+                };
+            }
+            n += 1;
+        }
+        let mut here = begin(query, tables, cells, first, head, j);
+        let mut trail: u64 = 0;
+        let left = skip(words, 0, wanted(query, here));
+        let start = words.len() - left;
+        let mut rest = &words[start..];
+        while rest.len() > 0 {
+            let w = rest[0];
+            let v = meet(w, rest.len(), query, tables, cells, here);
+            let go = v.go;
+            let size = extent(w);
+            let to = match go {
+                Go::Stuck => break 'tries Finding {
+                    end: End::Broken,
+                    count: n,
+                },
+                Go::Hit => break 'tries Finding {
+                    end: End::Found(operand(w)),
+                    count: n,
+                },
+                Go::Fails => {
+                    rest = &rest[size..];
+                    continue;
+                }
+                Go::Tries => Path::NONE,
+                Go::Below => {
+                    if size == rest.len() {
+                        here = v.head;
+                        rest = &rest[1..];
+                        continue;
+                    }
+                    v.head
+                }
+                Go::Stored => {
+                    if size == rest.len() {
+                        if trail < Path::TRAIL {
+                            trail = trace(trail, v.mark);
+                            here = v.head;
+                            rest = &rest[1..];
+                            continue;
+                        }
+                    }
+                    v.head
+                }
+            };
+            let finding = walk(&rest[1..size], query, tables, cells, to, n, budget);
+            let end = finding.end;
+            let End::Missed = end else {
+                break 'tries finding;
+            };
+            restore(cells, v.mark);
+            n = finding.count;
+            let more = skip(rest, size, wanted(query, here));
+            let next = rest.len() - more;
+            rest = &rest[next..];
+        }
+        unwind(cells, trail);
+        j += 1;
+    }
+}
+
+// Walks the topmost row, before the first candidate.
+pub fn walk_top(
+    words: &[u64],
+    query: &[u16],
+    tables: &[u8; Clause::TABLES],
+    cells: &mut [u8; Path::CELLS],
+    budget: u64,
+) -> Finding
+    requires { ⌜ Walkable (now query) (now tables) noPosition (now cells) ⌝ }
+    ensures { λ r. ⌜ Walked (walkTop (now (query .entry)) (now (words .entry)) budget (now (cells .entry)))
+        (now (cells .entry)) (now (cells .exit)) r ⌝ }
+{
+    let mut count: u64 = 0;
+    let mut rest = words;
+    while rest.len() > 0 {
+        let w = rest[0];
+        let v = meet_top(w, rest.len(), query, tables, cells);
+        let go = v.go;
+        let Go::Tries = go else {
+            return Finding {
+                end: End::Broken,
+                count: count,
+            };
+        };
+        let size = extent(w);
+        let finding = walk(
+            &rest[1..size],
+            query,
+            tables,
+            cells,
+            Path::NONE,
+            count,
+            budget,
+        );
+        let end = finding.end;
+        let End::Missed = end else {
+            return finding;
+        };
+        count = finding.count;
+        rest = &rest[size..];
+    }
+    Finding {
+        end: End::Missed,
+        count: count,
+    }
+}
