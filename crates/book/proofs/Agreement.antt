@@ -51,8 +51,9 @@ module _ (T : List ℕ) (xs : List Call) (R : Run T xs) where
   -- no query takes more candidates than the full budget
   enough : (d : List ℕ) → Accepted d → candidates (treeOf (bookOf (length T) xs)) d ≤ fullBudget
   enough d D =
+      let K = bookOf (length T) xs in
       le-trans (answered T xs R d D 0 blank blank-long .bounded)
-      (ceiling-le (length (bookOf (length T) xs)) maxKept (length (literals d)) maxLiterals (most (bookOf (length T) xs)) maxLiterals (holds .few) (accepted d D .few) (most-few (holds .sound)))
+      (ceiling-le (length K) maxKept (length (literals d)) maxLiterals (most K) maxLiterals (holds .few) (accepted d D .few) (most-few (holds .sound)))
 
   module _ (d : List ℕ) (D : Accepted d) (W : List ℕ) (long : witnessWords ≤ length W) where
     at-full : Answers (bookOf (length T) xs) (treeOf (bookOf (length T) xs)) (sliceOf T xs) d fullBudget W
@@ -116,7 +117,9 @@ module _ (S : List ℕ) (xs : List Call) (T : List ℕ) (ys : List Call) (R : Ru
   agreed-under a p m =
       let s = all-mem (holds S xs R .sound) m in
       let d = p .clause in
-      is-covered T ys Q d (s .accepted) blank blank-long .0 (a d (s .accepted) (s .words) blank blank blank-long blank-long .0 (is-covered S xs R d (s .accepted) blank blank-long .1 (kept-subsumed (bookOf (length S) xs) p m)))
+      let D = s .accepted in
+      let covered = is-covered S xs R d D blank blank-long .1 (kept-subsumed (bookOf (length S) xs) p m) in
+      is-covered T ys Q d D blank blank-long .0 (a d D (s .words) blank blank blank-long blank-long .0 covered)
 
   under-agreed : Under (bookOf (length S) xs) (bookOf (length T) ys) → Under (bookOf (length T) ys) (bookOf (length S) xs) → Agreed
   under-agreed u v d D w U W lu lw = (
@@ -125,7 +128,9 @@ module _ (S : List ℕ) (xs : List Call) (T : List ℕ) (ys : List Call) (R : Ru
   )
 
   -- the same clauses up to variable names under the same numbers make the same tree
-  same-tree : Renamed (bookOf (length S) xs) (bookOf (length T) ys) → Renamed (bookOf (length T) ys) (bookOf (length S) xs) → treeOf (bookOf (length S) xs) ≡ treeOf (bookOf (length T) ys)
+  same-tree :
+      Renamed (bookOf (length S) xs) (bookOf (length T) ys) → Renamed (bookOf (length T) ys) (bookOf (length S) xs)
+      → treeOf (bookOf (length S) xs) ≡ treeOf (bookOf (length T) ys)
   unfolding treeOf
   same-tree r s =
       build-same (map entry (bookOf (length S) xs)) (map entry (bookOf (length T) ys)) (holds S xs R .apart) (holds T ys Q .apart)

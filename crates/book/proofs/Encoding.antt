@@ -140,9 +140,10 @@ unfolding wordsOf
 words-calls [] = calls-short 0 [] (omega arith)
 words-calls (insert c n ∷ xs) =
     let ws : List ℕ = wordsOf xs in
-    let more : length ws ≤ suc (suc (length (c ++ ws))) = simp length-append (omega arith) in
-    step-insert (suc (suc (length (c ++ ws)))) (length c) (n / 2 ^ 16) (n % 2 ^ 16) (c ++ ws)
-    ∙ rw (whole-halves n, take-append-seam c ws, drop-append-seam c ws) (ap (insert c n ∷_) (calls-fuel (suc (suc (length (c ++ ws)))) (length ws) ws more (omega arith) ∙ words-calls xs))
+    let fuel : ℕ = suc (suc (length (c ++ ws))) in
+    let more : length ws ≤ fuel = simp length-append (omega arith) in
+    step-insert fuel (length c) (n / 2 ^ 16) (n % 2 ^ 16) (c ++ ws)
+    ∙ rw (whole-halves n, take-append-seam c ws, drop-append-seam c ws) (ap (insert c n ∷_) (calls-fuel fuel (length ws) ws more (omega arith) ∙ words-calls xs))
 words-calls (remove n ∷ xs) =
     let ws : List ℕ = wordsOf xs in
     step-remove (suc (suc (length ws))) (n / 2 ^ 16) (n % 2 ^ 16) ws

@@ -10,6 +10,7 @@ use lib.Dec.{eqb}
 use lib.ListN.{length, length-map, replicate}
 use borrow.Author.Tests.{eq-eqb, ne-eqb}
 use Rattle.clause.specs.Lists.{All, none, also, Each, nobody, besides}
+use Rattle.clause.proofs.Apart.{apart}
 use Rattle.machine.specs.Instr.{key}
 use Rattle.machine.specs.Compile.{Variants, keys}
 use Rattle.tree.specs.Forest.{Forest, empty, size, leaves, layout}
@@ -107,7 +108,7 @@ module _ (n : ℕ) where
   without-missing (p ∷ K) h = go (ℕ-discrete (p .number) n) (without-missing K)
     where
       go : Dec (p .number ≡ n) → (numbered n (map entry K) ≡ false → without n K ≡ K) → without n (p ∷ K) ≡ p ∷ K
-      go (yes e) ih = let z : _≡_ {A = ℕ} 0 1 = cc (rw (eq-eqb n (p .number) (sym e)) at h) in absurd (omega arith)
+      go (yes e) ih = apart (cc (rw (eq-eqb n (p .number) (sym e)) at h))
       go (no e) ih = rw (ne-eqb (p .number) n e) (ap (λ l. p ∷ l) (ih (rw (ne-eqb n (p .number) (λ u. e (sym u))) at h)))
 
   pub sound-without : {K : List Pair} → All Sound K → All Sound (without n K)

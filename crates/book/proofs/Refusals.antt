@@ -100,7 +100,10 @@ demand1 =
     record {
       freshening = λ T. starts T (sized T) refl;
       inserting =
-          λ T c n. inserts T c n (sized T) (wellLaid T) (leb maxKept (leaves (decode T))) (leb (length T) (size (ins (keys c) n (decode T)))) (shape c) (find n (decode T)) (holder (keys c) (decode T)) refl refl refl refl refl refl refl;
+          λ T c n.
+          let F = decode T in
+          inserts T c n (sized T) (wellLaid T) (leb maxKept (leaves F)) (leb (length T) (size (ins (keys c) n F)))
+          (shape c) (find n F) (holder (keys c) F) refl refl refl refl refl refl refl;
       removing = λ T n. removes T n (sized T) (wellLaid T) refl refl (find n (decode T)) refl;
       asking =
           λ T d b W. asks T d b W (sized T) (ltb (length W) witnessWords) (ltb (length T - 1) (usedOf (getD T 0 0))) (shape d) (walkSlice T d b) refl refl refl refl refl;

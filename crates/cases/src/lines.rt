@@ -1,37 +1,42 @@
-// The input, byte by byte: labels, commands and comments.
+// The input, byte by byte: labels and commands.
 use crate::calls::call;
-use crate::pieces::give;
-use crate::pieces::spell;
 use crate::writing::write;
 
-// What the bytes before have set: the part of the line, the number before the next letter, how many words the slice has and how many of them
-// are given, how many words the clause has, how many times its next word stands, and the budget.
+// What the bytes before have set: whether commands stand here, the number before the next letter, how many words the slice and the clause have,
+// how many times the slice's next word stands, and the budget.
 pub struct State {
-    pub part: u8,
+    pub commands: bool,
     pub number: u64,
     pub length: usize,
-    pub given: usize,
     pub words: usize,
     pub times: u64,
     pub budget: u64,
 }
 
-// The parts of a line.
-const LABEL: u8 = 0;
-
-const COMMANDS: u8 = 1;
-
-const COMMENT: u8 = 2;
-
-// A number with one digit more; 0 after a letter; as it is after any other byte.
-fn with_digit(number: u64, b: u8) -> u64 {
-    let high = number % 1152921504606846976 * 16;
-    match b {
-        48..=57 => high + (b - 48) as u64,
-        65..=90 => 0,
-        97..=102 => high + (b - 87) as u64,
-        _ => number,
+// T: so many times the next word of the slice.
+fn give(word: u64, count: u64, from: usize, slice: &mut [u64]) -> usize {
+    let mut at = from;
+    let mut left = count;
+    while left > 0 {
+        if at >= slice.len() {
+            return at;
+        }
+        slice[at] = word;
+        at += 1;
+        left -= 1;
     }
+    at
+}
+
+// C: the next word of the clause.
+fn spell(before: State, clause: &mut [u16]) -> State {
+    let mut state = before;
+    let at = state.words;
+    if at < clause.len() {
+        clause[at] = (state.number % 0x1_0000) as u16;
+        state.words = at + 1;
+    }
+    state
 }
 
 // Calls with the words that are set; the clause is then used up.
@@ -56,13 +61,12 @@ fn ask(letter: u8, before: State, slice: &mut [u64], clause: &[u16]) -> State {
     state
 }
 
-// Follows a command, by its letter; any other byte is none.
+// Follows a command, by its letter.
 fn follow(letter: u8, before: State, slice: &mut [u64], clause: &mut [u16]) -> State {
     let mut state = before;
     match letter {
         b'L' => {
             state.length = state.number as usize;
-            state.given = 0;
             state
         }
         b'B' => {
@@ -73,59 +77,47 @@ fn follow(letter: u8, before: State, slice: &mut [u64], clause: &mut [u16]) -> S
             state.times = state.number;
             state
         }
-        b'T' => give(state, slice),
+        b'T' => {
+            state.length = give(state.number, state.times, state.length, slice);
+            state.times = 1;
+            state
+        }
         b'C' => spell(state, clause),
-        65..=90 => ask(letter, state, slice, clause),
-        _ => state,
+        _ => ask(letter, state, slice, clause),
     }
 }
 
-// The part of the line after a byte of its label, which is written unless a comment begins.
-fn label(b: u8) -> u8 {
-    if b == b'#' {
-        return COMMENT;
+// Takes a byte of a command: the letter, or a digit; a space, which stands after a letter, leaves 0.
+fn read(b: u8, before: State, slice: &mut [u64], clause: &mut [u16]) -> State {
+    let mut state = before;
+    if b / 32 == 2 {
+        state = follow(b, state, slice, clause);
+        state.number = 0;
+        return state;
     }
-    write(&[b]);
-    if b == b':' {
-        return COMMANDS;
-    }
-    LABEL
+    state.number = state.number % 0x1000_0000_0000_0000 * 16 + ((b % 16 + b / 64 * 9) % 16) as u64;
+    state
 }
 
-// Ends a line: a comment leaves none.
-fn end(part: u8) {
-    if part != COMMENT {
-        write(b"\n");
-    }
-}
-
-// Takes a byte.
+// Takes a byte. One that is no part of a command is written.
 fn take(b: u8, before: State, slice: &mut [u64], clause: &mut [u16]) -> State {
     let mut state = before;
-    if b == b'\n' {
-        end(state.part);
-        state.part = LABEL;
-        return state;
+    if state.commands {
+        if b != b'\n' {
+            return read(b, state, slice, clause);
+        }
     }
-    if state.part == LABEL {
-        state.part = label(b);
-        return state;
-    }
-    if state.part == COMMENT {
-        return state;
-    }
-    state = follow(b, state, slice, clause);
-    state.number = with_digit(state.number, b);
+    write(&[b]);
+    state.commands = b == b':';
     state
 }
 
 // Takes byte after byte.
 pub fn run(text: &[u8], slice: &mut [u64], clause: &mut [u16]) {
     let mut state = State {
-        part: LABEL,
+        commands: false,
         number: 0,
         length: 0,
-        given: 0,
         words: 0,
         times: 1,
         budget: 0,

@@ -1,27 +1,25 @@
 //! The rows of crates/cases/stdin run on the model. The commands are told at the top of crates/cases/src/main.rt.
 use crate::calls::{ceiling, fresh, insert, query, remove, Cover};
 use crate::compiler::sequence;
-use crate::instruction::{kept, used, Instruction, Operation};
-use crate::limits::{LITERALS, WITNESS_WORDS};
+use crate::instruction::Instruction;
+use crate::limits::TREE_MOST;
 use crate::reader::{read, Term};
 use crate::refusal::Refusal;
 use crate::words::{word, POSITIVE};
-use std::ops::Range;
 
 // What a witness holds before a query: no literal and no position.
 const BLANK: u16 = u16::MAX;
 
-/// The lines of rows; a comment leaves none.
+/// The lines of rows.
 pub fn output(rows: &str) -> String {
     let mut cases = Cases::new();
-    let rows = rows.lines().filter(|row| !row.starts_with('#'));
-    rows.map(|row| cases.line(row) + "\n").collect()
+    rows.lines().map(|row| cases.line(row) + "\n").collect()
 }
 
-// What the commands have set: the slice and how many of its words are given, the clause and how often its next word stands, the budget.
+// What the commands have set: the words that slices are the first of, the slice's length, the clause, how often the slice's next word stands, the budget.
 struct Cases {
-    slice: Vec<u64>,
-    given: usize,
+    words: Vec<u64>,
+    length: usize,
     clause: Vec<u16>,
     times: usize,
     budget: u64,
@@ -30,8 +28,8 @@ struct Cases {
 impl Cases {
     fn new() -> Cases {
         Cases {
-            slice: Vec::new(),
-            given: 0,
+            words: vec![0; TREE_MOST + 1],
+            length: 0,
             clause: Vec::new(),
             times: 1,
             budget: 0,
@@ -56,12 +54,10 @@ impl Cases {
     // A command either sets something or is a call, which uses up the clause.
     fn follow(&mut self, letter: &str, number: u64) -> Vec<String> {
         match letter {
-            "L" => self.lend(number as usize),
-            "A" => self.slice.fill(number),
+            "L" => self.length = number as usize,
             "T" => self.give(number),
-            "D" => self.rise(number as usize),
             "M" => self.times = number as usize,
-            "C" => self.spell(number as u16),
+            "C" => self.clause.push(number as u16),
             "B" => self.budget = number,
             _ => {
                 let clause = std::mem::take(&mut self.clause);
@@ -71,161 +67,104 @@ impl Cases {
         vec![]
     }
 
-    fn lend(&mut self, length: usize) {
-        self.slice = vec![0; length];
-        self.given = 0;
-    }
-
     fn give(&mut self, word: u64) {
-        self.slice[self.given] = word;
-        self.given += 1;
-    }
-
-    // Words from index 4 on, each with an operand one greater than the word two before it.
-    fn rise(&mut self, count: usize) {
-        for i in 4..4 + count {
-            let (before, extent) = Instruction::unpack(self.slice[i - 2]).expect("an instruction");
-            self.slice[i] = Instruction::new(before.operation, before.operand + 1).pack(extent);
-        }
-    }
-
-    fn spell(&mut self, word: u16) {
-        let words = std::iter::repeat_n(word, self.times);
-        self.clause.extend(words);
+        let end = self.length + self.times;
+        self.words[self.length..end].fill(word);
+        self.length = end;
         self.times = 1;
+    }
+
+    fn slice(&mut self) -> &mut [u64] {
+        &mut self.words[..self.length]
     }
 
     fn call(&mut self, letter: &str, number: u64, clause: &[u16]) -> Vec<String> {
         let answer = match letter {
-            "F" => self.change("ready", fresh),
-            "K" => self.change("kept", |tree| insert(tree, clause, number as u32)),
-            "R" => self.change("removed", |tree| remove(tree, number as u32)),
+            "F" => self.change(fresh),
+            "K" => self.change(|tree| insert(tree, clause, number as u32)),
+            "R" => self.change(|tree| remove(tree, number as u32)),
             "Y" => return self.keep_literals(number as u16),
             "V" => written(read(clause), |literals| format!("whole {}", literals.len())),
             "G" => written(read(clause), |literals| compiled(&literals)),
             "W" => self.ask(clause, number as usize),
             "N" => self.ceiling(),
-            "S" => self.laid(|word| instruction(word) + &format!("/{}", extent(word))),
-            "E" => self.laid(|word| extent(word).to_string()),
+            "S" => return self.laid(),
             _ => panic!("{letter} is no command"),
         };
         vec![answer]
     }
 
-    // A call that may change words: its answer, whether any did, and what the header then says.
-    fn change(
-        &mut self,
-        done: &str,
-        call: impl FnOnce(&mut [u64]) -> Result<(), Refusal>,
-    ) -> String {
-        let before = self.slice.clone();
-        let answer = written(call(&mut self.slice), |()| done.to_string());
-        let words = match self.slice == before {
+    // A call that may change words: its answer, whether any did, and the header.
+    fn change(&mut self, call: impl FnOnce(&mut [u64]) -> Result<(), Refusal>) -> String {
+        let before = self.slice().to_vec();
+        let answer = written(call(self.slice()), |()| numbers(&[0]));
+        let words = match self.slice() == before {
             true => "left",
             false => "changed",
         };
-        let header = self.slice.first().map_or(String::new(), |&header| {
-            format!(", used {}, clauses {}", used(header), kept(header))
-        });
-        format!("{answer}, words {words}{header}")
+        let header = self.slice().first();
+        let header = header.map_or(String::new(), |header| format!(" {header:016x}"));
+        format!("{answer} {words}{header}")
     }
 
     // Keeps literals without arguments under their symbols' numbers; gives the refusals.
     fn keep_literals(&mut self, count: u16) -> Vec<String> {
-        let keep = |i| insert(&mut self.slice, &[word(POSITIVE, 0, i)], i as u32).err();
+        let keep = |i| insert(self.slice(), &[word(POSITIVE, 0, i)], i as u32).err();
         let kept = (0..count).map(keep).enumerate();
-        kept.filter_map(|(i, refusal)| Some(format!("not kept {i}: {}", refused(refusal?))))
+        kept.filter_map(|(i, refusal)| Some(format!("{i}:{}", refusal?.code())))
             .collect()
     }
 
-    // The answer to a query and the words that it wrote, by the parts of its witness.
-    fn ask(&self, clause: &[u16], length: usize) -> String {
-        let mut witness = vec![BLANK; length];
-        let answer = query(&self.slice, clause, self.budget, &mut witness);
-        written(answer, covered)
-            + &part("literals", &witness, 0..LITERALS)
-            + &part("positions", &witness, LITERALS..WITNESS_WORDS)
-            + &part("past", &witness, WITNESS_WORDS..length)
+    // The answer to a query and the words that it wrote.
+    fn ask(&mut self, clause: &[u16], length: usize) -> String {
+        let (budget, mut witness) = (self.budget, vec![BLANK; length]);
+        let answer = query(self.slice(), clause, budget, &mut witness);
+        let words = witness.iter().enumerate();
+        let words = words.filter(|(_, &value)| value != BLANK);
+        let words: String = words.map(|(i, value)| format!(" {i}:{value}")).collect();
+        written(answer, covered) + &words
     }
 
     fn ceiling(&self) -> String {
-        let most = ceiling(self.slice[0], self.slice[1], self.slice[2]);
-        written(most, |most| format!("is {most}"))
+        let most = ceiling(self.words[0], self.words[1], self.words[2]);
+        written(most, |most| numbers(&[0, most]))
     }
 
-    // The words after the header that are not 0.
-    fn laid(&self, write: impl Fn(u64) -> String) -> String {
-        let words = self.slice[1..].iter().filter(|&&word| word != 0);
-        let words: Vec<String> = words.map(|&word| write(word)).collect();
-        match words.is_empty() {
-            true => "none".to_string(),
-            false => words.join(" "),
-        }
+    // The words that are not 0.
+    fn laid(&mut self) -> Vec<String> {
+        let words = self.slice().iter().filter(|&&word| word != 0);
+        words.map(|word| format!("{word:016x}")).collect()
     }
 }
 
-// A number in hexadecimal, underscores left out; without digits it is 0.
+// A number in hexadecimal; without digits it is 0.
 fn number(digits: &str) -> u64 {
-    let digits = format!("0{digits}").replace('_', "");
+    let digits = format!("0{digits}");
     u64::from_str_radix(&digits, 16).expect("a number of up to 64 bits")
+}
+
+// Numbers in base ten.
+fn numbers(numbers: &[u64]) -> String {
+    let numbers: Vec<String> = numbers.iter().map(u64::to_string).collect();
+    numbers.join(" ")
 }
 
 // An answer: the code and values of a refusal, or what is written of any other.
 fn written<T>(answer: Result<T, Refusal>, write: impl FnOnce(T) -> String) -> String {
+    let refused = |refusal: Refusal| numbers(&[vec![refusal.code()], refusal.values()].concat());
     answer.map_or_else(refused, write)
-}
-
-fn refused(refusal: Refusal) -> String {
-    let name = match refusal {
-        Refusal::BadClause(_) | Refusal::NinthLiteral(_) => " at ",
-        Refusal::Held(_) => " held as ",
-        Refusal::Spent(_) => " count ",
-        _ => "",
-    };
-    let values = refusal.values();
-    let values = values.iter().map(|value| format!("{name}{value}"));
-    refusal.code().to_string() + &values.collect::<String>()
 }
 
 fn covered(cover: Cover) -> String {
     match cover {
-        Cover::Covered { number, count } => format!("covered {number} count {count}"),
-        Cover::NotCovered { count } => format!("not covered count {count}"),
+        Cover::Covered { number, count } => numbers(&[0, 1, number as u64, count]),
+        Cover::NotCovered { count } => numbers(&[0, 0, 0, count]),
     }
 }
 
-// The written words of a part of a witness: its name, then for each word the index in the part and the value.
-fn part(name: &str, witness: &[u16], part: Range<usize>) -> String {
-    let words = witness.get(part).unwrap_or(&[]).iter().enumerate();
-    let words = words.filter(|(_, &value)| value != BLANK);
-    let words: String = words.map(|(i, value)| format!(" {i}:{value}")).collect();
-    match words.is_empty() {
-        true => words,
-        false => format!(" {name}{words}"),
-    }
-}
-
-// The instructions of a clause up to its Success.
+// The instructions of a clause up to its Success, each the first nine digits of a tree word.
 fn compiled(literals: &[Term]) -> String {
-    let sequence = sequence(literals);
-    let words: Vec<String> = sequence.iter().map(|it| instruction(it.pack(0))).collect();
-    words.join(" ")
-}
-
-fn extent(word: u64) -> usize {
-    Instruction::unpack(word).expect("an instruction").1
-}
-
-// The instruction of a tree word: its operation, and the operand as far as it has one.
-fn instruction(word: u64) -> String {
-    let (instruction, _) = Instruction::unpack(word).expect("an instruction");
-    let (operation, operand) = (instruction.operation, instruction.operand);
-    match operation {
-        Operation::First | Operation::Down | Operation::Right if operand == 0 => {
-            format!("{operation:?}")
-        }
-        Operation::Check => format!("{operation:?} {operand:04x}"),
-        Operation::Compare => format!("{operation:?} {} {}", operand >> 16, operand & 0xFFFF),
-        _ => format!("{operation:?} {operand}"),
-    }
+    let key = |it: &Instruction| format!("{:09x}", it.pack(0) >> 28);
+    let keys: Vec<String> = sequence(literals).iter().map(key).collect();
+    keys.join(" ")
 }

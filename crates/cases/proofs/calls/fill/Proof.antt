@@ -1,8 +1,8 @@
 -- `fill` counts up to a 16-bit number.
 use mathlib.Core.Path.{_≡_}
 use Prim.Native.Nat.{_≤_, _-_}
-use borrow.Author.Needs.{needs}
 use lib.ListN.{length}
+use borrow.Author.Needs.{needs}
 use Rattle.cases.proofs.calls.fill.Statement.{statement}
 use Rattle.cases.proofs.calls.fill.Tie as tie
 

@@ -3,6 +3,7 @@ use mathlib.Core.Path.{sym}
 use lib.Seq.{length-take-le}
 use Rattle.machine.proofs.Compiled.{compiled-fits}
 use borrow.Author.Needs.{needs}
+use borrow.Author.Needs.{needs}
 use Rattle.cases.proofs.calls.run_compile.Statement.{statement}
 use Rattle.cases.proofs.calls.run_compile.Tie as tie
 

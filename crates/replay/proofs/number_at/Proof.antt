@@ -2,8 +2,8 @@
 use Prim.Native.Nat.{_+_}
 use native.Mathlib.Omega.{arith}
 use borrow.Author.Needs.{needs}
-use Rattle.book.proofs.number_at.Statement.{statement}
-use Rattle.book.proofs.number_at.Tie as tie
+use Rattle.replay.proofs.number_at.Statement.{statement}
+use Rattle.replay.proofs.number_at.Tie as tie
 
 mul-result : tie.Need-mul-result
 mul-result c = search needs

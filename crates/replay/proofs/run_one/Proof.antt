@@ -4,11 +4,11 @@ use Prim.Native.Nat.{ℕ, suc, _+_, _-_, _^_, _<_}
 use native.Mathlib.Nat.{add-assoc}
 use native.Mathlib.Omega.{arith}
 use lib.ListN.{getD, take, drop}
 use Rattle.book.specs.Book.{insert, remove}
 use Rattle.book.proofs.Encoding.{words-part, reads-remove, reads-insert, clause-part}
 use borrow.Author.Needs.{needs}
-use Rattle.book.proofs.run_one.Statement.{statement}
-use Rattle.book.proofs.run_one.Tie as tie
+use Rattle.replay.proofs.run_one.Statement.{statement}
+use Rattle.replay.proofs.run_one.Tie as tie
 
 add-from : tie.Need-add-from
 add-from c = search needs

@@ -1,15 +1,15 @@
--- `repeat` stays within the clause.
+-- `give` stays within the slice.
 use mathlib.Core.Path.{_≡_}
-use borrow.Author.Needs.{needs}
 use lib.ListN.{length}
-use Rattle.cases.proofs.pieces.repeat.Statement.{statement}
-use Rattle.cases.proofs.pieces.repeat.Tie as tie
+use borrow.Author.Needs.{needs}
+use Rattle.cases.proofs.lines.give.Statement.{statement}
+use Rattle.cases.proofs.lines.give.Tie as tie
 
 abbrev Inv-loop : tie.InvT-loop
-Inv-loop word count from clause₀ at₀ left₀ clause at left = length clause ≡ length clause₀
+Inv-loop word count from slice₀ at₀ left₀ slice at left = length slice ≡ length slice₀
 
 abbrev μ-loop : tie.MeasureT-loop
-μ-loop word count from clause₀ at₀ left₀ clause at left = left
+μ-loop word count from slice₀ at₀ left₀ slice at left = left
 
 loop-holds : tie.Need-loop-holds Inv-loop μ-loop
 loop-holds c = search needs
@@ -20,11 +20,11 @@ same-length c = search needs
 returns : tie.Need-returns Inv-loop μ-loop
 returns c = search needs
 
-mul-clause : tie.Need-mul-clause Inv-loop μ-loop
-mul-clause c = search needs
+mul-slice : tie.Need-mul-slice Inv-loop μ-loop
+mul-slice c = search needs
 
-slice-write-clause : tie.Need-slice-write-clause Inv-loop μ-loop
-slice-write-clause c = search needs
+slice-write-slice : tie.Need-slice-write-slice Inv-loop μ-loop
+slice-write-slice c = search needs
 
 add-at : tie.Need-add-at Inv-loop μ-loop
 add-at c = search needs
@@ -44,8 +44,8 @@ same-length-2 c = search needs
 returns-2 : tie.Need-returns-2 Inv-loop μ-loop
 returns-2 c = search needs
 
-pub repeat-spec : {M : Type 1} → statement M
-repeat-spec =
+pub give-spec : {M : Type 1} → statement M
+give-spec =
     tie.close
     (tie.spec
     Inv-loop
@@ -53,8 +53,8 @@ repeat-spec =
     loop-holds
     same-length
     returns
-    mul-clause
-    slice-write-clause
+    mul-slice
+    slice-write-slice
     add-at
     sub-left
     loop-less

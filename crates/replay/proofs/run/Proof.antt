@@ -4,19 +4,19 @@ use mathlib.Core.List.{[]}
 use Prim.Native.Nat.{_-_, _≤_}
 use native.Mathlib.Omega.{arith}
 use lib.ListN.{length, drop, length-drop}
 use Rattle.book.specs.Book.{AllFit, after}
 use Rattle.book.specs.Claims.{Run}
 use Rattle.book.specs.Encoding.{callsOf}
 use Rattle.book.proofs.Encoding.{calls-short, ran-after, ran-fit, has-words}
 use Rattle.book.proofs.Believable.{believable}
 use Rattle.book.proofs.Refusals.{demand1}
 use Rattle.book.proofs.Reach.{reach, demand2}
 use Rattle.book.proofs.Agreement.{demand3}
 use Rattle.tree.specs.Calls.{fresh}
 use Rattle.tree.specs.declared.CallAnswer.the-variants.{Ready}
 use borrow.Author.Needs.{needs}
-use Rattle.book.proofs.run.Statement.{statement}
-use Rattle.book.proofs.run.Tie as tie
+use Rattle.replay.proofs.run.Statement.{statement}
+use Rattle.replay.proofs.run.Tie as tie
 
 abbrev Inv-loop : tie.InvT-loop
 Inv-loop tree₀ calls at₀ tree at =
