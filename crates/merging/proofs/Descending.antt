@@ -3,7 +3,7 @@ use mathlib.Core.Path.{_≡_, refl, sym, ap, _∙_}
 use mathlib.Core.Logic.{_⊎_, inl, inr}
 use mathlib.Core.Option.{Option, none, some}
 use mathlib.Core.List.{List, [], _∷_, _++_, append-assoc}
-use Prim.Native.Nat.{ℕ, suc, _+_, _-_, _^_, _≤_, _<_}
+use Prim.Native.Nat.{ℕ, suc, _+_, _-_, _≤_, _<_}
 use native.Mathlib.Nat.{add-zero}
 use native.Mathlib.Numerals.{add-one}
 use native.Mathlib.Omega.{arith}
@@ -12,7 +12,7 @@ use lib.ListN.{length, take, drop, getD, set, length-append, length-drop, length
 use lib.Seq.{drop-cons, drop-drop, length-take-le, getD-append-seam, set-at, append-snoc}
 use borrow.Author.Tests.{lt-ltb, le-ltb}
 use Rattle.tree.specs.Keys.{inner, nextKey}
-use Rattle.tree.specs.Forest.{success}
+use Rattle.tree.specs.Forest.{wordLimit, success}
 use Rattle.tree.specs.Laid.{mostWords, row, rows}
 use Rattle.tree.specs.inner.Merge.{Descent, stop, behind, descend, fromTop}
 use Rattle.merging.specs.inner.Inserting.{Nested, LeadsTo, holderOf}
@@ -20,7 +20,7 @@ use Rattle.merging.specs.declared.Holder.{Holder}
 use Rattle.tree.proofs.Keys.{Tri, less, same, more, tri}
 use Rattle.tree.proofs.Grow.{rows-drop}
 use Rattle.tree.proofs.Descend.{behind-none, behind-behind}
-use Rattle.tree.proofs.Hops.{keyAt, extentAt, Steady, steady, descend-stop, descend-dive, descend-hop, descend-found, descend-done}
+use Rattle.tree.proofs.Hops.{keyAt, extentAt, Firm, firm-at, descend-stop, descend-dive, descend-hop, descend-found, descend-done}
 
 -- a key that is a Success, and one that is none
 pub is-success : (x k : ℕ) → x ≡ k → x < inner → success k ≡ some x
@@ -76,8 +76,8 @@ module _ {W cs : List ℕ} {p t k : ℕ} (s : Descending W cs p t k) where
   onward = descend (drop p W) 0 (t - p) (drop k cs)
 
   module _ (l : p < t) where
-    firm : Steady W p t
-    firm = steady W p t (s .bound) (s .room) l (s .inRow) (rows-drop p W (s .inRows))
+    firm : Firm W p t
+    firm = firm-at W p t (s .bound) (s .room) l (s .inRow) (rows-drop p W (s .inRows))
 
     pub firm-some : 0 < extentAt W p
     firm-some = firm .some
@@ -85,7 +85,7 @@ module _ {W cs : List ℕ} {p t k : ℕ} (s : Descending W cs p t k) where
     pub firm-fits : p + extentAt W p ≤ t
     firm-fits = omega (arith, firm .fits)
 
-    pub firm-small : (r : ℕ) → r < mostWords → getD W p 0 + r < 2 ^ 64
+    pub firm-small : (r : ℕ) → r < mostWords → getD W p 0 + r < wordLimit
     firm-small r h = omega (arith, firm .small)
 
     module _ (m : k < length cs) where
