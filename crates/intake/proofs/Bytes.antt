@@ -1,7 +1,7 @@
 -- The input byte by byte: what each function of the reading leaves is what the definition says.
 use mathlib.Core.Path.{_≡_, refl, sym, ap, _∙_}
 use mathlib.Core.List.{List, [], _∷_, _++_, append-assoc, append-nil}
-use Prim.Native.Nat.{ℕ, _+_, _*_, _≤_, _<_}
+use Prim.Native.Nat.{ℕ, _+_, _≤_, _<_}
 use native.Mathlib.Omega.{arith}
 use lib.ListN.{length, take, getD, set}
 use borrow.Author.Tests.{lt-ltb, le-ltb, eq-eqb, ne-eqb}
@@ -14,7 +14,7 @@ use Rattle.intake.specs.declared.Stage.{Stage}
 use Rattle.intake.specs.declared.Stage.the-variants.{AtNumber, AtCount, AtWord}
 use Rattle.intake.specs.declared.Session.{Session}
 use Rattle.intake.specs.declared.Next.{Next}
-use Rattle.intake.specs.declared.Next.the-variants.{Reads, Ends}
+use Rattle.intake.specs.declared.Next.the-variants.{Reads}
 
 -- ---- one field, by its stage
 

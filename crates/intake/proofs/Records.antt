@@ -2,14 +2,14 @@
 use mathlib.Core.Path.{_≡_, refl, sym, ap, _∙_}
 use mathlib.Core.List.{List, [], _∷_, _++_}
 use mathlib.Core.Bool.{Bool, true, false, cond}
-use Prim.Native.Nat.{ℕ, zero, suc, _+_, _-_, _*_, _≤_, _<_}
+use Prim.Native.Nat.{ℕ, zero, suc, _+_, _-_, _≤_, _<_}
 use native.Mathlib.Omega.{arith}
 use native.Mathlib.Decide.{decLe, decLt}
 use lib.Dec.{leb}
 use lib.ListN.{length, take, drop, replicate, length-drop, length-replicate}
 use lib.Seq.{sets, sets-eq, length-sets, take-at, length-take-le}
 use borrow.Author.Tests.{le-leb, lt-leb, leb-false, lt-ltb, le-ltb}
-use Rattle.clause.specs.Clause.{shape}
+use Rattle.clause.specs.Clause.{maxWords, shape}
 use Rattle.clause.specs.declared.Shape.{Shape}
 use Rattle.clause.specs.declared.Shape.the-variants.{Faulty, Whole}
 use Rattle.clause.specs.declared.Fault.the-variants.{BadLength}
@@ -76,22 +76,22 @@ cut (w ∷ ws) n count i t m h = rw (at-word t m w n count i refl (omega arith))
 -- ---- a whole record
 
 -- a clause of more than 64 words
-long-shape : (c : List ℕ) → 64 < length c → shape c ≡ Faulty BadLength
+long-shape : (c : List ℕ) → maxWords < length c → shape c ≡ Faulty BadLength
 unfolding shape
 long-shape [] h = absurd (omega arith)
-long-shape (w ∷ c) h = rw (lt-ltb 64 (length (w ∷ c)) h)
+long-shape (w ∷ c) h = rw (lt-ltb maxWords (length (w ∷ c)) h)
 
 -- one that was skipped over comes out as if it had been asked
-finishing-is : (n count : ℕ) (words slice ws : List ℕ) → length slice ≡ treeWords → count ≤ length ws → (count ≤ 64 → take count words ≡ take count ws)
+finishing-is : (n count : ℕ) (words slice ws : List ℕ) → length slice ≡ treeWords → count ≤ length ws → (count ≤ maxWords → take count words ≡ take count ws)
     → finishing n count words slice ≡ answerTo slice (record { number = n; words = take count ws })
 unfolding finishing answerTo query
-finishing-is n count words slice ws s h same = go (decLt 64 count)
+finishing-is n count words slice ws s h same = go (decLt maxWords count)
   where
-    go : Dec (64 < count) → finishing n count words slice ≡ answerTo slice (record { number = n; words = take count ws })
+    go : Dec (maxWords < count) → finishing n count words slice ≡ answerTo slice (record { number = n; words = take count ws })
     go (yes l) =
         let k : length (take count ws) ≡ count = length-take-le count ws h in
-        rw (lt-ltb 64 count l, s, long-shape (take count ws) (omega arith))
-    go (no l) = rw (le-ltb 64 count (omega arith), same (omega arith))
+        rw (lt-ltb maxWords count l, s, long-shape (take count ws) (omega arith))
+    go (no l) = rw (le-ltb maxWords count (omega arith), same (omega arith))
 
 -- an insertion, and a record, leave the slice's length
 insertion-length : (T c : List ℕ) (n : ℕ) → length (insertion T c n .slice) ≡ length T
@@ -142,8 +142,8 @@ told t T xs = let rs = rowsFrom T xs in record { text = linesOf rs; totals = tot
 
 -- a whole record, and then the others
 one-record : (n count : ℕ) (ws : List ℕ) (t : Totals) (m : Store) (xs : List Record) (fs : List ℕ)
-    → length (m .words) ≡ 64 → length (m .slice) ≡ treeWords → count ≤ length ws → (count ≤ 64 → take count (m .words) ≡ take count ws)
-    → ((u : Totals) (m′ : Store) → length (m′ .words) ≡ 64 → length (m′ .slice) ≡ treeWords → shows (feedFields AtNumber u m′ fs) ≡ told u (m′ .slice) xs)
+    → length (m .words) ≡ maxWords → length (m .slice) ≡ treeWords → count ≤ length ws → (count ≤ maxWords → take count (m .words) ≡ take count ws)
+    → ((u : Totals) (m′ : Store) → length (m′ .words) ≡ maxWords → length (m′ .slice) ≡ treeWords → shows (feedFields AtNumber u m′ fs) ≡ told u (m′ .slice) xs)
     → shows (feedThen (recordEnded n count t m) (λ s m′. feedFields (s .stage) (s .totals) m′ fs))
     ≡ told t (m .slice) (record { number = n; words = take count ws } ∷ xs)
 unfolding recordEnded rowsFrom rowOn
@@ -157,7 +157,7 @@ one-record n count ws t m xs fs w s h same rest =
     (sym (slice-more (m .slice) x (rowCalls (rowsFrom (a .slice) xs)))))
 
 -- the words that were stored are those of the record
-stored : (count : ℕ) (words ws : List ℕ) → length words ≡ 64 → count ≤ length ws → count ≤ 64 → take count (sets words 0 (take count ws)) ≡ take count ws
+stored : (count : ℕ) (words ws : List ℕ) → length words ≡ maxWords → count ≤ length ws → count ≤ maxWords → take count (sets words 0 (take count ws)) ≡ take count ws
 stored count words ws w h k =
     let l : length (take count ws) ≡ count = length-take-le count ws h in
     rw (sets-eq (take count ws) words 0 (omega arith)) (take-at (take count ws) (drop (0 + length (take count ws)) words) count l)
@@ -176,9 +176,9 @@ from-missing f n count ws k =
 
 -- what the rest of the fields prints
 abbrev Rest : (f : ℕ) (fs : List ℕ) → Type 0
-Rest f fs = (u : Totals) (m : Store) → length (m .words) ≡ 64 → length (m .slice) ≡ treeWords → shows (feedFields AtNumber u m fs) ≡ told u (m .slice) (recordsFor f fs)
+Rest f fs = (u : Totals) (m : Store) → length (m .words) ≡ maxWords → length (m .slice) ≡ treeWords → shows (feedFields AtNumber u m fs) ≡ told u (m .slice) (recordsFor f fs)
 
-next-record : (f n count : ℕ) (ws : List ℕ) (t : Totals) (m : Store) → length (m .words) ≡ 64 → length (m .slice) ≡ treeWords → Rest f (drop count ws)
+next-record : (f n count : ℕ) (ws : List ℕ) (t : Totals) (m : Store) → length (m .words) ≡ maxWords → length (m .slice) ≡ treeWords → Rest f (drop count ws)
     → shows (feedThen (takeField (AtCount n) t m count) (λ s m′. feedFields (s .stage) (s .totals) m′ ws)) ≡ told t (m .slice) (recordsFrom f n count ws)
 unfolding rowsFrom
 next-record f n zero ws t m w s rest =
@@ -201,7 +201,7 @@ next-record f n (suc k) ws t m w s rest =
     go (no h) =
         cut ws n (suc k) 0 t m (omega arith) ∙ ap (λ (xs : List Record). told t (m .slice) xs) (sym (from-missing f n (suc k) ws (omega arith)))
 
-by-records : (f : ℕ) (fs : List ℕ) (t : Totals) (m : Store) → length fs ≤ f → length (m .words) ≡ 64 → length (m .slice) ≡ treeWords
+by-records : (f : ℕ) (fs : List ℕ) (t : Totals) (m : Store) → length fs ≤ f → length (m .words) ≡ maxWords → length (m .slice) ≡ treeWords
     → shows (feedFields AtNumber t m fs) ≡ told t (m .slice) (recordsFor f fs)
 unfolding feedFields recordsFor takeField rowsFrom
 by-records zero [] t m h w s = refl
@@ -218,7 +218,7 @@ whole : (input : List ℕ) → shows (feed firstSession firstStore input) ≡ to
 unfolding firstStore recordsOf
 whole input =
     by-fields input AtNumber none firstStore
-    ∙ by-records (length (fields input)) (fields input) none firstStore (omega arith) (length-replicate {A = ℕ} 64 0) (length-replicate {A = ℕ} treeWords 0)
+    ∙ by-records (length (fields input)) (fields input) none firstStore (omega arith) (length-replicate {A = ℕ} maxWords 0) (length-replicate {A = ℕ} treeWords 0)
 
 pub whole-input : WholeInput
 unfolding outputOf rowsOf
