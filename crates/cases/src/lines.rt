@@ -29,8 +29,7 @@ fn give(word: u64, count: u64, from: usize, slice: &mut [u64]) -> usize {
 }
 
 // C: the next word of the clause.
-fn spell(before: State, clause: &mut [u16]) -> State {
-    let mut state = before;
+fn spell(mut state: State, clause: &mut [u16]) -> State {
     let at = state.words;
     if at < clause.len() {
         clause[at] = (state.number % 0x1_0000) as u16;
@@ -40,8 +39,7 @@ fn spell(before: State, clause: &mut [u16]) -> State {
 }
 
 // Calls with the words that are set; the clause is then used up.
-fn ask(letter: u8, before: State, slice: &mut [u64], clause: &[u16]) -> State {
-    let mut state = before;
+fn ask(letter: u8, mut state: State, slice: &mut [u64], clause: &[u16]) -> State {
     let length = state.length;
     let words = state.words;
     if length > slice.len() {
@@ -61,9 +59,8 @@ fn ask(letter: u8, before: State, slice: &mut [u64], clause: &[u16]) -> State {
     state
 }
 
-// Follows a command, by its letter.
-fn follow(letter: u8, before: State, slice: &mut [u64], clause: &mut [u16]) -> State {
-    let mut state = before;
+// Follows a command, by its letter; any other byte is none.
+fn follow(letter: u8, mut state: State, slice: &mut [u64], clause: &mut [u16]) -> State {
     match letter {
         b'L' => {
             state.length = state.number as usize;
@@ -83,28 +80,26 @@ fn follow(letter: u8, before: State, slice: &mut [u64], clause: &mut [u16]) -> S
             state
         }
         b'C' => spell(state, clause),
-        _ => ask(letter, state, slice, clause),
+        b'A'..=b'Z' => ask(letter, state, slice, clause),
+        _ => state,
     }
 }
 
-// Takes a byte of a command: the letter, or a digit; a space, which stands after a letter, leaves 0.
-fn read(b: u8, before: State, slice: &mut [u64], clause: &mut [u16]) -> State {
-    let mut state = before;
+// The number after a byte of a command: 0 after a letter, else with one digit more; a space, which stands after a letter, leaves 0.
+fn next(number: u64, b: u8) -> u64 {
     if b / 32 == 2 {
-        state = follow(b, state, slice, clause);
-        state.number = 0;
-        return state;
+        return 0;
     }
-    state.number = state.number % 0x1000_0000_0000_0000 * 16 + ((b % 16 + b / 64 * 9) % 16) as u64;
-    state
+    number % 0x1000_0000_0000_0000 * 16 + ((b % 16 + b / 64 * 9) % 16) as u64
 }
 
 // Takes a byte. One that is no part of a command is written.
-fn take(b: u8, before: State, slice: &mut [u64], clause: &mut [u16]) -> State {
-    let mut state = before;
+fn take(b: u8, mut state: State, slice: &mut [u64], clause: &mut [u16]) -> State {
     if state.commands {
         if b != b'\n' {
-            return read(b, state, slice, clause);
+            state = follow(b, state, slice, clause);
+            state.number = next(state.number, b);
+            return state;
         }
     }
     write(&[b]);

@@ -12,8 +12,8 @@ pub hands : {n : ℕ} {us ws : List ℕ} {s : Said} {r : Result} (ts : List ℕ)
     → record { number = n; words = ws; told = us } ≡ handed r ts
 hands {ws = ws} ts f e = ap (λ (y : Reply). record { number = y .number; words = ws; told = y .told }) e ∙ ap (λ (y : Result). handed y ts) f
 
--- without
-pub leaves : {n : ℕ} {us ws : List ℕ} {s : Said} {r : Result} (ts : List ℕ)
+-- without them
+pub hands-left : {n : ℕ} {us ws : List ℕ} {s : Said} {r : Result} (ts : List ℕ)
     → record { said = s; words = ws } ≡ r → record { number = n; told = us } ≡ replied s ts
     → record { number = n; words = ws } ≡ left r
-leaves {ws = ws} ts f e = ap (λ (y : Reply). record { number = y .number; words = ws }) e ∙ ap (λ (y : Result). left y) f
+hands-left {ws = ws} ts f e = ap (λ (y : Reply). record { number = y .number; words = ws }) e ∙ ap (λ (y : Result). left y) f
