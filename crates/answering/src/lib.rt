@@ -1,4 +1,4 @@
-// What becomes of one record: it is asked, and inserted where it is not covered (document 01, "The program").
+// What becomes of one record: it is asked, and inserted where it is not covered (docs/REFERENCE.md, "The program").
 mod answering;
 
 pub use answering::answer;

@@ -1,4 +1,4 @@
--- What is claimed of the definitions themselves, gathered: each crate's laws, document 01's starred rows, the readings.
+-- What is claimed of the definitions themselves, gathered: each crate's laws, the worked examples of the requirement, the readings (docs/DECISIONS.md).
 use mathlib.Core.List.{List}
 use Prim.Native.Nat.{ℕ}
 use Rattle.clause.specs.Lists.{Hold}

@@ -1,4 +1,4 @@
--- What is claimed of the table's names and of the book's tests: nothing is lost by the names, and the tests ask what document 01 says.
+-- What is claimed of the table's names and of the book's tests: nothing is lost by the names, and the tests ask what docs/REFERENCE.md says ("Lists of calls").
 use mathlib.Core.Path.{_≡_}
 use mathlib.Core.Logic.{_↔_, _≢_}
 use mathlib.Core.Bool.{true}

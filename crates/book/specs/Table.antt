@@ -1,4 +1,4 @@
--- Every answer as document 01 has it: what it is called, or its code, and its values.
+-- Every answer as the table has it (docs/REFERENCE.md, "Calls"): what it is called, or its code, and its values.
 use mathlib.Core.List.{List, [], _∷_}
 use Prim.Native.Nat.{ℕ}
 use Rattle.tree.specs.Refusal.{codeOf, valuesOf}

@@ -1,4 +1,4 @@
-// Clauses: their words, their shapes and faults, their tables (document 01, "Clause words").
+// Clauses: their words, their shapes and faults, their tables (docs/REFERENCE.md, "Clause words").
 mod equality;
 mod tables;
 mod word;

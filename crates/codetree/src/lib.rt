@@ -1,4 +1,4 @@
-// The C interface: the calls of document 01 on pointers and lengths (include/code_tree.h).
+// The C interface: the calls (docs/REFERENCE.md, "Calls") on pointers and lengths (include/code_tree.h).
 ghost use mathlib.Core.Path.{_≡_};
 ghost use Rattle.interface.specs.Calls.{ctFresh, ctInsert, ctRemove, ctQuery, ctCeiling};
 ghost use Rattle.interface.specs.Claims.{CtReach, CtDemand2, CtDemand3, ToldApart};

@@ -1,4 +1,4 @@
-// Compiling a clause into the keys of its sequence (document 01, "Compiling").
+// Compiling a clause into the keys of its sequence (docs/REFERENCE.md, "Instructions").
 use clause::Clause;
 use clause::arity;
 use machine::Key;

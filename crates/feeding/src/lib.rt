@@ -1,4 +1,4 @@
-// The program's input taken block by block: each record is asked, answered and printed (document 01, "The program").
+// The program's input taken block by block: each record is asked, answered and printed (docs/REFERENCE.md, "The program").
 use intake::Session;
 
 mod feeding;

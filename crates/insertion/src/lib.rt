@@ -1,4 +1,4 @@
-// Insertion of a clause into a slice of any words (document 01, "Insertion, ceiling, removal").
+// Insertion of a clause into a slice of any words (docs/REFERENCE.md, "Calls").
 use clause::Shape;
 use compiling::compile;
 use laid::well_laid;

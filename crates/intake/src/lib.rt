@@ -1,4 +1,4 @@
-// The program's input, byte by byte and record by record (document 01, "The program").
+// The program's input, byte by byte and record by record (docs/REFERENCE.md, "The program").
 use record::Totals;
 
 mod input;

@@ -1,5 +1,5 @@
-// Slices of tree words: fresh, and whether a slice is well laid, its representation invariant (document 01, "Tree words"): one pass over the words from left
-// to right, no stack.
+// Slices of tree words: fresh, and whether a slice is well laid, its representation invariant (docs/REFERENCE.md, "Tree words"): one pass over the
+// words from left to right, no stack.
 ghost use mathlib.Core.Path.{_≡_};
 ghost use mathlib.Core.Bool.{_&&_};
 ghost use Prim.Native.Nat.{_-_};
@@ -33,7 +33,7 @@ fn below(w: u64) -> usize
     if e == 0 { 0 } else { e - 1 }
 }
 
-// Whether a word is one of document 01's: an operation up to 8, operand 0 for First, Down and Right, and exactly a Success has the extent 1.
+// Whether a word is an instruction: an operation up to 8, operand 0 for First, Down and Right, and exactly a Success has the extent 1.
 fn sound(w: u64) -> bool
     ensures { λ r. ⌜ r ≡ laid.sound w ⌝ }
 {

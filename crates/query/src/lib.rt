@@ -1,4 +1,4 @@
-// The query: what is asked of a tree, and the answer (document 01, "The walk").
+// The query: what is asked of a tree, and the answer (docs/REFERENCE.md, "Calls").
 mod ask;
 
 pub use ask::query;

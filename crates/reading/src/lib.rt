@@ -1,4 +1,4 @@
-// The reading of a clause by a cursor: its literals one after another (document 01, "Clause words").
+// The reading of a clause by a cursor: its literals one after another (docs/REFERENCE.md, "Clause words").
 mod moves;
 mod word;
 

@@ -1,4 +1,4 @@
-// What the program's input means: its records, what becomes of each, and the text that is printed (document 01, "The program").
+// What the program's input means: its records, what becomes of each, and the text that is printed (docs/REFERENCE.md, "The program").
 
 // What becomes of a record: kept, with the used words of the tree; struck, with the covering number and the candidates; refused, with the code.
 pub enum Outcome {

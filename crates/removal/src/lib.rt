@@ -1,4 +1,4 @@
-// Removal by number on the words of a tree, in place (document 01, "Insertion, ceiling, removal").
+// Removal by number on the words of a tree, in place (docs/REFERENCE.md, "Calls").
 use crate::close::close_up;
 use laid::well_laid;
 use tree::CallAnswer;

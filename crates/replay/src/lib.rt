@@ -1,4 +1,4 @@
-// Lists of calls run on a slice, with the claims about them (document 01, "Lists of calls").
+// Lists of calls run on a slice, with the claims about them (docs/REFERENCE.md, "Lists of calls").
 ghost use mathlib.Core.Path.{_≡_};
 ghost use Prim.Native.Nat.{_+_, _≤_, min};
 ghost use lib.ListN.{length, getD};

@@ -1,4 +1,4 @@
-// The program: it reads records from standard input, and writes what becomes of them to standard output (document 01, "The program").
+// The program: it reads records from standard input, and writes what becomes of them to standard output (docs/REFERENCE.md, "The program").
 // A record's line is made by `feeding::feed`, the last one by `lines::put_totals`; here is only what moves the bytes.
 use clause::Clause;
 use feeding::Lent;

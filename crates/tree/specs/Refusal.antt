@@ -1,4 +1,4 @@
--- What is returned on refusal: document 01's code and values for each case of the enum.
+-- What is returned on refusal: the code and the values of each case of the enum (docs/REFERENCE.md, "Calls").
 use mathlib.Core.List.{List, [], _∷_}
 use Prim.Native.Nat.{ℕ}
 use Rattle.clause.specs.declared.Fault.the-variants.{BadLength, Bad, Ninth}

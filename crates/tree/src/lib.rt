@@ -1,4 +1,4 @@
-// Tree words (document 01, "Tree words"): the fields of a word and of a header, the size of a slice; what calls answer.
+// Tree words (docs/REFERENCE.md, "Tree words"): the fields of a word and of a header, the size of a slice; what calls answer.
 ghost use mathlib.Core.Path.{_≡_};
 ghost use mathlib.Core.Bool.{_&&_};
 ghost use Prim.Native.Nat.{_≤_, _<_};
@@ -16,7 +16,7 @@ pub use fields::word;
 
 // What is returned on refusal, by every call; a refused clause's fault, with its position, stands inside. `Held`: a variant of the clause, equal up to
 // the names of its variables, is kept under this number. `Spent`: the budget of candidates is used up, after so many.
-// `codeOf` and `valuesOf` of specs/Refusal give document 01's code and values for each case.
+// `codeOf` and `valuesOf` of specs/Refusal give the code and the values of each case (docs/REFERENCE.md, "Calls").
 pub enum Refusal {
     BadSlice,
     Broken,

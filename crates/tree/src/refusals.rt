@@ -1,4 +1,4 @@
-// Document 01's code of a refusal.
+// The code of a refusal (docs/REFERENCE.md, "Calls").
 use crate::Refusal;
 use clause::Fault;
 ghost use mathlib.Core.Path.{_≡_};

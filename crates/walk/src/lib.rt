@@ -1,4 +1,4 @@
-// What a query and a ceiling answer (document 01, "The walk"). The definitions of the walk are in specs/, its theory in proofs/.
+// What a query and a ceiling answer (docs/REFERENCE.md, "Calls"). The definitions of the walk are in specs/, its theory in proofs/.
 use tree::Refusal;
 
 // The answer to a query: covered, with the clause's number and the count; not covered, with the count; or a refusal.

@@ -1,4 +1,4 @@
-// The walk over the words of a tree (document 01, "The walk").
+// The walk over the words of a tree (docs/REFERENCE.md, "Calls").
 mod below;
 
 pub use below::walk_top;
