@@ -16,7 +16,7 @@ use Rattle.clause.proofs.Lists.{getD-map-lt}
 use Rattle.clause.proofs.Literals.{accepted}
 use Rattle.machine.specs.Machine.{slots}
 use Rattle.machine.proofs.Safe.{start-in}
-use Rattle.cells.specs.inner.Cells.{putsAt, pushesAt, countAt, cellCount, noPosition, markBase, countIn, HasPlace, positionIn, placed, stateOf, restored}
+use Rattle.cells.specs.inner.Cells.{putsAt, pushesAt, countAt, cellCount, noPosition, undoBase, countIn, HasPlace, positionIn, placed, stateOf, restored}
 use Rattle.cells.specs.inner.Cells.{unwound, aboveOf, reserved, candidate, released, keptIn, passHead, passState, Walkable}
 use Rattle.cells.specs.declared.Above.{Above}
 use Rattle.cells.specs.declared.Above.the-variants.{First, Step}
@@ -212,23 +212,23 @@ pub restored-size : (m : ℕ) (l : List ℕ) → length (restored m l) ≡ lengt
 unfolding restored
 restored-size m l = go (eqb m 0)
   where
-    go : (b : Bool) → length (cond b l (set l (m / markBase % markBase) (m % markBase))) ≡ length l
+    go : (b : Bool) → length (cond b l (set l (m / undoBase % undoBase) (m % undoBase))) ≡ length l
     go true = refl
-    go false = length-set l (m / markBase % markBase) (m % markBase)
+    go false = length-set l (m / undoBase % undoBase) (m % undoBase)
 
 -- a number that isn't 0 stores back by its lowest 16 bits
 pub restored-low : (t m : ℕ) (l : List ℕ) → m < 2 ^ 16 → (m ≡ 0 → ⊥) → restored (t * 2 ^ 16 + m) l ≡ restored m l
 unfolding restored
 restored-low t m l h n =
-    let e : (t * 2 ^ 16 + m) / markBase % markBase ≡ m / markBase % markBase = omega arith in
-    let f : (t * 2 ^ 16 + m) % markBase ≡ m % markBase = omega arith in
+    let e : (t * 2 ^ 16 + m) / undoBase % undoBase ≡ m / undoBase % undoBase = omega arith in
+    let f : (t * 2 ^ 16 + m) % undoBase ≡ m % undoBase = omega arith in
     rw (ne-eqb (t * 2 ^ 16 + m) 0 (λ z. n (omega arith)), ne-eqb m 0 n, e, f)
 
 pub unwound-none : (l : List ℕ) → unwound 0 l ≡ l
 unfolding unwound restored
 unwound-none l = refl
 
--- the latest mark first, then the others
+-- the latest undo first, then the others
 pub unwound-next : (t : ℕ) (l : List ℕ) → t < 2 ^ 64 → unwound t l ≡ unwound (t / 2 ^ 16) (restored t l)
 unfolding unwound
 unwound-next t l h =

@@ -45,12 +45,12 @@ impl Path {
     // The head that is handed to the words below a First: none, each candidate has its own.
     pub const BEFORE: usize = Path::NONE;
 
-    // A mark is the index of a cell, times this, and the byte that it held.
-    pub const MARK: u64 = Path::CELLS as u64;
+    // An undo is the index of a cell, times this, and the byte that it held.
+    pub const UNDO: u64 = Path::CELLS as u64;
 
-    // Marks are below this.
-    pub const MARKS: u64 = Path::MARK * Path::MARK;
+    // Undos are below this.
+    pub const UNDOS: u64 = Path::UNDO * Path::UNDO;
 
-    // A trail below this has room for one more mark.
-    pub const TRAIL: u64 = Path::MARKS * Path::MARKS * Path::MARKS;
+    // A trail below this has room for one more undo.
+    pub const TRAIL: u64 = Path::UNDOS * Path::UNDOS * Path::UNDOS;
 }

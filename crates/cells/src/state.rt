@@ -30,24 +30,24 @@ impl Above {
     }
 }
 
-// Stores back what a visit stored over, by the lowest 16 bits of a mark.
-pub fn restore(cells: &mut [u8; Path::CELLS], mark: u64)
+// Stores back what a visit stored over, by the lowest 16 bits of an undo.
+pub fn restore(cells: &mut [u8; Path::CELLS], undo: u64)
     requires { ⌜ length (now cells) ≡ cellCount ⌝ }
-    ensures { λ _. ⌜ now (cells .exit) ≡ restored mark (now (cells .entry)) ⌝ }
+    ensures { λ _. ⌜ now (cells .exit) ≡ restored undo (now (cells .entry)) ⌝ }
 {
-    if mark == 0 {
+    if undo == 0 {
         return;
     }
-    let slot = (mark / Path::MARK % Path::MARK) as usize;
-    cells[slot] = (mark % Path::MARK) as u8;
+    let slot = (undo / Path::UNDO % Path::UNDO) as usize;
+    cells[slot] = (undo % Path::UNDO) as u8;
 }
 
-// One more mark on a trail with room for it.
-pub fn trace(trail: u64, mark: u64) -> u64
-    requires { ⌜ (trail < 2 ^ 48) × (mark < 2 ^ 16) ⌝ }
-    ensures { λ r. ⌜ r ≡ trail * 2 ^ 16 + mark ⌝ }
+// One more undo on a trail with room for it.
+pub fn trace(trail: u64, undo: u64) -> u64
+    requires { ⌜ (trail < 2 ^ 48) × (undo < 2 ^ 16) ⌝ }
+    ensures { λ r. ⌜ r ≡ trail * 2 ^ 16 + undo ⌝ }
 {
-    trail * Path::MARKS + mark
+    trail * Path::UNDOS + undo
 }
 
 // Stores back what the visits on a trail stored over, the latest first.
@@ -58,7 +58,7 @@ pub fn unwind(cells: &mut [u8; Path::CELLS], trail: u64)
     let mut left = trail;
     while left > 0 {
         restore(cells, left);
-        left /= Path::MARKS;
+        left /= Path::UNDOS;
     }
 }
 

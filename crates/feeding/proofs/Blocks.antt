@@ -20,7 +20,7 @@ use Rattle.intake.specs.declared.Half.the-variants.{Even, Odd}
 use Rattle.intake.specs.declared.Stage.{Stage}
 use Rattle.intake.specs.declared.Stage.the-variants.{AtNumber}
 use Rattle.intake.specs.declared.Session.{Session}
-use Rattle.intake.specs.declared.Head.{Head}
+use Rattle.intake.specs.declared.RecordHead.{RecordHead}
 use Rattle.intake.specs.declared.Next.{Next}
 use Rattle.intake.specs.declared.Next.the-variants.{Reads, Ends}
 use Rattle.intake.specs.declared.Step.{Step}
@@ -50,7 +50,7 @@ goes h g t m o at e d =
     took-as (ap (λ (y : Next). proceeding y t m) e) (record { placed = rw z; steady = d; short = omega arith })
 
 -- a record that is whole
-pub ends : (x : Head) (t : Totals) (m : Store) {y : Next} → y ≡ Ends x → proceeding y t m ≡ recordEnded (x .number) (x .count) t m
+pub ends : (x : RecordHead) (t : Totals) (m : Store) {y : Next} → y ≡ Ends x → proceeding y t m ≡ recordEnded (x .number) (x .count) t m
 ends x t m e = ap (λ (z : Next). proceeding z t m) e
 
 -- ---- one more outcome, one more record

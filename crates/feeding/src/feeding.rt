@@ -4,8 +4,8 @@ use answering::answer;
 use clause::Clause;
 use clause::Fault;
 use intake::Half;
-use intake::Head;
 use intake::Next;
+use intake::RecordHead;
 use intake::Session;
 use intake::Stage;
 use intake::read_some;
@@ -50,7 +50,7 @@ fn count_outcome(totals: Totals, outcome: Outcome) -> Totals
 
 // What becomes of a whole record; one of more than 64 words was skipped over.
 fn outcome_of(
-    head: Head,
+    head: RecordHead,
     tree: &mut [u64],
     marks: &mut [u8],
     keys: &mut [u64; Sequence::KEYS],
@@ -69,7 +69,7 @@ fn outcome_of(
 
 // Ends a whole record: what becomes of it, its line, the totals.
 fn finish(
-    head: Head,
+    head: RecordHead,
     turn: Turn,
     tree: &mut [u64],
     marks: &mut [u8],

@@ -2,8 +2,8 @@
 use crate::Ahead;
 use crate::Field;
 use crate::Half;
-use crate::Head;
 use crate::Next;
+use crate::RecordHead;
 use crate::Session;
 use crate::Stage;
 use crate::Step;
@@ -45,7 +45,7 @@ fn advance(stage: Stage, field: u16) -> Next
             if field > 0 {
                 return Next::Reads(Half::Even, Stage::AtWord(number, field, 0));
             }
-            Next::Ends(Head {
+            Next::Ends(RecordHead {
                 number: number,
                 count: 0,
             })
@@ -54,7 +54,7 @@ fn advance(stage: Stage, field: u16) -> Next
             if (read as usize) + 1 < count as usize {
                 return Next::Reads(Half::Even, Stage::AtWord(number, count, read + 1));
             }
-            Next::Ends(Head {
+            Next::Ends(RecordHead {
                 number: number,
                 count: count,
             })
@@ -120,14 +120,14 @@ fn look_ahead(input: &[u8], session: Session) -> Ahead
     let Stage::AtNumber = stage else {
         return Ahead::Bytes;
     };
-    if input.len() < Head::BYTES {
+    if input.len() < RecordHead::BYTES {
         return Ahead::Bytes;
     }
     let count = field_at(input, Field::BYTES) as usize;
     if count > Clause::WORDS {
         return Ahead::Bytes;
     }
-    if input.len() - Head::BYTES < count * Field::BYTES {
+    if input.len() - RecordHead::BYTES < count * Field::BYTES {
         return Ahead::Bytes;
     }
     Ahead::Whole(count)
@@ -161,10 +161,10 @@ pub fn read_some(input: &[u8], session: Session, words: &mut [u16]) -> Step
         };
     };
     let number = field_at(input, 0);
-    read_words(&input[Head::BYTES..], words, count);
+    read_words(&input[RecordHead::BYTES..], words, count);
     Step {
-        taken: Head::BYTES + count * Field::BYTES,
-        next: Next::Ends(Head {
+        taken: RecordHead::BYTES + count * Field::BYTES,
+        next: Next::Ends(RecordHead {
             number: number,
             count: count as u16,
         }),

@@ -37,12 +37,12 @@ pub struct Session {
 }
 
 // A whole record's number and word count.
-pub struct Head {
+pub struct RecordHead {
     pub number: u16,
     pub count: u16,
 }
 
-impl Head {
+impl RecordHead {
     // Its bytes: two fields.
     const BYTES: usize = 2 * Field::BYTES;
 }
@@ -56,7 +56,7 @@ enum Ahead {
 // What some more of the input leads to: the reading goes on, or a record is whole.
 pub enum Next {
     Reads(Half, Stage),
-    Ends(Head),
+    Ends(RecordHead),
 }
 
 // Some more of the input: how many bytes were taken, and what they lead to.

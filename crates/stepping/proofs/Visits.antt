@@ -21,7 +21,7 @@ use Rattle.machine.specs.Machine.{slots, State, Outcome, onto, down, right, nex
 use Rattle.machine.specs.Machine.{putting, pushing, require, within, sameTerms, compareTerms, stepAt, stepFrom, step, finish, finishFrom}
 use Rattle.machine.specs.Instr.{Step, Down, Right, Put, Push, Pop, Check, Compare, Instr, First, Do, Success, instruction}
 use Rattle.walk.specs.Words.{extends}
-use Rattle.cells.specs.inner.Cells.{putsAt, pushesAt, endsAt, rightsAt, cellCount, noPosition, markBase, countIn}
+use Rattle.cells.specs.inner.Cells.{putsAt, pushesAt, endsAt, rightsAt, cellCount, noPosition, undoBase, countIn}
 use Rattle.cells.specs.inner.Cells.{positionIn, placed, stateOf, Tables, Walkable}
 use Rattle.stepping.specs.inner.Visits.{Met, past, bad, hit, firsts, stepped, reached, withWords, metAs, meeting, metOf, stores, plain, store, Visited}
 use Rattle.stepping.specs.declared.Go.{Go}
@@ -32,15 +32,15 @@ use Rattle.cells.proofs.Rows.{extends-in, extends-more}
 use Rattle.cells.proofs.Places.{place-none, place-some, placed-get, state-put, state-push, few-words}
 
 -- a visit that stores nothing
-pub stays : (g : Go) (h : ℕ) (l : List ℕ) {m : Met} → stores g ≡ false → metOf g (stateOf h l) ≡ m → Visited m l l (record { go = g; head = h; mark = 0 })
-stays g h l n e = record { comes = e; marked = plain g n }
+pub stays : (g : Go) (h : ℕ) (l : List ℕ) {m : Met} → stores g ≡ false → metOf g (stateOf h l) ≡ m → Visited m l l (record { go = g; head = h; undo = 0 })
+stays g h l n e = record { comes = e; undoable = plain g n }
 
 -- a broken node, and one that fails
-pub sticks : (l : List ℕ) {m : Met} → bad ≡ m → Visited m l l (record { go = Stuck; head = noPosition; mark = 0 })
+pub sticks : (l : List ℕ) {m : Met} → bad ≡ m → Visited m l l (record { go = Stuck; head = noPosition; undo = 0 })
 unfolding metOf
 sticks l e = stays Stuck noPosition l refl e
 
-pub misses : (l : List ℕ) {m : Met} → past ≡ m → Visited m l l (record { go = Fails; head = noPosition; mark = 0 })
+pub misses : (l : List ℕ) {m : Met} → past ≡ m → Visited m l l (record { go = Fails; head = noPosition; undo = 0 })
 unfolding metOf
 misses l e = stays Fails noPosition l refl e
 
@@ -100,24 +100,24 @@ module _ (d t : List ℕ) (h : ℕ) (l : List ℕ) (R : Walkable d t h l) (insid
 
 -- Put and Push
 module _ (h : ℕ) (l : List ℕ) (few : countIn l ≤ maxLiterals) where
-  pub put-visit : (k : ℕ) → k < slots → h < maxWords → getD l (putsAt + k) 0 < markBase
+  pub put-visit : (k : ℕ) → k < slots → h < maxWords → getD l (putsAt + k) 0 < undoBase
       → Visited (stepped (within k (next (putting (stateOf h l) k h)))) l (set l (putsAt + k) h)
-      (record { go = Stored; head = h; mark = (putsAt + k) * markBase + getD l (putsAt + k) 0 })
+      (record { go = Stored; head = h; undo = (putsAt + k) * undoBase + getD l (putsAt + k) 0 })
   unfolding metOf stepped require
   put-visit k g v b =
       record {
         comes = rw (lt-ltb k slots g, state-put h l few k h g (omega arith));
-        marked = store (putsAt + k) h (omega arith) (omega arith) b;
+        undoable = store (putsAt + k) h (omega arith) (omega arith) b;
       }
 
-  pub push-visit : (n x : ℕ) → n < slots → x < cellCount → (x ≡ noPosition → ⊥) → getD l (pushesAt + n) 0 < markBase
+  pub push-visit : (n x : ℕ) → n < slots → x < cellCount → (x ≡ noPosition → ⊥) → getD l (pushesAt + n) 0 < undoBase
       → Visited (stepped (within n (given (positionIn x) (pushing (stateOf h l) n)))) l (set l (pushesAt + n) x)
-      (record { go = Stored; head = h; mark = (pushesAt + n) * markBase + getD l (pushesAt + n) 0 })
+      (record { go = Stored; head = h; undo = (pushesAt + n) * undoBase + getD l (pushesAt + n) 0 })
   unfolding metOf stepped require given
   push-visit n x g v ne b =
       record {
         comes = rw (lt-ltb n slots g, place-some ne, state-push h l few n x g (omega arith));
-        marked = store (pushesAt + n) x (omega arith) (omega arith) b;
+        undoable = store (pushesAt + n) x (omega arith) (omega arith) b;
       }
 
 pub push-none : (n : ℕ) (s : State) {x : ℕ} → x ≡ noPosition → n < slots → bad ≡ stepped (within n (given (positionIn x) (pushing s n)))

@@ -21,7 +21,7 @@ pub enum Go {
 pub struct Visit {
     pub go: Go,
     pub head: usize,
-    pub mark: u64,
+    pub undo: u64,
 }
 
 impl Visit {
@@ -29,13 +29,13 @@ impl Visit {
     pub const STUCK: Visit = Visit {
         go: Go::Stuck,
         head: Path::NONE,
-        mark: 0,
+        undo: 0,
     };
 
     // A node that fails.
     pub const FAILS: Visit = Visit {
         go: Go::Fails,
         head: Path::NONE,
-        mark: 0,
+        undo: 0,
     };
 }

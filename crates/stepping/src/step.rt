@@ -16,7 +16,7 @@ ghost use Rattle.machine.specs.Instr.{instruction};
 ghost use Rattle.machine.specs.Machine.{sameTerms};
 ghost use Rattle.machine.specs.Machine as m;
 ghost use Rattle.stepping.specs.declared.Go.the-variants.{Stuck, Tries, Stored};
-ghost use Rattle.cells.specs.inner.Cells.{countAt, cellCount, noPosition, markBase, countIn, positionIn, stateOf, Tables, Walkable};
+ghost use Rattle.cells.specs.inner.Cells.{countAt, cellCount, noPosition, undoBase, countIn, positionIn, stateOf, Tables, Walkable};
 ghost use Rattle.stepping.specs.inner.Visits.{metSuccess, metFirst, metDown, metRight, metMoved, metPut, metPush, metPop, metCheck, metCompare};
 ghost use Rattle.stepping.specs.inner.Visits.{withWords, metAs, meeting, Visited};
 
@@ -73,7 +73,7 @@ fn down(query: &[u16], head: usize) -> Visit
         Visit {
             go: Go::Below,
             head: to,
-            mark: 0,
+            undo: 0,
         }
     }
 }
@@ -115,7 +115,7 @@ fn sibling(
         Visit {
             go: Go::Below,
             head: wide(tables[end]),
-            mark: 0,
+            undo: 0,
         }
     }
 }
@@ -130,7 +130,7 @@ fn moved(head: usize, to: usize) -> Visit
         Visit {
             go: Go::Below,
             head: to,
-            mark: 0,
+            undo: 0,
         }
     }
 }
@@ -138,15 +138,15 @@ fn moved(head: usize, to: usize) -> Visit
 // Stores a position in a cell.
 fn store(cells: &mut [u8; Path::CELLS], head: usize, slot: usize, position: usize) -> Visit
     requires { ⌜ (slot < countAt) × (position < cellCount) ⌝ }
-    ensures { λ r. ⌜ (r ≡ record { go = Stored; head = head; mark = slot * markBase + getD (now (cells .entry)) slot 0 })
-        × (now (cells .exit) ≡ set (now (cells .entry)) slot position) × (getD (now (cells .entry)) slot 0 < markBase) ⌝ }
+    ensures { λ r. ⌜ (r ≡ record { go = Stored; head = head; undo = slot * undoBase + getD (now (cells .entry)) slot 0 })
+        × (now (cells .exit) ≡ set (now (cells .entry)) slot position) × (getD (now (cells .entry)) slot 0 < undoBase) ⌝ }
 {
     let old = wide(cells[slot]);
     cells[slot] = position as u8;
     Visit {
         go: Go::Stored,
         head: head,
-        mark: (slot * Path::CELLS + old) as u64,
+        undo: (slot * Path::CELLS + old) as u64,
     }
 }
 
@@ -205,7 +205,7 @@ fn check(query: &[u16], head: usize, x: u32) -> Visit
         Visit {
             go: Go::Below,
             head: head,
-            mark: 0,
+            undo: 0,
         }
     } else {
         Visit::FAILS
@@ -232,7 +232,7 @@ fn success(words: usize, head: usize) -> Visit
         Visit {
             go: Go::Hit,
             head: head,
-            mark: 0,
+            undo: 0,
         }
     } else {
         Visit::STUCK
@@ -249,7 +249,7 @@ fn tries(cells: &[u8; Path::CELLS], head: usize) -> Visit
         Visit {
             go: Go::Tries,
             head: head,
-            mark: 0,
+            undo: 0,
         }
     } else {
         Visit::STUCK
@@ -290,7 +290,7 @@ fn compare(
         Visit {
             go: Go::Below,
             head: head,
-            mark: 0,
+            undo: 0,
         }
     } else {
         Visit::FAILS

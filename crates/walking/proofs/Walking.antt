@@ -33,7 +33,7 @@ use Rattle.stepping.specs.declared.Visit.{Visit}
 use Rattle.walking.specs.declared.End.the-variants.{Missed}
 use Rattle.walking.specs.declared.Finding.{Finding}
 use Rattle.cells.proofs.Rows.{row-end}
-use Rattle.stepping.proofs.Marks.{marked-size, marked-count, marked-small, marked-some, marked-none, restored-marked}
+use Rattle.stepping.proofs.Undoing.{undoable-size, undoable-count, undoable-small, undoable-some, undoable-none, restored-undoable}
 use Rattle.walking.proofs.Nodes.{extends-within, goingOn, meets, then-nothing}
 use Rattle.cells.proofs.Places.{place-none, place-some, unwound-none, unwound-traced, few-words}
 use Rattle.stepping.proofs.Visits.{head-some, chosen-length}
@@ -139,7 +139,7 @@ module _ (d t : List ℕ) (h : ℕ) (l : List ℕ) (R : Walkable d t h l) (w roo
   visit-fits n = let e = met-fits n .0 in let b = extends-within w (room - 1) e in (b .0, omega arith)
 
   ready-as : Safe d (stateOf (v .head) m) → Walkable d t (v .head) m
-  ready-as S = record { whole = R .whole; tables = R .tables; safe = S; size = marked-size (met .marked) ∙ R .size; few = rw (marked-count (met .marked)) (R .few) }
+  ready-as S = record { whole = R .whole; tables = R .tables; safe = S; size = undoable-size (met .undoable) ∙ R .size; few = rw (undoable-count (met .undoable)) (R .few) }
 
   below-met : Lower (v .go) → below (stateOf (v .head) m) ≡ metAs d (instrOf (keyOf w)) (stateOf h l)
   below-met g = sym (met-fits (lower≢stuck g) .1 ∙ lower-met (stateOf (v .head) m) g)
@@ -165,7 +165,7 @@ module _ (d t : List ℕ) (h : ℕ) (l : List ℕ) (R : Walkable d t h l) (w roo
       let f = met-fits (λ z. tries≢stuck (sym e ∙ z)) .1 in
       let g = firsts-same d (stateOf h l) (stateOf (v .head) m) (instrOf (keyOf w)) (sym (rw e at f)) in
       let few : HasPlace l = rw (chosen-length d t h l R) at (g .1) in
-      (ready-as (rw (g .0) (R .safe)), rw (marked-count (met .marked)) few)
+      (ready-as (rw (g .0) (R .safe)), rw (undoable-count (met .undoable)) few)
 
 -- without a head the state is as ready
 headless : (d t : List ℕ) (h : ℕ) (l : List ℕ) → Walkable d t h l → Walkable d t noPosition l
@@ -294,7 +294,7 @@ module _ {d t words : List ℕ} {b : ℕ} {s : State} {n₀ : ℕ} {cells₀ cel
   pub node-fails : v .go ≡ Fails → Walking d t words b s n₀ cells₀ m n here trail (tail x rest)
   unfolding metOf goingOn
   node-fails g =
-      let c : m ≡ cells = marked-none (met .marked) (rw g) in
+      let c : m ≡ cells = undoable-none (met .undoable) (rw g) in
       let f : walkWords (machine d) (upTo b) words s n₀ ≡ after n = node ∙ rw g in
       rw c (record { shorter = tail-le x rest (W .shorter); ready = W .ready; undo = W .undo; same = f ∙ rw (tail-drop x rest) })
 
@@ -315,18 +315,18 @@ module _ {d t words : List ℕ} {b : ℕ} {s : State} {n₀ : ℕ} {cells₀ cel
 
   -- it stores nothing
   pub node-plain : v .go ≡ Below → x ≡ length rest → Walking d t words b s n₀ cells₀ m n (v .head) trail (tail 1 rest)
-  node-plain g last = node-on (inl g) last trail (ap (unwound trail) (marked-none (met .marked) (rw g)))
+  node-plain g last = node-on (inl g) last trail (ap (unwound trail) (undoable-none (met .undoable) (rw g)))
 
   -- its store goes on the trail
-  pub node-last : v .go ≡ Stored → x ≡ length rest → trail < 2 ^ 48 → {to : ℕ} → to ≡ trail * 2 ^ 16 + v .mark → Walking d t words b s n₀ cells₀ m n (v .head) to (tail 1 rest)
+  pub node-last : v .go ≡ Stored → x ≡ length rest → trail < 2 ^ 48 → {to : ℕ} → to ≡ trail * 2 ^ 16 + v .undo → Walking d t words b s n₀ cells₀ m n (v .head) to (tail 1 rest)
   node-last g last room {to} tr =
-      node-on (inr g) last to (rw tr (unwound-traced trail (v .mark) m room (marked-small (met .marked)) (marked-some (met .marked) (rw g)) ∙ rw (restored-marked (met .marked))))
+      node-on (inr g) last to (rw tr (unwound-traced trail (v .undo) m room (undoable-small (met .undoable)) (undoable-some (met .undoable) (rw g)) ∙ rw (restored-undoable (met .undoable))))
 
-  pub mark-small : v .mark < 2 ^ 16
-  mark-small = marked-small (met .marked)
+  pub undo-small : v .undo < 2 ^ 16
+  undo-small = undoable-small (met .undoable)
 
   pub met-size : length m ≡ cellCount
-  met-size = marked-size (met .marked) ∙ W .ready .size
+  met-size = undoable-size (met .undoable) ∙ W .ready .size
 
   pub met-back : {a : Answer State} {out : List ℕ} {r : Finding} → Walked a m out r → r .end ≡ Missed → length out ≡ cellCount
   met-back w e = ap (λ (l : List ℕ). length l) (w .back e) ∙ met-size
@@ -364,18 +364,18 @@ module _ {d t words : List ℕ} {b : ℕ} {s : State} {n₀ : ℕ} {cells₀ cel
       pub node-ends : (r .end ≡ Missed → ⊥) → walkWords (machine d) (upTo b) words s n₀ ≡ entered d b (aboveOf to) part (stateOf to m) n
       node-ends nm = node-call ∙ then-ends (entered d b (aboveOf to) part (stateOf to m) n) after (r .end) (r .count) out nm (walked .comes)
 
-      pub node-back : r .end ≡ Missed → restored (v .mark) out ≡ cells
-      node-back e = ap (restored (v .mark)) (walked .back e) ∙ restored-marked (met .marked)
+      pub node-back : r .end ≡ Missed → restored (v .undo) out ≡ cells
+      node-back e = ap (restored (v .undo)) (walked .back e) ∙ restored-undoable (met .undoable)
 
       -- after a miss the row goes on behind the word
-      pub node-next : r .end ≡ Missed → {l : List ℕ} → l ≡ restored (v .mark) out → Walking d t words b s n₀ cells₀ l (r .count) here trail (tail x rest)
+      pub node-next : r .end ≡ Missed → {l : List ℕ} → l ≡ restored (v .undo) out → Walking d t words b s n₀ cells₀ l (r .count) here trail (tail x rest)
       node-next e f =
           let g : walkWords (machine d) (upTo b) words s n₀ ≡ after (r .count) =
           node-call ∙ then-on after (missed-of (entered d b (aboveOf to) part (stateOf to m) n) (r .end) (r .count) out e (walked .comes)) in
           rw (f ∙ node-back e) (record { shorter = tail-le x rest (W .shorter); ready = W .ready; undo = W .undo; same = g ∙ rw (tail-drop x rest) })
 
       -- and past the Checks that fail there
-      pub node-missed : r .end ≡ Missed → here < length d → {key : ℕ} → key ≡ wantedAt d here → {p : ℕ} → Skipped rest x key p → {l : List ℕ} → l ≡ restored (v .mark) out
+      pub node-missed : r .end ≡ Missed → here < length d → {key : ℕ} → key ≡ wantedAt d here → {p : ℕ} → Skipped rest x key p → {l : List ℕ} → l ≡ restored (v .undo) out
           → Walking d t words b s n₀ cells₀ l (r .count) here trail (tail p rest)
       node-missed e i {key} k {p} P {l} f =
           let N = node-next e f in

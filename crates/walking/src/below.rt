@@ -94,7 +94,7 @@ pub fn walk(
                 Go::Stored => {
                     if size == rest.len() {
                         if trail < Path::TRAIL {
-                            trail = trace(trail, v.mark);
+                            trail = trace(trail, v.undo);
                             here = v.head;
                             rest = &rest[1..];
                             continue;
@@ -108,7 +108,7 @@ pub fn walk(
             let End::Missed = end else {
                 break 'tries finding;
             };
-            restore(cells, v.mark);
+            restore(cells, v.undo);
             n = finding.count;
             let more = skip(rest, size, wanted(query, here));
             let next = rest.len() - more;

@@ -34,9 +34,9 @@ cellCount = 256
 abbrev pub noPosition : ℕ
 noPosition = 255
 
--- a mark is the index of a cell, times this, and the byte that it held
-abbrev pub markBase : ℕ
-markBase = cellCount
+-- an undo is the index of a cell, times this, and the byte that it held
+abbrev pub undoBase : ℕ
+undoBase = cellCount
 
 -- how many candidates the cells hold
 abbrev pub countIn : List ℕ → ℕ
@@ -87,9 +87,9 @@ pub record Walkable (d t : List ℕ) (head : ℕ) (cells : List ℕ) : Type 0 wh
   pub size : length cells ≡ cellCount
   pub few : countIn cells ≤ maxLiterals
 
--- the cells with one of them stored back, by the mark in the lowest 16 bits of a number; 0 stands for none
+-- the cells with one of them stored back, by the undo in the lowest 16 bits of a number; 0 stands for none
 unfoldable pub restored : ℕ → List ℕ → List ℕ
-restored m l = cond (eqb m 0) l (set l (m / markBase % markBase) (m % markBase))
+restored m l = cond (eqb m 0) l (set l (m / undoBase % undoBase) (m % undoBase))
 
 -- the cells with up to four of them stored back, the latest, in the lowest 16 bits, first
 unfoldable pub unwound : ℕ → List ℕ → List ℕ

@@ -11,7 +11,7 @@ use Rattle.machine.specs.Instr.{Instr, First, Do, Success, Compare, instrOf}
 use Rattle.machine.specs.Machine.{State, Outcome, next, fails, stuck, step, finish, down, right, given, headed, putting, pushing, require, within, stepAt}
 use Rattle.tree.specs.Laid.{keyOf}
 use Rattle.walk.specs.Words.{extends}
-use Rattle.cells.specs.inner.Cells.{putsAt, pushesAt, countAt, markBase, countIn, positionIn, placed, stateOf}
+use Rattle.cells.specs.inner.Cells.{putsAt, pushesAt, countAt, undoBase, countIn, positionIn, placed, stateOf}
 use Rattle.stepping.specs.declared.Go.{Go}
 use Rattle.stepping.specs.declared.Go.the-variants.{Fails, Stuck, Hit, Tries, Below, Stored}
 use Rattle.stepping.specs.declared.Visit.{Visit}
@@ -98,11 +98,11 @@ stores Below = false
 stores Stored = true
 
 -- what a visit does to the cells: one position is stored, and a number brings back what stood there, or they stay as they are
-pub data Marked (l : List ℕ) : Go → ℕ → List ℕ → Type 0 where
-  plain : (g : Go) → stores g ≡ false → Marked l g 0 l
-  store : (i x : ℕ) → putsAt ≤ i → i < countAt → getD l i 0 < markBase → Marked l Stored (i * markBase + getD l i 0) (set l i x)
+pub data Undoable (l : List ℕ) : Go → ℕ → List ℕ → Type 0 where
+  plain : (g : Go) → stores g ≡ false → Undoable l g 0 l
+  store : (i x : ℕ) → putsAt ≤ i → i < countAt → getD l i 0 < undoBase → Undoable l Stored (i * undoBase + getD l i 0) (set l i x)
 
 -- a visit: what the word comes to, and what was stored
 pub record Visited (m : Met) (before after : List ℕ) (r : Visit) : Type 0 where
   pub comes : metOf (r .go) (stateOf (r .head) after) ≡ m
-  pub marked : Marked before (r .go) (r .mark) after
+  pub undoable : Undoable before (r .go) (r .undo) after

@@ -12,7 +12,7 @@ use borrow.Fn.PlainCycle.{Measures, is, falls, and}
 use Rattle.cells.specs.inner.Cells.{noPosition, stateOf}
 use Rattle.walking.specs.declared.End.the-variants.{Missed}
 use Rattle.stepping.specs.declared.Go.the-variants.{Tries}
-use Rattle.walking.proofs.Walking.{Walking, Meeting, Lower, tail-less, walking-start, walking-end, met-size, met-back, mark-small}
+use Rattle.walking.proofs.Walking.{Walking, Meeting, Lower, tail-less, walking-start, walking-end, met-size, met-back, undo-small}
 use Rattle.walking.proofs.Walking.{node-stuck, node-hit, node-fails, node-plain, node-last, node-inside, node-ends, node-missed, fits-fails, call-fits, call-ready}
 use Rattle.walking.proofs.Turns.{Entry, Between, Begun, first-few, entry-start, between-size, between-room, between-literal, between-ends, between-spent}
 use Rattle.walking.proofs.Turns.{begun-ready, pass-missed, pass-broken, pass-found, pass-ends}
@@ -318,7 +318,7 @@ module _ (t : ℕ) where
   walk-enum-told-8 c = search needs
 
   walk-trace-requires : At walk-lts.Need-trace-requires
-  walk-trace-requires c κs = (c .if5 .taken, mark-small (word (c .before .before .before .before)))
+  walk-trace-requires c κs = (c .if5 .taken, undo-small (word (c .before .before .before .before)))
 
   walk-sub-rest-4 : At walk-lts.Need-sub-rest-4
   walk-sub-rest-4 c = search needs

@@ -13,7 +13,7 @@ use Rattle.stepping.specs.declared.Go.the-variants.{Tries, Stuck}
 use Rattle.walking.proofs.Passes.{walked-missed, walked-broken, walked-same}
 use Rattle.cells.proofs.Places.{restored-none, unwound-none}
 use Rattle.walking.proofs.Walking.{Walking, Meeting, tail-less, walking-whole, walking-end, node-stuck, node-ends, call-fits, call-ready, node-next}
-use Rattle.stepping.proofs.Marks.{marked-zero}
+use Rattle.stepping.proofs.Undoing.{undoable-zero}
 use Rattle.walking.proofs.below.walk_top.Statement.{statement}
 use Rattle.walking.proofs.below.walk_top.Tie as tie
 use Rattle.walking.proofs.below.walk_top.Reads as reads
@@ -148,7 +148,7 @@ loop-again c =
     let b = back (c .before) in
     let d = call b in
     let w = word d in
-    let none : w .meet-top .result .mark ≡ 0 = marked-zero (w .meet-top .ensures .0 .marked) (rw (first d .0)) in
+    let none : w .meet-top .result .undo ≡ 0 = undoable-zero (w .meet-top .ensures .0 .undoable) (rw (first d .0)) in
     node-next (met w _ (d .extent .ensures)) (inl (first d)) (b .walk .ensures) (c .before .enum-told2 .given .1)
     (sym (restored-none _) ∙ ap (λ (k : ℕ). restored k (b .walk .last .1 .1 .1 .0)) (sym none))
 
