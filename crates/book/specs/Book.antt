@@ -50,7 +50,7 @@ after T (x ∷ xs) = after (call T x .slice) xs
 abbrev pub sliceOf : List ℕ → List Call → List ℕ
 sliceOf T xs = after (fresh T .slice) xs
 
--- ---- the clause book
+-- ---- the clause book: the abstract state that a slice stands for, read from the calls alone
 
 -- the pairs without the one with a number
 abbrev pub without : ℕ → List Pair → List Pair

@@ -1,4 +1,4 @@
--- Reading a clause: its shape, its literals, the terms in them, replacement of variables, subsumption.
+-- Reading a clause: its shape, its literals, the terms in them, replacement of variables (substitution), subsumption.
 use mathlib.Core.Path.{_≡_}
 use mathlib.Core.Bool.{cond}
 use mathlib.Core.List.{List, [], _∷_, _++_, map, List·Memᴰ}
@@ -108,7 +108,7 @@ Inner = All (λ w. Inside (sort w))
 abbrev pub IsTerm : List ℕ → Type 0
 IsTerm ws = Shaped 1 ws × Inner ws
 
--- what a replacement of the variables makes of one word
+-- what a replacement of the variables, a substitution, makes of one word
 unfoldable pub replaced : (ℕ → List ℕ) → ℕ → List ℕ
 replaced θ w = ifVariable (sort w) (θ w) (w ∷ [])
 
@@ -117,7 +117,7 @@ unfoldable pub inst : (ℕ → List ℕ) → List ℕ → List ℕ
 inst θ [] = []
 inst θ (w ∷ ws) = replaced θ w ++ inst θ ws
 
--- clause c subsumes d
+-- clause c subsumes d: one substitution makes each literal of c a literal of d
 pub record Subsumes (c d : List ℕ) : Type 0 where
   pub replace : ℕ → List ℕ
   pub terms : (v : ℕ) → IsTerm (replace v)

@@ -1,4 +1,4 @@
--- A clause subsumes a query exactly if its sequence runs to the end with some choice of the query's literals.
+-- Adequacy of compiling: a clause subsumes a query exactly if its sequence runs to the end with some choice of the query's literals.
 use mathlib.Core.Path.{_≡_}
 use mathlib.Core.Logic.{_↔_}
 use mathlib.Core.List.{List}

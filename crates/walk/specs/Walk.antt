@@ -16,7 +16,7 @@ pub record Machine : Type 1 where
   pub finish : State → Outcome State
   pub queryLiterals : ℕ
 
--- the walk's answer: number, final state and count; the count; the budget is spent; broken
+-- the walk's answer: number, final state and count; the count; the budget, its fuel in candidates, is spent; broken
 pub data Answer (S : Type 0) : Type 0 where
   covered : ℕ → S → ℕ → Answer S
   notCovered : ℕ → Answer S
