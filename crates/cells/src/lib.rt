@@ -3,6 +3,7 @@ mod row;
 mod state;
 
 use clause::Clause;
+use machine::Sequence;
 pub use row::skip;
 pub use row::wanted;
 pub use state::begin;
@@ -25,7 +26,7 @@ pub struct Path {}
 
 impl Path {
     // How many positions may be put, and how many pushed.
-    pub const SLOTS: usize = 64;
+    pub const SLOTS: usize = Sequence::NUMBERS;
 
     // Where the positions put begin.
     pub const PUTS: usize = Clause::LITERALS;
