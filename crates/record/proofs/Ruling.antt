@@ -338,7 +338,7 @@ module _ (K : List Pair) (h : Holds treeWords K (treeOf K)) (x : Record) (f : Fi
         let over = query-tree treeWords (treeOf K) (omega arith) (omega arith) (h .room) (x .words) (q, s) budget W witness-long (h .keeps .mirrors .formed) in
         let (t, w) = told-covered budget W (walk (machine (x .words)) (upTo budget) (treeOf K) initial 0) n k (ap (λ y. y .answer) (sym over) ∙ e) in
         record {
-          decided = within (λ z. let y = sym e ∙ z in let o : _≡_ {A = ℕ} 0 1 = cc in omega arith);
+          decided = within (λ z. let y = sym e ∙ z in apart cc);
           state = t;
           walked = w;
           count = asked .counts n k e;
@@ -351,7 +351,7 @@ module _ (K : List Pair) (h : Holds treeWords K (treeOf K)) (x : Record) (f : Fi
 
     fate-new : (k : ℕ) → query T (x .words) budget W .answer ≡ NotCovered k → Uncovered K x
     fate-new k e =
-        record { decided = within (λ z. let y = sym e ∙ z in let o : _≡_ {A = ℕ} 0 1 = cc in omega arith); unsubsumed = asked .spares k e .0 }
+        record { decided = within (λ z. let y = sym e ∙ z in apart cc); unsubsumed = asked .spares k e .0 }
 
     fate-kinds : IsCovered T (x .words) budget W ⊎ (IsNotCovered T (x .words) budget W ⊎ IsSpent T (x .words) budget W)
         → Fate K x (answerTo T x .outcome) (bookFrom treeWords K (callsFor T x))

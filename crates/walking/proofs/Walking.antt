@@ -320,7 +320,8 @@ module _ {d t words : List ℕ} {b : ℕ} {s : State} {n₀ : ℕ} {cells₀ cel
   -- its store goes on the trail
   pub node-last : v .go ≡ Stored → x ≡ length rest → trail < 2 ^ 48 → {to : ℕ} → to ≡ trail * 2 ^ 16 + v .undo → Walking d t words b s n₀ cells₀ m n (v .head) to (tail 1 rest)
   node-last g last room {to} tr =
-      node-on (inr g) last to (rw tr (unwound-traced trail (v .undo) m room (undoable-small (met .undoable)) (undoable-some (met .undoable) (rw g)) ∙ rw (restored-undoable (met .undoable))))
+      let u = met .undoable in
+      node-on (inr g) last to (rw tr (unwound-traced trail (v .undo) m room (undoable-small u) (undoable-some u (rw g)) ∙ rw (restored-undoable u)))
 
   pub undo-small : v .undo < 2 ^ 16
   undo-small = undoable-small (met .undoable)
