@@ -8,5 +8,5 @@ struct Budget {}
 
 impl Budget {
     // The most candidates.
-    const CANDIDATES: u64 = 1000000000;
+    const CANDIDATES: u64 = 1_000_000_000;
 }

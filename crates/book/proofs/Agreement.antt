@@ -15,7 +15,7 @@ use Rattle.tree.specs.Entries.{Listed, Pair, Sound, entry}
 use Rattle.tree.specs.Laid.{maxKept}
 use Rattle.walk.specs.Walk.{Answer, covered, notCovered, spent, broken, upTo, walk}
 use Rattle.walk.specs.Ceiling.{fullBudget}
-use Rattle.walk.specs.Query.{machine, witnessWords, shown, withShown, told, query}
+use Rattle.walk.specs.Query.{machine, witnessWords, shown, withShown, answerBy, query}
 use Rattle.walk.specs.Covering.{most, Subsumed, candidates, IsCovered, IsNotCovered, IsSpent, Answers}
 use Rattle.book.specs.Book.{Call, sliceOf, bookOf, treeOf}
 use Rattle.book.specs.Claims.{Run, Under, Renamed, Same, Alone, Demand3}
@@ -94,13 +94,13 @@ renamed-kept K L r cs n k =
     subst₂ (Listed (map entry L)) (ap (map key) h ∙ sym e) (g ∙ sym f) (pair-kept L q m′)
 
 -- what the walk's answer writes into a witness
-told-words : (b : ℕ) (a : Answer State) → (os : List (Option ℕ)) × ((W : List ℕ) → told b W a .witness ≡ withShown os W)
+told-words : (b : ℕ) (a : Answer State) → (os : List (Option ℕ)) × ((W : List ℕ) → answerBy b W a .witness ≡ withShown os W)
 told-words b (covered n s c) = (shown s, λ W. refl)
 told-words b (notCovered c) = ([], λ W. refl)
 told-words b spent = ([], λ W. refl)
 told-words b broken = ([], λ W. refl)
 
-told-answer : (b : ℕ) (a : Answer State) (U W : List ℕ) → told b U a .answer ≡ told b W a .answer
+told-answer : (b : ℕ) (a : Answer State) (U W : List ℕ) → answerBy b U a .answer ≡ answerBy b W a .answer
 told-answer b (covered n s c) U W = refl
 told-answer b (notCovered c) U W = refl
 told-answer b spent U W = refl
@@ -140,9 +140,9 @@ module _ (S : List ℕ) (xs : List Call) (T : List ℕ) (ys : List Call) (R : Ru
       → Same (sliceOf S xs) (sliceOf T ys) d b
   same r s d D b =
       let a : Answer State = walk (machine d) (upTo b) (treeOf (bookOf (length T) ys)) initial 0 in
-      let e : (U : List ℕ) → witnessWords ≤ length U → query (sliceOf S xs) d b U ≡ told b U a =
-      λ U lu. walked S xs R d D b U lu ∙ ap (λ F. told b U (walk (machine d) (upTo b) F initial 0)) (same-tree r s) in
-      let f : (W : List ℕ) → witnessWords ≤ length W → query (sliceOf T ys) d b W ≡ told b W a = walked T ys Q d D b in
+      let e : (U : List ℕ) → witnessWords ≤ length U → query (sliceOf S xs) d b U ≡ answerBy b U a =
+      λ U lu. walked S xs R d D b U lu ∙ ap (λ F. answerBy b U (walk (machine d) (upTo b) F initial 0)) (same-tree r s) in
+      let f : (W : List ℕ) → witnessWords ≤ length W → query (sliceOf T ys) d b W ≡ answerBy b W a = walked T ys Q d D b in
       let (os, words) = told-words b a in
       record {
         words = os;

@@ -15,7 +15,8 @@ use Rattle.machine.specs.Instr.{key}
 use Rattle.machine.specs.Compile.{Variants, keys}
 use Rattle.tree.specs.Forest.{Forest, empty, size, leaves, layout}
 use Rattle.tree.specs.Laid.{maxKept, wellLaid, decode}
-use Rattle.tree.specs.Entries.{Apart, Listed, build, withoutEntry, Pair, Sound, entry}
+use Rattle.tree.specs.Entries.{Listed, build, Pair, Sound, entry}
+use Rattle.tree.specs.inner.Books.{withoutEntry, Apart}
 use Rattle.tree.specs.Changes.{numbered}
 use Rattle.book.specs.Book.{without, treeOf}
 use Rattle.tree.proofs.Words.{laid-layout, decode-layout}

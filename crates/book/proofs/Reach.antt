@@ -16,7 +16,7 @@ use Rattle.machine.specs.Machine.{initial}
 use Rattle.tree.specs.Forest.{Forest, empty, layout, Has}
 use Rattle.tree.specs.Laid.{sized}
 use Rattle.walk.specs.Walk.{upTo, walk}
-use Rattle.walk.specs.Query.{machine, witnessWords, told, query}
+use Rattle.walk.specs.Query.{machine, witnessWords, answerBy, query}
 use Rattle.walk.specs.Covering.{Answers}
 use Rattle.tree.specs.Calls.{refused, fresh}
 use Rattle.book.specs.Book.{Call, AllFit, after, sliceOf, bookStep, bookFrom, bookOf, treeOf}
@@ -96,7 +96,7 @@ module _ (T : List ℕ) (xs : List Call) (R : Run T xs) where
         (answers (bookOf (length T) xs) (laid .tree) (h .sound) (h .keeps .mirrors) (holds-leaves h) d D (length T) (start .low) (start .high) (h .room) b W long)
 
     -- the answer is that of the walk over the tree of the kept clauses
-    pub walked : query (sliceOf T xs) d b W ≡ told b W (walk (machine d) (upTo b) (treeOf (bookOf (length T) xs)) initial 0)
+    pub walked : query (sliceOf T xs) d b W ≡ answerBy b W (walk (machine d) (upTo b) (treeOf (bookOf (length T) xs)) initial 0)
     walked =
         let h = laid .holds in
         rw (holds-tree h, laid .slice) (query-tree (length T) (laid .tree) (start .low) (start .high) (h .room) d D b W long (h .keeps .mirrors .formed))

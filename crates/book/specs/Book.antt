@@ -1,9 +1,10 @@
 -- Lists of calls: what they leave in a slice, and what the clause book tells that they keep.
 use mathlib.Core.Bool.{cond}
 use mathlib.Core.List.{List, [], _∷_, map}
-use Prim.Native.Nat.{ℕ, _^_, _<_}
+use Prim.Native.Nat.{ℕ, _<_}
 use lib.Dec.{eqb}
 use Rattle.clause.specs.Clause.{shape}
+use Rattle.tree.specs.Keys.{firstKey}
 use Rattle.tree.specs.Forest.{Forest}
 use Rattle.tree.specs.Entries.{build, Pair, entry}
 use Rattle.tree.specs.Changes.{refuses}
@@ -21,8 +22,8 @@ pub data Call : Type 0 where
 
 -- clause words have 16 bits, clause numbers 32
 abbrev pub Fit : Call → Type 0
-Fit (insert c n) = Words c × (n < 2 ^ 32)
-Fit (remove n) = n < 2 ^ 32
+Fit (insert c n) = Words c × (n < firstKey)
+Fit (remove n) = n < firstKey
 
 -- all calls of a list do
 abbrev pub AllFit : List Call → Type 0

@@ -15,7 +15,7 @@ use Rattle.tree.specs.Laid.{maxKept, decode}
 use Rattle.tree.specs.Entries.{Mirrors, Pair, entry}
 use Rattle.walk.specs.Walk.{upTo, walk}
 use Rattle.walk.specs.Ceiling.{ceiling, fullBudget, ceilingCall}
-use Rattle.walk.specs.Query.{machine, witnessWords, withShown, told, walkSlice, query}
+use Rattle.walk.specs.Query.{machine, witnessWords, withShown, answerBy, walkSlice, query}
 use Rattle.walk.specs.Covering.{IsCovered, IsNotCovered, Answers}
 use Rattle.tree.specs.Calls.{fresh, insertion, removal}
 use Rattle.book.specs.Table.{ready, kept, removed, returned, saidCeiling, called, asked}
@@ -90,7 +90,7 @@ pub record Alone (T : List ℕ) (xs : List Call) : Type 0 where
   -- the answer is that of the walk over the tree of the kept clauses
   pub walked :
       (d : List ℕ) → Accepted d → (b : ℕ) (W : List ℕ) → witnessWords ≤ length W
-      → query (sliceOf T xs) d b W ≡ told b W (walk (machine d) (upTo b) (treeOf (bookOf (length T) xs)) initial 0)
+      → query (sliceOf T xs) d b W ≡ answerBy b W (walk (machine d) (upTo b) (treeOf (bookOf (length T) xs)) initial 0)
 
 -- two lists of calls
 pub record Together (S : List ℕ) (xs : List Call) (T : List ℕ) (ys : List Call) : Type 0 where

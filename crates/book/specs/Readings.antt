@@ -6,9 +6,9 @@ use lib.ListN.{length, replicate}
 use Rattle.clause.specs.Clause.{shape}
 use Rattle.machine.specs.Instr.{Down, Right, Put, Push, Pop, Check, Compare, First, Do, instr}
 use Rattle.machine.specs.Compile.{sequence}
-use Rattle.tree.specs.Forest.{word}
+use Rattle.tree.specs.Forest.{word, headerOf}
 use Rattle.walk.specs.Ceiling.{ceilingCall}
-use Rattle.walk.specs.Query.{query}
+use Rattle.walk.specs.Query.{witnessWords, query}
 use Rattle.tree.specs.Calls.{insertion, removal}
 use Rattle.book.specs.Book.{insert, remove, sliceOf}
 use Rattle.book.specs.Trials.{P₃, P₂, P₁, Q₁, f, a, b, x, y, pxqx, ask}
@@ -32,15 +32,15 @@ P₄ = 0xa001
 
 -- a slice of instruction words with its header
 abbrev pub sliceWith : (kept : ℕ) → List ℕ → List ℕ
-sliceWith kept ws = (length ws * 2 ^ 32 + kept) ∷ ws
+sliceWith kept ws = headerOf (length ws) kept ∷ ws
 
 -- an instruction word
 abbrev pub at : (op operand extent : ℕ) → ℕ
 at op operand extent = word (instr op operand) extent
 
--- the answer to a query with a witness of 72 words
+-- the answer to a query with the shortest witness
 abbrev pub answerOn : (words clause : List ℕ) (budget : ℕ) → QueryAnswer
-answerOn ws d budget = query (sliceWith 1 ws) d budget (replicate 72 9) .answer
+answerOn ws d budget = query (sliceWith 1 ws) d budget (replicate witnessWords 9) .answer
 
 -- a fresh slice
 abbrev pub blank : ℕ → List ℕ
@@ -94,9 +94,9 @@ walking =
     ∷ (answerOn (at 1 0 6 ∷ at 4 0 5 ∷ at 1 0 4 ∷ at 4 1 3 ∷ at 8 1 2 ∷ at 0 1 1 ∷ []) (P₀ ∷ Q₀ ∷ []) 9 ≡ Covered 1 2)
     ∷ (answerOn (at 1 0 3 ∷ at 1 0 2 ∷ at 0 1 1 ∷ []) (P₀ ∷ []) 9 ≡ Covered 1 2)
     -- a short witness before a broken header
-    ∷ (query ((9 * 2 ^ 32) ∷ 0 ∷ []) (P₀ ∷ []) 9 [] .answer ≡ Unanswered ShortWitness)
-    ∷ (query ((9 * 2 ^ 32) ∷ 0 ∷ []) (P₀ ∷ []) 9 (replicate 72 9) .answer ≡ Unanswered Broken)
-    ∷ (query (0 ∷ 0 ∷ 1 ∷ []) (P₀ ∷ []) 0 (replicate 72 9) .answer ≡ NotCovered 0)
+    ∷ (query (headerOf 9 0 ∷ 0 ∷ []) (P₀ ∷ []) 9 [] .answer ≡ Unanswered ShortWitness)
+    ∷ (query (headerOf 9 0 ∷ 0 ∷ []) (P₀ ∷ []) 9 (replicate witnessWords 9) .answer ≡ Unanswered Broken)
+    ∷ (query (0 ∷ 0 ∷ 1 ∷ []) (P₀ ∷ []) 0 (replicate witnessWords 9) .answer ≡ NotCovered 0)
     -- the words of a witness that are not written
     ∷ (query pxqx (P₁ ∷ a ∷ P₁ ∷ b ∷ Q₁ ∷ b ∷ []) 8 (replicate 74 9) .witness ≡ 1 ∷ 2 ∷ (replicate 6 9 ++ (3 ∷ 5 ∷ replicate 64 9)))
     ∷ (query pxqx (P₁ ∷ a ∷ Q₁ ∷ b ∷ []) 8 (replicate 74 9) .witness ≡ replicate 74 9) ∷ []
@@ -111,7 +111,7 @@ calling =
     ∷ (insertion (sliceWith 9 (at 1 0 2 ∷ at 0 1 1 ∷ [])) (Q₀ ∷ []) 1 .answer ≡ Refused Broken)
     ∷ (insertion (0 ∷ 0 ∷ 1 ∷ []) (P₀ ∷ []) 1 .answer ≡ Refused Broken) ∷ (insertion (0 ∷ 0 ∷ 1 ∷ []) (x ∷ []) 1 .answer ≡ Refused (BadClause (Bad 0)))
     -- a Success at the top is well laid
-    ∷ (insertion ((2 ^ 32 + 1) ∷ at 0 5 1 ∷ 0 ∷ 0 ∷ 0 ∷ []) (P₀ ∷ []) 1 .slice ≡ sliceWith 2 (at 0 5 1 ∷ at 1 0 3 ∷ at 7 P₀ 2 ∷ at 0 1 1 ∷ []))
+    ∷ (insertion (headerOf 1 1 ∷ at 0 5 1 ∷ 0 ∷ 0 ∷ 0 ∷ []) (P₀ ∷ []) 1 .slice ≡ sliceWith 2 (at 0 5 1 ∷ at 1 0 3 ∷ at 7 P₀ 2 ∷ at 0 1 1 ∷ []))
     -- the same number before the same clause
     ∷ (insertion (sliceOf (blank 9) (insert (P₀ ∷ []) 1 ∷ [])) (P₀ ∷ []) 1 .answer ≡ Refused NumberTaken)
     ∷ (insertion (sliceOf (blank 9) (insert (P₀ ∷ []) 1 ∷ [])) (P₀ ∷ []) 2 .answer ≡ Refused (Held 1))

@@ -6,7 +6,7 @@ use lib.Dec.{ltb, eqb}
 use native.Mathlib.Decide.{ℕ-discrete}
 use borrow.Author.Tests.{lt-ltb, le-ltb, eq-eqb, ne-eqb}
 use Rattle.machine.specs.Instr.{instruction, instrOf}
-use Rattle.tree.specs.Keys.{inner}
+use Rattle.tree.specs.Keys.{firstKey}
 use Rattle.tree.specs.Laid.{keyOf}
 
 -- the instruction of a word by its fields
@@ -17,9 +17,9 @@ instrOf-word w =
     rw e
 
 -- a word is a Success where its operation is 0
-pub success-word : (w : ℕ) → ltb (keyOf w) inner ≡ eqb (w / 2 ^ 60) 0
+pub success-word : (w : ℕ) → ltb (keyOf w) firstKey ≡ eqb (w / 2 ^ 60) 0
 success-word w = go (ℕ-discrete (w / 2 ^ 60) 0)
   where
-    go : Dec (w / 2 ^ 60 ≡ 0) → ltb (keyOf w) inner ≡ eqb (w / 2 ^ 60) 0
-    go (yes e) = rw (lt-ltb (keyOf w) inner (omega arith), eq-eqb (w / 2 ^ 60) 0 e)
-    go (no n) = rw (le-ltb (keyOf w) inner (omega arith), ne-eqb (w / 2 ^ 60) 0 n)
+    go : Dec (w / 2 ^ 60 ≡ 0) → ltb (keyOf w) firstKey ≡ eqb (w / 2 ^ 60) 0
+    go (yes e) = rw (lt-ltb (keyOf w) firstKey (omega arith), eq-eqb (w / 2 ^ 60) 0 e)
+    go (no n) = rw (le-ltb (keyOf w) firstKey (omega arith), ne-eqb (w / 2 ^ 60) 0 n)

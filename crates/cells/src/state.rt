@@ -3,10 +3,11 @@ use crate::Above;
 use crate::Path;
 use clause::Clause;
 ghost use mathlib.Core.Path.{_≡_};
-ghost use Prim.Native.Nat.{_+_, _*_, _<_, _^_};
+ghost use Prim.Native.Nat.{_+_, _*_, _<_};
 ghost use lib.ListN.{length, getD};
 ghost use Rattle.clause.specs.Clause.{Accepted, literals};
-ghost use Rattle.cells.specs.inner.Cells.{cellCount, literalsAt, HasPlace, HasCandidate, Tables};
+ghost use Rattle.clause.specs.inner.Tables.{atCount};
+ghost use Rattle.cells.specs.inner.Cells.{cellCount, undoLimit, trailLimit, HasPlace, HasCandidate, Tables};
 ghost use Rattle.cells.specs.inner.Cells.{restored, unwound, aboveOf, reserved, candidate, released, keptIn, passHead, passesOf};
 ghost use Rattle.cells.specs.declared.Above.the-variants.{First};
 
@@ -44,8 +45,8 @@ pub fn restore(cells: &mut [u8; Path::CELLS], undo: u64)
 
 // One more undo on a trail with room for it.
 pub fn trace(trail: u64, undo: u64) -> u64
-    requires { ⌜ (trail < 2 ^ 48) × (undo < 2 ^ 16) ⌝ }
-    ensures { λ r. ⌜ r ≡ trail * 2 ^ 16 + undo ⌝ }
+    requires { ⌜ (trail < trailLimit) × (undo < undoLimit) ⌝ }
+    ensures { λ r. ⌜ r ≡ trail * undoLimit + undo ⌝ }
 {
     trail * Path::UNDOS + undo
 }
@@ -119,7 +120,7 @@ pub fn release(cells: &mut [u8; Path::CELLS], above: Above, kept: u8)
 
 // How many passes are made over the words: below a First one for each literal of the query, below a step one.
 pub fn passes(tables: &[u8; Clause::TABLES], above: Above) -> usize
-    ensures { λ r. ⌜ r ≡ passesOf above (getD (now (tables .entry)) literalsAt 0) ⌝ }
+    ensures { λ r. ⌜ r ≡ passesOf above (getD (now (tables .entry)) atCount 0) ⌝ }
 {
     match above {
         Above::First => wide(tables[Clause::COUNT]),

@@ -246,13 +246,13 @@ literals-flatten : {ls : List (List ℕ)} → All IsLiteral ls → literals (fla
 unfolding flatten literals
 literals-flatten none = refl
 literals-flatten (also {x = l} {xs = ls} L p) =
-    let inner = L .args-inner in
+    let firstKey = L .args-inner in
     rw (
       L .parts,
       literals-head (L .top) (L .args ++ flatten ls) (L .top-head),
-      before-args inner (flatten ls),
+      before-args firstKey (flatten ls),
       before-flatten p,
-      literals-args inner (flatten ls),
+      literals-args firstKey (flatten ls),
       literals-flatten p,
       append-nil (L .args),
     )

@@ -113,7 +113,7 @@ fn act(
     ensures { λ r. ⌜ Acted w count (now (variables .entry)) r (now (variables .exit)) (now (firsts .exit))
         (now (keys .entry)) written (now (keys .exit)) ⌝ }
 {
-    // kind 1, arity 0
+    // a variable: kind 1, arity 0
     if w / 0x800 == 8 {
         let number = first_put(&variables[..count], w);
         firsts[count] = number;

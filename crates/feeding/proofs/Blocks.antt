@@ -20,10 +20,10 @@ use Rattle.intake.specs.declared.Half.the-variants.{Even, Odd}
 use Rattle.intake.specs.declared.Stage.{Stage}
 use Rattle.intake.specs.declared.Stage.the-variants.{AtNumber}
 use Rattle.intake.specs.declared.Session.{Session}
-use Rattle.intake.specs.declared.RecordHead.{RecordHead}
+use Rattle.intake.specs.declared.Heading.{Heading}
 use Rattle.intake.specs.declared.Next.{Next}
 use Rattle.intake.specs.declared.Next.the-variants.{Reads, Ends}
-use Rattle.intake.specs.declared.Step.{Step}
+use Rattle.intake.specs.declared.Portion.{Portion}
 use Rattle.intake.proofs.Bytes.{feed-append}
 use Rattle.feeding.specs.inner.Blocks.{FedInto, fedInto, Took, recordsIn}
 
@@ -50,7 +50,7 @@ goes h g t m o at e d =
     took-as (ap (λ (y : Next). proceeding y t m) e) (record { placed = rw z; steady = d; short = omega arith })
 
 -- a record that is whole
-pub ends : (x : RecordHead) (t : Totals) (m : Store) {y : Next} → y ≡ Ends x → proceeding y t m ≡ recordEnded (x .number) (x .count) t m
+pub ends : (x : Heading) (t : Totals) (m : Store) {y : Next} → y ≡ Ends x → proceeding y t m ≡ recordEnded (x .number) (x .count) t m
 ends x t m e = ap (λ (z : Next). proceeding z t m) e
 
 -- ---- one more outcome, one more record
@@ -128,7 +128,7 @@ feeding-none s m input o h =
 
 module _ (s₀ : Session) (m₀ : Store) (input o₀ : List ℕ) {s : Session} {m : Store} {o : List ℕ} {i at : ℕ} (f : Feeding s₀ m₀ input o₀ s m o i at) where
   -- one step more: some bytes are read, and then the reading goes on or a record is ended
-  pub feeding-more : {x : Step} {ws : List ℕ} {s′ : Session} {m′ : Store} {o′ : List ℕ} {at′ : ℕ}
+  pub feeding-more : {x : Portion} {ws : List ℕ} {s′ : Session} {m′ : Store} {o′ : List ℕ} {at′ : ℕ}
       → Stepped s (take (length input - i) (drop i input)) (m .words) x ws → i + x .taken ≤ length input
       → Took (proceeding (x .next) (s .totals) (storeOf ws (m .slice) (m .marks))) 1 at o s′ m′ (record { next = at′; output = o′ })
       → length o′ ≡ length o → length (m′ .words) ≡ length (m .words) → length (m′ .slice) ≡ length (m .slice) → length (m′ .marks) ≡ length (m .marks)

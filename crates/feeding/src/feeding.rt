@@ -4,8 +4,8 @@ use answering::answer;
 use clause::Clause;
 use clause::Fault;
 use intake::Half;
+use intake::Heading;
 use intake::Next;
-use intake::RecordHead;
 use intake::Session;
 use intake::Stage;
 use intake::read_some;
@@ -50,26 +50,26 @@ fn count_outcome(totals: Totals, outcome: Outcome) -> Totals
 
 // What becomes of a whole record; one of more than 64 words was skipped over.
 fn outcome_of(
-    head: RecordHead,
+    heading: Heading,
     tree: &mut [u64],
     marks: &mut [u8],
     keys: &mut [u64; Sequence::KEYS],
     words: &[u16],
 ) -> Outcome
     requires { ⌜ Steady (now tree) (now marks) × (length (now words) ≡ maxWords) ⌝ }
-    ensures { λ r. ⌜ CameOut (finishing (head .number) (head .count) (now (words .entry)) (now (tree .entry))) (head .number) (now (marks .entry)) r
+    ensures { λ r. ⌜ CameOut (finishing (heading .number) (heading .count) (now (words .entry)) (now (tree .entry))) (heading .number) (now (marks .entry)) r
         (now (tree .exit)) (now (marks .exit)) ⌝ }
 {
-    let end = head.count as usize;
+    let end = heading.count as usize;
     if end > Clause::WORDS {
         return Outcome::Refused(Refusal::BadClause(Fault::BadLength).code());
     }
-    answer(tree, marks, keys, &words[..end], head.number)
+    answer(tree, marks, keys, &words[..end], heading.number)
 }
 
 // Ends a whole record: what becomes of it, its line, the totals.
 fn finish(
-    head: RecordHead,
+    heading: Heading,
     turn: Turn,
     tree: &mut [u64],
     marks: &mut [u8],
@@ -79,12 +79,12 @@ fn finish(
 ) -> Turn
     requires { ⌜ Feedable (storeOf (now words) (now tree) (now marks)) (turn .session .totals) 1 (turn .next) (now output) ⌝ }
     ensures { λ r. ⌜ Took
-        (recordEnded (head .number) (head .count) (turn .session .totals) (storeOf (now (words .entry)) (now (tree .entry)) (now (marks .entry)))) 1
+        (recordEnded (heading .number) (heading .count) (turn .session .totals) (storeOf (now (words .entry)) (now (tree .entry)) (now (marks .entry)))) 1
         (turn .next) (now (output .entry)) (r .session) (storeOf (now (words .entry)) (now (tree .exit)) (now (marks .exit)))
         (record { next = r .next; output = now (output .exit) }) ⌝ }
 {
-    let outcome = outcome_of(head, tree, marks, keys, words);
-    let next = put_line(output, turn.next, head.number, outcome);
+    let outcome = outcome_of(heading, tree, marks, keys, words);
+    let next = put_line(output, turn.next, heading.number, outcome);
     let before = turn.session;
     let totals = before.totals;
     let after = count_outcome(totals, outcome);
@@ -126,7 +126,7 @@ fn proceed(
                 next: turn.next,
             }
         }
-        Next::Ends(head) => finish(head, turn, tree, marks, keys, words, output),
+        Next::Ends(heading) => finish(heading, turn, tree, marks, keys, words, output),
     }
 }
 

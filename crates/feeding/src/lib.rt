@@ -10,9 +10,9 @@ pub struct Lent {}
 
 impl Lent {
     // The words of the tree's slice.
-    pub const TREE: usize = 8192;
+    pub const TREE: usize = 0x2000;
     // The marks: a byte for each number that a record can have.
-    pub const MARKS: usize = 65536;
+    pub const MARKS: usize = 0x1_0000;
 }
 
 // A session after some more of the input, and the place in the output after what was printed.

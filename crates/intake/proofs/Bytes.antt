@@ -27,10 +27,6 @@ abbrev pub storing : Store → (at word : ℕ) → Store
 storing m at w = record { words = set (m .words) at w; slice = m .slice; marks = m .marks }
 
 module _ (t : Totals) (m : Store) (w : ℕ) where
-  pub at-number : {g : Stage} → g ≡ AtNumber → takeField g t m w ≡ going (AtCount w) t m
-  unfolding takeField
-  at-number e = rw e
-
   pub at-count : (n : ℕ) {g : Stage} → g ≡ AtCount n → 0 < w → takeField g t m w ≡ going (AtWord n w 0) t m
   unfolding takeField
   at-count n e h = rw (e, ne-eqb w 0 (λ z. omega arith))

@@ -2,11 +2,11 @@
 use crate::Ahead;
 use crate::Field;
 use crate::Half;
+use crate::Heading;
 use crate::Next;
-use crate::RecordHead;
+use crate::Portion;
 use crate::Session;
 use crate::Stage;
-use crate::Step;
 use clause::Clause;
 use record::Totals;
 ghost use mathlib.Core.Path.{_≡_};
@@ -45,7 +45,7 @@ fn advance(stage: Stage, field: u16) -> Next
             if field > 0 {
                 return Next::Reads(Half::Even, Stage::AtWord(number, field, 0));
             }
-            Next::Ends(RecordHead {
+            Next::Ends(Heading {
                 number: number,
                 count: 0,
             })
@@ -54,7 +54,7 @@ fn advance(stage: Stage, field: u16) -> Next
             if (read as usize) + 1 < count as usize {
                 return Next::Reads(Half::Even, Stage::AtWord(number, count, read + 1));
             }
-            Next::Ends(RecordHead {
+            Next::Ends(Heading {
                 number: number,
                 count: count,
             })
@@ -120,14 +120,14 @@ fn look_ahead(input: &[u8], session: Session) -> Ahead
     let Stage::AtNumber = stage else {
         return Ahead::Bytes;
     };
-    if input.len() < RecordHead::BYTES {
+    if input.len() < Heading::BYTES {
         return Ahead::Bytes;
     }
     let count = field_at(input, Field::BYTES) as usize;
     if count > Clause::WORDS {
         return Ahead::Bytes;
     }
-    if input.len() - RecordHead::BYTES < count * Field::BYTES {
+    if input.len() - Heading::BYTES < count * Field::BYTES {
         return Ahead::Bytes;
     }
     Ahead::Whole(count)
@@ -148,23 +148,23 @@ fn read_words(input: &[u8], words: &mut [u16], count: usize)
 }
 
 // Reads the record that the input begins with, if all of it is there, and else one byte.
-pub fn read_some(input: &[u8], session: Session, words: &mut [u16]) -> Step
+pub fn read_some(input: &[u8], session: Session, words: &mut [u16]) -> Portion
     requires { ⌜ (0 < length (now input)) × (length (now words) ≡ maxWords) ⌝ }
     ensures { λ r. ⌜ Stepped session (now (input .entry)) (now (words .entry)) r (now (words .exit)) ⌝ }
 {
     let ahead = look_ahead(input, session);
     let Ahead::Whole(count) = ahead else {
         let next = read_byte(session, input[0], words);
-        return Step {
+        return Portion {
             taken: 1,
             next: next,
         };
     };
     let number = field_at(input, 0);
-    read_words(&input[RecordHead::BYTES..], words, count);
-    Step {
-        taken: RecordHead::BYTES + count * Field::BYTES,
-        next: Next::Ends(RecordHead {
+    read_words(&input[Heading::BYTES..], words, count);
+    Portion {
+        taken: Heading::BYTES + count * Field::BYTES,
+        next: Next::Ends(Heading {
             number: number,
             count: count as u16,
         }),

@@ -36,13 +36,13 @@ pub struct Session {
     pub totals: Totals,
 }
 
-// A whole record's number and word count.
-pub struct RecordHead {
+// The heading of a record: its number and its word count.
+pub struct Heading {
     pub number: u16,
     pub count: u16,
 }
 
-impl RecordHead {
+impl Heading {
     // Its bytes: two fields.
     const BYTES: usize = 2 * Field::BYTES;
 }
@@ -56,11 +56,11 @@ enum Ahead {
 // What some more of the input leads to: the reading goes on, or a record is whole.
 pub enum Next {
     Reads(Half, Stage),
-    Ends(RecordHead),
+    Ends(Heading),
 }
 
 // Some more of the input: how many bytes were taken, and what they lead to.
-pub struct Step {
+pub struct Portion {
     pub taken: usize,
     pub next: Next,
 }

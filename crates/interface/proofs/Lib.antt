@@ -1,3 +1,3 @@
 pub mod Handed
-pub mod Answers
+pub mod Differ
 pub mod Lists

@@ -26,8 +26,8 @@ use Rattle.interface.specs.Told.{numberOf, shownAs, replied}
 use Rattle.interface.specs.Calls.{ctFresh, ctInsert, ctRemove, ctQuery}
 use Rattle.interface.specs.Claims.{Made, ctCall, ctAfter, ctTree, callsMade, CtRun, CtReach}
 use Rattle.interface.specs.Claims.{Says, SaysCovered, SaysNot, SaysSpent, needed, CtAnswers, CtDemand2, CtSame, CtCovered, CtDemand3}
-use Rattle.interface.proofs.Answers.{Freshened, ready, bad-slice, Inserted, kept, refusal, Taken, removed, broken, no-such}
-use Rattle.interface.proofs.Answers.{fresh-answers, insert-answers, remove-answers, code-some, query-apart}
+use Rattle.interface.proofs.Differ.{Freshened, ready, bad-slice, Inserted, kept, refusal, Taken, removed, broken, no-such}
+use Rattle.interface.proofs.Differ.{fresh-answers, insert-answers, remove-answers, code-some, query-apart}
 
 -- ---- the words, and the numbers returned
 

@@ -10,7 +10,7 @@ use lib.ListN.{length, take, drop, getD, length-drop}
 use lib.Seq.{drop-cons, take-all}
 use borrow.Author.Tests.{lt-ltb, le-ltb, eq-eqb, ne-eqb}
 use Rattle.clause.proofs.Tests.{and-l, and-r}
-use Rattle.tree.specs.Keys.{inner, lawful, nextKey}
+use Rattle.tree.specs.Keys.{firstKey, lawful, nextKey}
 use Rattle.tree.specs.Forest.{leaf?}
 use Rattle.tree.specs.Laid.{keyOf, extentOf, usedOf, keptOf, maxKept, row, rows, sound, successes, zeros, wellLaid}
 use Rattle.tree.proofs.Hops.{keyAt, extentAt}
@@ -26,16 +26,16 @@ same-true : (b : Bool) → Bool·beq true b ≡ b
 same-true true = refl
 same-true false = refl
 
-pub sound-success : (w : ℕ) → keyOf w < inner → sound w ≡ eqb (extentOf w) 1
+pub sound-success : (w : ℕ) → keyOf w < firstKey → sound w ≡ eqb (extentOf w) 1
 unfolding lawful
-sound-success w u = rw (lt-ltb (keyOf w) (9 * 2 ^ 32) (omega arith), lt-ltb (keyOf w) inner u) (same-true (eqb (extentOf w) 1))
+sound-success w u = rw (lt-ltb (keyOf w) (9 * 2 ^ 32) (omega arith), lt-ltb (keyOf w) firstKey u) (same-true (eqb (extentOf w) 1))
 
-module _ (w : ℕ) (u : inner ≤ keyOf w) where
+module _ (w : ℕ) (u : firstKey ≤ keyOf w) where
   pub sound-alone : extentOf w ≡ 1 → sound w ≡ false
-  sound-alone e = rw (le-ltb (keyOf w) inner u, eq-eqb (extentOf w) 1 e) (and-false (lawful (keyOf w)))
+  sound-alone e = rw (le-ltb (keyOf w) firstKey u, eq-eqb (extentOf w) 1 e) (and-false (lawful (keyOf w)))
 
   pub sound-inner : (extentOf w ≡ 1 → ⊥) → sound w ≡ lawful (keyOf w)
-  sound-inner e = rw (le-ltb (keyOf w) inner u, ne-eqb (extentOf w) 1 e) (and-true (lawful (keyOf w)))
+  sound-inner e = rw (le-ltb (keyOf w) firstKey u, ne-eqb (extentOf w) 1 e) (and-true (lawful (keyOf w)))
 
 -- ---- a row
 

@@ -6,7 +6,7 @@ use native.Mathlib.Omega.{arith}
 use lib.ListN.{length, take}
 use Rattle.machine.specs.Instr.{Instr, First, Do, Success}
 use Rattle.machine.specs.Machine.{State, next, stuck, step, start, enter, run}
-use Rattle.machine.proofs.Outcomes.{fails≢next, fails≢stuck, bind-next, stuck-again}
+use Rattle.machine.proofs.Effects.{fails≢next, fails≢stuck, bind-next, stuck-again}
 use Rattle.machine.proofs.Codes.{firsts}
 
 module _ (d : List ℕ) where

@@ -13,9 +13,9 @@ use Rattle.clause.specs.Lists.{All, none as all-none, also, alike, numbersBelow
 use Rattle.clause.specs.Clause.{termAt}
 use Rattle.machine.specs.Instr.{Step, Compare, Instr, Do}
 use Rattle.machine.specs.Compile.{first, repeats, compares}
-use Rattle.machine.specs.Machine.{slots, State, Outcome, next, fails, require, compareTerms, sameTerms, stepAt, stepFrom, step, run}
+use Rattle.machine.specs.Machine.{slots, State, Effect, next, fails, require, compareTerms, sameTerms, stepAt, stepFrom, step, run}
 use Rattle.clause.proofs.Lists.{alike-same, alike-refl, all-flatMap, flatMap-all, all-append, all-first, all-last, all-head, all-tail}
-use Rattle.machine.proofs.Outcomes.{fails≢next}
+use Rattle.machine.proofs.Effects.{fails≢next}
 
 -- the numbers below n
 module _ {κ} {P : ℕ → Type κ} where
@@ -88,24 +88,24 @@ module _ {κ} {P : Step → Type κ} (puts : List ℕ) (from : ℕ) where
       all-head (rw e at (numbersBelow-all (length puts) (flatMap-all _ _ (numbersBelow-all (length puts) (flatMap-all _ _ p) m i)) k j))
 
 -- an outcome goes on as r does if P holds, and fails if it does not
-pub data GoesIf (P : Type 0) (o r : Outcome State) : Type 0 where
+pub data GoesIf (P : Type 0) (o r : Effect State) : Type 0 where
   holds : P → o ≡ r → GoesIf P o r
   refuted : (P → ⊥) → o ≡ fails → GoesIf P o r
 
-pub goes-if-iff : {P Q : Type 0} {o r : Outcome State} → (P → Q) → (Q → P) → GoesIf P o r → GoesIf Q o r
+pub goes-if-iff : {P Q : Type 0} {o r : Effect State} → (P → Q) → (Q → P) → GoesIf P o r → GoesIf Q o r
 goes-if-iff f g (holds p e) = holds (f p) e
 goes-if-iff f g (refuted n e) = refuted (λ q. n (g q)) e
 
-pub goes-if-from : {P : Type 0} {o o′ r : Outcome State} → o ≡ o′ → GoesIf P o′ r → GoesIf P o r
+pub goes-if-from : {P : Type 0} {o o′ r : Effect State} → o ≡ o′ → GoesIf P o′ r → GoesIf P o r
 goes-if-from e (holds p f) = holds p (e ∙ f)
 goes-if-from e (refuted n f) = refuted n (e ∙ f)
 
 -- an outcome that can go on does so exactly if P holds
-pub goes-if-next : {P : Type 0} {o : Outcome State} {s t : State} → GoesIf P o (next t) → o ≡ next s → P
+pub goes-if-next : {P : Type 0} {o : Effect State} {s t : State} → GoesIf P o (next t) → o ≡ next s → P
 goes-if-next (holds p e) f = p
 goes-if-next (refuted n e) f = absurd (fails≢next (sym e ∙ f))
 
-pub goes-if-then : {P : Type 0} {o r : Outcome State} → GoesIf P o r → P → o ≡ r
+pub goes-if-then : {P : Type 0} {o r : Effect State} → GoesIf P o r → P → o ≡ r
 goes-if-then (holds p e) q = e
 goes-if-then (refuted n e) q = absurd (n q)
 

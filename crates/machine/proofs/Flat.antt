@@ -15,7 +15,7 @@ use Rattle.clause.specs.Word.{arity, variable, sort-discrete, sort, ifVariable}
 use Rattle.clause.specs.Clause.{Shaped, end, next-word}
 use Rattle.machine.specs.Instr.{Put, Check, Instr, Do}
 use Rattle.machine.specs.Compile.{Saved, Place, ended, inside, way, wayFrom, opening, begun, closing, compares, act, putsAfter, sequenceFrom}
-use Rattle.machine.specs.Machine.{slots, State, Outcome, fails, putting, require, stepAt, stepFrom, step, run}
+use Rattle.machine.specs.Machine.{slots, State, Effect, fails, putting, require, stepAt, stepFrom, step, run}
 use Rattle.clause.proofs.Lists.{length-snoc}
 use Rattle.clause.proofs.Skip.{Enough}
 use Rattle.clause.proofs.Literals.{Clause}
@@ -69,7 +69,7 @@ module _ (d : List ℕ) (sequence : List Instr) (js : List ℕ) (s : State) {c :
 
 module _ (d rest : List ℕ) (from : ℕ) (js : List ℕ) where
   -- the literal is matched, its variables are put, and the machine goes on behind it
-  pub record After (s : State) (k : ℕ) (puts : List ℕ) (o : Outcome State) (ps : List ℕ) : Type 0 where
+  pub record After (s : State) (k : ℕ) (puts : List ℕ) (o : Effect State) (ps : List ℕ) : Type 0 where
     pub state : State
     pub pushed : ℕ
     pub goes : o ≡ run d (map Do (compares puts from) ++ sequenceFrom rest ended puts from pushed) js state
@@ -80,7 +80,7 @@ module _ (d rest : List ℕ) (from : ℕ) (js : List ℕ) where
     pub placed : state .head ≡ some cursor
     pub room : pushed + length rest ≤ slots
 
-  pub data Agrees (s : State) (k : ℕ) (puts : List ℕ) (o : Outcome State) : Option (List ℕ) → Type 0 where
+  pub data Agrees (s : State) (k : ℕ) (puts : List ℕ) (o : Effect State) : Option (List ℕ) → Type 0 where
     miss : o ≡ fails → Agrees s k puts o none
     hit : {ps : List ℕ} → After s k puts o ps → Agrees s k puts o (some ps)
 
@@ -101,7 +101,7 @@ module _ (d rest : List ℕ) (from : ℕ) (js : List ℕ) where
   unmoved = record { chosen = refl; puts = refl; pushes = refl }
 
   -- what comes after a later state comes after an earlier one
-  after-from : {s t : State} {k k′ : ℕ} {puts : List ℕ} {o o′ : Outcome State} (ps ps′ : List ℕ) → o ≡ o′ → t .chosen ≡ s .chosen
+  after-from : {s t : State} {k k′ : ℕ} {puts : List ℕ} {o o′ : Effect State} (ps ps′ : List ℕ) → o ≡ o′ → t .chosen ≡ s .chosen
       → sets (t .puts) k′ (map some ps′) ≡ sets (s .puts) k (map some ps) → After t k′ puts o′ ps′ → After s k puts o ps
   after-from ps ps′ e c p a =
       record {
@@ -116,12 +116,12 @@ module _ (d rest : List ℕ) (from : ℕ) (js : List ℕ) where
         room = a .room;
       }
 
-  agrees-kept : {r : Option (List ℕ)} {s t : State} {k : ℕ} {puts : List ℕ} {o o′ : Outcome State} → KeepsPuts s t → o ≡ o′ → Agrees t k puts o′ r
+  agrees-kept : {r : Option (List ℕ)} {s t : State} {k : ℕ} {puts : List ℕ} {o o′ : Effect State} → KeepsPuts s t → o ≡ o′ → Agrees t k puts o′ r
       → Agrees s k puts o r
   agrees-kept K e (miss f) = miss (e ∙ f)
   agrees-kept K e (hit {ps} a) = hit {ps = ps} (after-from ps ps e (K .chosen) (rw (K .puts) refl) a)
 
-  agrees-put : (p : ℕ) {r : Option (List ℕ)} {s : State} {k : ℕ} {puts : List ℕ} {o o′ : Outcome State} → o ≡ o′
+  agrees-put : (p : ℕ) {r : Option (List ℕ)} {s : State} {k : ℕ} {puts : List ℕ} {o o′ : Effect State} → o ≡ o′
       → Agrees (putting s k p) (suc k) puts o′ r
       → Agrees s k puts o (Option·map (λ ps. p ∷ ps) r)
   agrees-put p e (miss f) = miss (e ∙ f)

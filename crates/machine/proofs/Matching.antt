@@ -8,10 +8,10 @@ use Rattle.clause.specs.Lists.{All, none as all-none, also}
 use Rattle.clause.specs.Clause.{literals, IsTerm, inst, Subsumes, vars}
 use Rattle.machine.specs.Compile.{sequence}
 use Rattle.machine.specs.Matching.{Choice, Matched, Matching}
-use Rattle.machine.specs.Machine.{State, initial, Outcome, next, fails, run}
+use Rattle.machine.specs.Machine.{State, initial, Effect, next, fails, run}
 use Rattle.clause.proofs.Lists.{mem-index, index-mem}
 use Rattle.clause.proofs.Literals.{Clause, accepted}
-use Rattle.machine.proofs.Outcomes.{fails≢next}
+use Rattle.machine.proofs.Effects.{fails≢next}
 use Rattle.machine.proofs.Agree.{Agree, no-more}
 use Rattle.machine.proofs.Table.{filled, length-unfilled}
 use Rattle.machine.proofs.Fits.{chosen, places, fits-replaces, replaces-fits}
@@ -24,7 +24,7 @@ pub record Makes (c d js : List ℕ) : Type 0 where
   pub made : map (inst replace) (literals c) ≡ map (chosen d) js
 
 -- with these literals the sequence runs to the end, its puts being where the replacing terms are, or fails, and there is no replacement
-pub data Result (c d js : List ℕ) (o : Outcome State) : Type 0 where
+pub data Result (c d js : List ℕ) (o : Effect State) : Type 0 where
   covers : (M : Makes c d js) (ps : List ℕ) → Agree (M .replace) d (vars c) ps → (s : State) → o ≡ next s → s .chosen ≡ js → s .puts ≡ filled ps
       → Result c d js o
   misses : (Makes c d js → ⊥) → o ≡ fails → Result c d js o
@@ -47,7 +47,7 @@ module _ (c d : List ℕ) (C : Clause c) (D : Clause d) (js : List ℕ) (J : Cho
   unfolding sequence
   runs = go (rw (C .whole) at (run-literals d D (literals c) js (C .all) (J .valid) (J .each) [] [] 0 0 initial begins))
     where
-      go : {o : Outcome State} → Ended d (literals c) js [] [] [] o → Result c d js o
+      go : {o : Effect State} → Ended d (literals c) js [] [] [] o → Result c d js o
       go (succeeds F s e q p) =
           let (R, a) = fits-replaces d D F (C .all) (J .valid) refl (λ k i j. absurd (omega arith)) all-none in
           covers (record { replace = R .replace; terms = R .terms; made = R .made }) (places F) (rw (C .whole) at a) s e q p

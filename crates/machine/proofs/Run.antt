@@ -11,7 +11,7 @@ use Rattle.clause.specs.Word.{sort, ifVariable}
 use Rattle.clause.specs.Clause.{literals, maxLiterals, startOf, vars}
 use Rattle.machine.specs.Instr.{Instr, First}
 use Rattle.machine.specs.Compile.{ended, inside, closing, opening, begun, wayFrom, putsAfter, sequenceFrom}
-use Rattle.machine.specs.Machine.{slots, State, Outcome, next, fails, require, starting, start, enter, finishFrom, finish, run}
+use Rattle.machine.specs.Machine.{slots, State, Effect, next, fails, require, starting, start, enter, finishFrom, finish, run}
 use Rattle.clause.proofs.Lists.{all-get, length-snoc}
 use Rattle.clause.proofs.Skip.{shaped-enough}
 use Rattle.clause.specs.Accepted.{IsLiteral}
@@ -48,12 +48,12 @@ unfolding run finish finishFrom
 run-success d js s c e = rw e
 
 -- the literals fit the chosen ones, and their variables are put, or they do not fit
-pub data Ended (d : List ℕ) (ls : List (List ℕ)) (js puts poss taken : List ℕ) (o : Outcome State) : Type 0 where
+pub data Ended (d : List ℕ) (ls : List (List ℕ)) (js puts poss taken : List ℕ) (o : Effect State) : Type 0 where
   succeeds : (F : FitsChosen d ls js puts poss) (s : State) → o ≡ next s → s .chosen ≡ taken ++ js → s .puts ≡ filled (places F)
       → Ended d ls js puts poss taken o
   mismatch : (FitsChosen d ls js puts poss → ⊥) → o ≡ fails → Ended d ls js puts poss taken o
 
-ended-from : {d : List ℕ} {ls : List (List ℕ)} {js puts poss taken : List ℕ} {o o′ : Outcome State} → o ≡ o′ → Ended d ls js puts poss taken o′
+ended-from : {d : List ℕ} {ls : List (List ℕ)} {js puts poss taken : List ℕ} {o o′ : Effect State} → o ≡ o′ → Ended d ls js puts poss taken o′
     → Ended d ls js puts poss taken o
 ended-from e (succeeds F s f c g) = succeeds F s (e ∙ f) c g
 ended-from e (mismatch n f) = mismatch n (e ∙ f)
@@ -110,7 +110,7 @@ module _ (d : List ℕ) (D : Clause d) where
           pushes = B .pushes;
         }
 
-    module _ (o : Outcome State) (ps : List ℕ) (f : flat d l (startOf d j) ≡ some ps)
+    module _ (o : Effect State) (ps : List ℕ) (f : flat d l (startOf d j) ≡ some ps)
         (A : After d (flatten ls) (length puts) js (starting d s j) (length puts) (putsAll puts l) o ps) where
       stored-more : A .state .puts ≡ filled (poss ++ ps)
       stored-more = A .stored ∙ rw (B .stored, B .equal) (filled-more poss ps)
@@ -137,7 +137,7 @@ module _ (d : List ℕ) (D : Clause d) where
 
     -- it fits, and then the others, or it does not
     module _ (rest : Runs ls) (Ls : All IsLiteral ls) (Js : All (λ j. j < length (literals d)) js) (e : length ls ≡ length js) where
-      literal-goes : (o : Outcome State) (r : Option (List ℕ)) → flat d l (startOf d j) ≡ r
+      literal-goes : (o : Effect State) (r : Option (List ℕ)) → flat d l (startOf d j) ≡ r
           → Agrees d (flatten ls) (length puts) js (starting d s j) (length puts) (putsAll puts l) o r
           → Ended d (l ∷ ls) (j ∷ js) puts poss (s .chosen) o
       unfolding places
@@ -145,7 +145,7 @@ module _ (d : List ℕ) (D : Clause d) where
       literal-goes o (some ps) f (hit A) =
           go (literal-compares o ps f A) (rest js Ls Js e (puts ++ vars l) (poss ++ ps) (length puts) (A .pushed) (A .state) (begins-next o ps f A))
         where
-          go : {o′ : Outcome State} → GoesIf (Consistent d (puts ++ vars l) (poss ++ ps) (length puts)) o o′
+          go : {o′ : Effect State} → GoesIf (Consistent d (puts ++ vars l) (poss ++ ps) (length puts)) o o′
               → Ended d ls js (puts ++ vars l) (poss ++ ps) (A .state .chosen) o′ → Ended d (l ∷ ls) (j ∷ js) puts poss (s .chosen) o
           go (refuted n g) h = mismatch (λ F. n (fits-first ps f F .0)) g
           go (holds c g) (succeeds F t h q p) = succeeds (fits-also f c F) t (g ∙ h) (q ∙ rw (A .chosen) (append-assoc (s .chosen) (j ∷ []) js)) p

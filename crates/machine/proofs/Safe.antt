@@ -10,12 +10,12 @@ use lib.ListN.{length, getD, set}
 use lib.Seq.{getD-set-same, getD-set-other, set-out}
 use Rattle.clause.specs.Clause.{literals, startOf}
 use Rattle.machine.specs.Instr.{Step, Down, Right, Put, Push, Pop, Check, Compare}
-use Rattle.machine.specs.Machine.{onto, down, right, State, initial, headed, pushing, given, Outcome, next, fails, stuck, require, compareTerms}
+use Rattle.machine.specs.Machine.{onto, down, right, State, initial, headed, pushing, given, Effect, next, fails, stuck, require, compareTerms}
 use Rattle.machine.specs.Machine.{stepAt, stepFrom, step, starting}
 use Rattle.machine.specs.inner.Safe.{Safe}
 use Rattle.clause.proofs.Literals.{Clause}
 use Rattle.clause.proofs.Siblings.{enough-start, down-inside, right-inside}
-use Rattle.machine.proofs.Outcomes.{fails≢next, stuck≢next}
+use Rattle.machine.proofs.Effects.{fails≢next, stuck≢next}
 use Rattle.machine.proofs.Table.{unfilled-get}
 use Rattle.clause.proofs.Jump.{enough-here}
 
@@ -48,7 +48,7 @@ set-entry P l n x p h k a e = go (ℕ-discrete k n) (decLt n (length l))
     go (yes q) (no b) = h k a (rw (set-out l n (some x) (omega arith)) at e)
 
 -- an outcome that goes on had its test passed, or its position given
-goes : (o : Outcome State) (b : Bool) (r : Outcome State) {t : State} → ((t : State) → o ≡ next t → ⊥) → require o b r ≡ next t → r ≡ next t
+goes : (o : Effect State) (b : Bool) (r : Effect State) {t : State} → ((t : State) → o ≡ next t → ⊥) → require o b r ≡ next t → r ≡ next t
 unfolding require
 goes o true r n e = e
 goes o false r n e = absurd (n _ e)
@@ -59,7 +59,7 @@ given-next none f e = absurd (stuck≢next e)
 given-next (some c) f e = (c, refl, cc)
 
 module _ (d : List ℕ) (D : Clause d) (s : State) (S : Safe d s) where
-  becomes : {r : Outcome State} {t u : State} → r ≡ next t → r ≡ next u → Safe d u → Safe d t
+  becomes : {r : Effect State} {t u : State} → r ≡ next t → r ≡ next u → Safe d u → Safe d t
   becomes {t = t} {u} e f h = let g : u ≡ t = cc in rw g at h
 
   headed-safe : (c : ℕ) → c < length d → Safe d (headed s c)

@@ -44,12 +44,12 @@ abbrev pub initial : State
 initial = record { chosen = []; head = none; puts = unfilled; pushes = unfilled }
 
 -- what a step comes to: the next state, a mismatch, or a step that cannot be taken
-pub data Outcome (S : Type 0) : Type 0 where
-  next : S → Outcome S
-  fails stuck : Outcome S
+pub data Effect (S : Type 0) : Type 0 where
+  next : S → Effect S
+  fails stuck : Effect S
 
 -- an outcome, then what follows a next state
-abbrev pub bind : {S : Type 0} → Outcome S → (S → Outcome S) → Outcome S
+abbrev pub bind : {S : Type 0} → Effect S → (S → Effect S) → Effect S
 bind (next s) f = f s
 bind fails f = fails
 bind stuck f = stuck
@@ -67,17 +67,17 @@ abbrev pub pushing : State → ℕ → ℕ → State
 pushing s n p = record { chosen = s .chosen; head = s .head; puts = s .puts; pushes = set (s .pushes) n (some p) }
 
 -- go on with a position if there is one
-unfoldable pub given : Option ℕ → (ℕ → State) → Outcome State
+unfoldable pub given : Option ℕ → (ℕ → State) → Effect State
 given none f = stuck
 given (some p) f = next (f p)
 
 -- go on if the test passes
-unfoldable pub require : Outcome State → Bool → Outcome State → Outcome State
+unfoldable pub require : Effect State → Bool → Effect State → Effect State
 require o true r = r
 require o false r = o
 
 -- the number of a Put, Push, Pop or Compare is below `slots`
-abbrev pub within : ℕ → Outcome State → Outcome State
+abbrev pub within : ℕ → Effect State → Effect State
 within n r = require stuck (ltb n slots) r
 
 -- the whole terms at two positions are equal
@@ -85,13 +85,13 @@ unfoldable pub sameTerms : List ℕ → ℕ → ℕ → Bool
 sameTerms d p q = alike (termAt d p) (termAt d q)
 
 -- Compare with the two positions put
-unfoldable pub compareTerms : List ℕ → State → Option ℕ → Option ℕ → Outcome State
+unfoldable pub compareTerms : List ℕ → State → Option ℕ → Option ℕ → Effect State
 compareTerms d s none q = stuck
 compareTerms d s (some p) none = stuck
 compareTerms d s (some p) (some q) = require fails (sameTerms d p q) (next s)
 
 -- one step with the head at position p
-unfoldable pub stepAt : List ℕ → Step → State → ℕ → Outcome State
+unfoldable pub stepAt : List ℕ → Step → State → ℕ → Effect State
 stepAt d Down s p = given (down d p) (headed s)
 stepAt d Right s p = given (right d p) (headed s)
 stepAt d (Put k) s p = within k (next (putting s k p))
@@ -101,12 +101,12 @@ stepAt d (Check w) s p = require fails (eqb (getD d p 0) w) (next s)
 stepAt d (Compare m k) s p = within m (within k (compareTerms d s (getD (s .puts) m none) (getD (s .puts) k none)))
 
 -- before a candidate no step can be taken
-unfoldable pub stepFrom : List ℕ → Step → State → Option ℕ → Outcome State
+unfoldable pub stepFrom : List ℕ → Step → State → Option ℕ → Effect State
 stepFrom d x s none = stuck
 stepFrom d x s (some p) = stepAt d x s p
 
 -- one step
-unfoldable pub step : List ℕ → Step → State → Outcome State
+unfoldable pub step : List ℕ → Step → State → Effect State
 step d x s = stepFrom d x s (s .head)
 
 -- literal j as the next candidate
@@ -115,25 +115,25 @@ starting d s j = record { chosen = s .chosen ++ (j ∷ []); head = some (startOf
 
 -- First with literal j: a ninth cannot be taken. It never fails: that outcome, of a literal that is passed over uncounted, is there only for
 -- machines that do not take a literal twice
-unfoldable pub enter : List ℕ → ℕ → State → Outcome State
+unfoldable pub enter : List ℕ → ℕ → State → Effect State
 enter d j s = require stuck (ltb (length (s .chosen)) maxLiterals) (next (starting d s j))
 
 -- Success with the head, if there is one
-unfoldable pub finishFrom : State → Option ℕ → Outcome State
+unfoldable pub finishFrom : State → Option ℕ → Effect State
 finishFrom s none = stuck
 finishFrom s (some p) = next s
 
 -- Success, which cannot come before a candidate
-unfoldable pub finish : State → Outcome State
+unfoldable pub finish : State → Effect State
 finish s = finishFrom s (s .head)
 
 -- First with the next of some candidates
-unfoldable pub start : List ℕ → List ℕ → State → (List ℕ → State → Outcome State) → Outcome State
+unfoldable pub start : List ℕ → List ℕ → State → (List ℕ → State → Effect State) → Effect State
 start d [] s rest = fails
 start d (j ∷ js) s rest = bind (enter d j s) (rest js)
 
 -- the instructions one after another, with the candidates that are given, and Success at the end
-unfoldable pub run : List ℕ → List Instr → (candidates : List ℕ) → State → Outcome State
+unfoldable pub run : List ℕ → List Instr → (candidates : List ℕ) → State → Effect State
 run d [] js s = finish s
 run d (First ∷ sequence) js s = start d js s (run d sequence)
 run d (Do x ∷ sequence) js s = bind (step d x s) (run d sequence js)

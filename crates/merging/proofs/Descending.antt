@@ -11,7 +11,7 @@ use lib.Dec.{T}
 use lib.ListN.{length, take, drop, getD, set, length-append, length-drop, length-set, take-append-drop, drop-of-length-le}
 use lib.Seq.{drop-cons, drop-drop, length-take-le, getD-append-seam, set-at, append-snoc}
 use borrow.Author.Tests.{lt-ltb, le-ltb}
-use Rattle.tree.specs.Keys.{inner, nextKey}
+use Rattle.tree.specs.Keys.{firstKey, nextKey}
 use Rattle.tree.specs.Forest.{wordLimit, success}
 use Rattle.tree.specs.Laid.{mostWords, row, rows}
 use Rattle.tree.specs.inner.Merge.{Descent, stop, behind, descend, fromTop}
@@ -23,11 +23,11 @@ use Rattle.tree.proofs.Descend.{behind-none, behind-behind}
 use Rattle.tree.proofs.Hops.{keyAt, extentAt, Firm, firm-at, descend-stop, descend-dive, descend-hop, descend-found, descend-done}
 
 -- a key that is a Success, and one that is none
-pub is-success : (x k : ℕ) → x ≡ k → x < inner → success k ≡ some x
-is-success x k e h = rw (lt-ltb k inner (omega arith), success) (ap some (sym e))
+pub is-success : (x k : ℕ) → x ≡ k → x < firstKey → success k ≡ some x
+is-success x k e h = rw (lt-ltb k firstKey (omega arith), success) (ap some (sym e))
 
-pub not-success : (k : ℕ) → inner ≤ k → success k ≡ none
-not-success k h = rw (le-ltb k inner h, success)
+pub not-success : (k : ℕ) → firstKey ≤ k → success k ≡ none
+not-success k h = rw (le-ltb k firstKey h, success)
 
 -- ---- the invariant
 

@@ -9,7 +9,7 @@ use lib.Dec.{leb}
 use lib.ListN.{length, getD, take, drop, replicate}
 use lib.Seq.{drop-cons, take-at}
 use borrow.Author.Tests.{leb-true}
-use Rattle.tree.specs.Keys.{inner}
+use Rattle.tree.specs.Keys.{firstKey}
 use Rattle.tree.specs.Forest.{Forest, size, encode, layout, find}
 use Rattle.tree.specs.Laid.{leastWords, mostWords, sized, usedOf, wellLaid, region, row, rows, decode}
 use Rattle.tree.specs.Laws.{Stands}
@@ -82,6 +82,6 @@ module _ (T : List ℕ) (s : sized T ≡ true) (w : wellLaid T ≡ true) where
       }
 
   -- a number that the forest does not have stands nowhere in the used words
-  pub number-free : (n : ℕ) → n < inner → find n (decode T) ≡ none → locate (region T) n 0 0 0 ≡ none
+  pub number-free : (n : ℕ) → n < firstKey → find n (decode T) ≡ none → locate (region T) n 0 0 0 ≡ none
   unfolding F
   number-free n l e = ap (λ (l : List ℕ). locate l n 0 0 0) whole ∙ locate-none n F l (stands .formed) small e

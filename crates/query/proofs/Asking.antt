@@ -19,7 +19,7 @@ use Rattle.tree.specs.declared.Refusal.the-variants.{BadSlice, Broken, ShortWit
 use Rattle.tree.specs.Laid.{usedOf, region, sized}
 use Rattle.walk.specs.Walk.{Answer, covered, notCovered, spent, broken, upTo}
 use Rattle.walk.specs.Words.{walkWords}
-use Rattle.walk.specs.Query.{witnessWords, machine, unanswered, told, walkSlice, queryAs, query}
+use Rattle.walk.specs.Query.{witnessWords, machine, unanswered, answerBy, walkSlice, queryAs, query}
 use Rattle.cells.specs.inner.Cells.{countAt, cellCount, noPosition, positionIn, placed, stateOf, Tables, Walkable}
 use Rattle.walking.specs.inner.Findings.{seen}
 use Rattle.query.specs.inner.Telling.{toldOut, refusalOf}
@@ -35,8 +35,8 @@ fresh-state = refl
 pub fresh-ready : {d t : List ℕ} → Accepted d → Tables d t → Walkable d t noPosition fresh
 fresh-ready {d} A T = record { whole = A; tables = T; safe = rw fresh-state (initial-safe d); size = refl; few = omega arith }
 
--- what is told of an answer is told of what is seen of it
-told-seen : (b : ℕ) (W : List ℕ) (a : Answer State) → toldOut b W (seen a) ≡ told b W a
+-- what an answer comes to is what comes of what is seen of it
+told-seen : (b : ℕ) (W : List ℕ) (a : Answer State) → toldOut b W (seen a) ≡ answerBy b W a
 unfolding toldOut seen
 told-seen b W (covered n s c) = refl
 told-seen b W (notCovered c) = refl
@@ -49,7 +49,7 @@ used-part [] h e = absurd (omega arith)
 used-part (w ∷ ws) h {e} f = let n : e - 1 ≡ usedOf w = omega arith in rw n
 
 pub searched : (T d : List ℕ) (b : ℕ) (W : List ℕ) → 1 ≤ length T → {e : ℕ} → e ≡ usedOf (getD T 0 0) + 1
-    → toldOut b W (seen (walkWords (machine d) (upTo b) (take (e - 1) (drop 1 T)) (stateOf noPosition fresh) 0)) ≡ told b W (walkSlice T d b)
+    → toldOut b W (seen (walkWords (machine d) (upTo b) (take (e - 1) (drop 1 T)) (stateOf noPosition fresh) 0)) ≡ answerBy b W (walkSlice T d b)
 searched T d b W h f = rw (used-part T h f, fresh-state) (told-seen b W (walkSlice T d b))
 
 -- the tests one after another
@@ -78,5 +78,5 @@ module _ (S d : List ℕ) (b : ℕ) (W : List ℕ) where
         pub query-header : {u : ℕ} → u ≡ usedOf (getD S 0 0) → length S - 1 < u → unanswered Broken W ≡ query S d b W
         query-header e h = rw (query-sized, whole, le-ltb (length W) witnessWords room, lt-ltb (length S - 1) (usedOf (getD S 0 0)) (omega arith))
 
-        pub query-walk : {u : ℕ} → u ≡ usedOf (getD S 0 0) → u ≤ length S - 1 → told b W (walkSlice S d b) ≡ query S d b W
+        pub query-walk : {u : ℕ} → u ≡ usedOf (getD S 0 0) → u ≤ length S - 1 → answerBy b W (walkSlice S d b) ≡ query S d b W
         query-walk e h = rw (query-sized, whole, le-ltb (length W) witnessWords room, le-ltb (length S - 1) (usedOf (getD S 0 0)) (omega arith))

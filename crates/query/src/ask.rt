@@ -95,7 +95,7 @@ fn search(tree: &[u64], words: &[u16], budget: u64, witness: &mut [u16]) -> Quer
     requires { ⌜ Accepted (now words) × (1 ≤ length (now tree)) × (usedOf (getD (now tree) 0 0) ≤ length (now tree) - 1)
         × (witnessWords ≤ length (now witness)) ⌝ }
     ensures { λ r. ⌜ record { answer = r; witness = now (witness .exit) }
-        ≡ q.told budget (now (witness .entry)) (q.walkSlice (now (tree .entry)) (now (words .entry)) budget) ⌝ }
+        ≡ q.answerBy budget (now (witness .entry)) (q.walkSlice (now (tree .entry)) (now (words .entry)) budget) ⌝ }
 {
     let clause = Clause::of(words);
     let tables = clause.tables;

@@ -17,12 +17,13 @@ use Rattle.machine.specs.Compile.{keys}
 use Rattle.machine.specs.Machine.{State, initial}
 use Rattle.tree.specs.Forest.{Forest, size, leaves, layout, ins, find, holder, Has, Body, Free}
 use Rattle.tree.specs.Laid.{maxKept, usedOf}
-use Rattle.tree.specs.Entries.{Pair, Sound, entry, Mirrors, Apart, build}
+use Rattle.tree.specs.Entries.{Pair, Sound, entry, Mirrors, build}
+use Rattle.tree.specs.inner.Books.{Apart}
 use Rattle.tree.specs.Changes.{Change, refuse, change, insertInto}
 use Rattle.tree.specs.Calls.{Called, changed}
 use Rattle.tree.specs.Refusal.{codeOf}
 use Rattle.walk.specs.Walk.{Answer, covered, notCovered, spent, broken, upTo, walk}
-use Rattle.walk.specs.Query.{machine, witnessWords, told, query}
+use Rattle.walk.specs.Query.{machine, witnessWords, answerBy, query}
 use Rattle.walk.specs.Covering.{Subsumed, Shows, candidates, IsCovered, IsNotCovered, IsSpent, Answers}
 use Rattle.book.specs.Book.{insert, Fit, AllFit, after, bookStep, bookFrom, treeOf}
 use Rattle.record.specs.Answer.{budget, treeWords, Record, insertedAs, answerAs, answerTo, callsOn, callsFor}
@@ -296,7 +297,7 @@ module _ (K : List Pair) (F : Forest) (h : Holds treeWords K F) (x : Record) (f 
 -- ---- the record
 
 -- what the walk answers where the query is answered covered
-told-covered : (b : ℕ) (W : List ℕ) (a : Answer State) (n k : ℕ) → told b W a .answer ≡ Covered n k → (t : State) × (a ≡ covered n t k)
+told-covered : (b : ℕ) (W : List ℕ) (a : Answer State) (n k : ℕ) → answerBy b W a .answer ≡ Covered n k → (t : State) × (a ≡ covered n t k)
 told-covered b W (covered m t l) n k e = let i : m ≡ n = cc in let j : l ≡ k = cc in (t, rw (i, j))
 told-covered b W (notCovered c) n k e = apart cc
 told-covered b W spent n k e = apart cc
@@ -346,7 +347,7 @@ module _ (K : List Pair) (h : Holds treeWords K (treeOf K)) (x : Record) (f : Fi
           kept = m;
           number = i;
           subsumes = shows-subsumes (p .clause) (x .words) _ shows;
-          shows = rw (ap (λ y. y .witness) over ∙ ap (λ a. told budget W a .witness) w) at shows;
+          shows = rw (ap (λ y. y .witness) over ∙ ap (λ a. answerBy budget W a .witness) w) at shows;
         }
 
     fate-new : (k : ℕ) → query T (x .words) budget W .answer ≡ NotCovered k → Uncovered K x

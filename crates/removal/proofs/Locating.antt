@@ -9,7 +9,7 @@ use native.Mathlib.Omega.{arith}
 use lib.Dec.{eqb}
 use lib.ListN.{length, drop, getD, drop-of-length-le}
 use borrow.Author.Tests.{eq-eqb, ne-eqb, eqb-true, eqb-false}
-use Rattle.tree.specs.Keys.{inner}
+use Rattle.tree.specs.Keys.{firstKey}
 use Rattle.tree.specs.Forest.{leaf?}
 use Rattle.tree.specs.Laid.{keyOf, extentOf, successes}
 use Rattle.tree.specs.inner.Cut.{Span, begin, locate}
@@ -53,13 +53,13 @@ begin-le w at from up h = go (eqb up (suc (extentOf w)))
     go true = h
     go false = omega arith
 
-found-here : (w : ℕ) (ws : List ℕ) (n at from up : ℕ) (s : Span) → n < inner → from ≤ at → keyOf w ≡ n → locate (w ∷ ws) n at from up ≡ some s → Found (w ∷ ws) at s
+found-here : (w : ℕ) (ws : List ℕ) (n at from up : ℕ) (s : Span) → n < firstKey → from ≤ at → keyOf w ≡ n → locate (w ∷ ws) n at from up ≡ some s → Found (w ∷ ws) at s
 found-here w ws n at from up s l h q e =
     let one : leaf? (keyOf w) ≡ 1 = leaf-number (keyOf w) (omega arith) in
     let hit : some (record { place = begin w at from up; last = at }) ≡ some s = sym (locate-hit w ws n at from up q) ∙ e in
     subst (Found (w ∷ ws) at) (cc) (record { order = begin-le w at from up h; inside = omega arith; counted = omega arith })
 
-pub found : (ws : List ℕ) (n at from up : ℕ) (s : Span) → n < inner → from ≤ at → locate ws n at from up ≡ some s → Found ws at s
+pub found : (ws : List ℕ) (n at from up : ℕ) (s : Span) → n < firstKey → from ≤ at → locate ws n at from up ≡ some s → Found ws at s
 found [] n at from up s l h e = apart cc
 found (w ∷ ws) n at from up s l h e = go (eqb (keyOf w) n) refl (found ws n (suc at) (begin w at from up) (extentOf w) s l)
   where

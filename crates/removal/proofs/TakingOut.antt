@@ -12,7 +12,7 @@ use lib.ListN.{length, take, drop, getD, set, replicate, length-append, length-d
 use lib.Seq.{length-take-le, take-all, take-at, drop-at, take-take, drop-drop}
 use borrow.Author.Tests.{leb-true, ltb-false, ne-eqb}
 use borrow.Rule.Slice.PartMut.{putMid}
-use Rattle.tree.specs.Keys.{inner}
+use Rattle.tree.specs.Keys.{firstKey}
 use Rattle.tree.specs.Laid.{leastWords, mostWords, oneLess, extentOf, usedOf, keptOf, rows, sized, wellLaid}
 use Rattle.tree.specs.inner.Cut.{Span, locate, lower, cut}
 use Rattle.removal.specs.inner.Close.{Lowerable, Removable, closeUp, takenOut}
@@ -36,7 +36,7 @@ length-lower (w ∷ ws) (suc d) r = ap suc (length-lower ws d r)
 rows-high : (ws : List ℕ) → T (rows ws) → Lowerable ws (2 ^ 60)
 rows-high [] t p h = absurd (omega arith)
 rows-high (w ∷ ws) t zero h =
-    let u = rows-under w ws t in omega (arith, ltb-false (w / 2 ^ 28) inner (u .ends ∙ ne-eqb (extentOf w) 1 (omega arith)))
+    let u = rows-under w ws t in omega (arith, ltb-false (w / 2 ^ 28) firstKey (u .ends ∙ ne-eqb (extentOf w) 1 (omega arith)))
 rows-high (w ∷ ws) t (suc p) h = rows-high ws (rows-under w ws t .rest) p h
 
 lowerable-take : (k : ℕ) (ws : List ℕ) (r : ℕ) → Lowerable ws r → Lowerable (take k ws) r
@@ -126,7 +126,7 @@ record Hit (h : ℕ) (ws : List ℕ) (n : ℕ) (s : Span) : Type 0 where
   inside : s .last < usedOf h
   kept : 1 ≤ keptOf h
 
-hit : (h : ℕ) (ws : List ℕ) (n : ℕ) (s : Span) → n < inner → wellLaid (h ∷ ws) ≡ true → some s ≡ scan (h ∷ ws) n → Hit h ws n s
+hit : (h : ℕ) (ws : List ℕ) (n : ℕ) (s : Span) → n < firstKey → wellLaid (h ∷ ws) ≡ true → some s ≡ scan (h ∷ ws) n → Hit h ws n s
 hit h ws n s l w e =
     let t : Tests h ws = tests h ws (rw w tt) in
     let used : usedOf h + 1 - 1 ≡ usedOf h = omega arith in
@@ -147,12 +147,12 @@ laid-room [] w = apart cc
 laid-room (h ∷ ws) w = omega (arith, tests h ws (rw w tt) .room)
 
 -- what is found is among them
-pub hit-order : (t : List ℕ) (n : ℕ) (s : Span) → n < inner → wellLaid t ≡ true → some s ≡ scan t n → (s .place ≤ s .last) × (s .last < usedOf (getD t 0 0))
+pub hit-order : (t : List ℕ) (n : ℕ) (s : Span) → n < firstKey → wellLaid t ≡ true → some s ≡ scan t n → (s .place ≤ s .last) × (s .last < usedOf (getD t 0 0))
 hit-order [] n s l w e = apart cc
 hit-order (h ∷ ws) n s l w e = let f : Hit h ws n s = hit h ws n s l w e in (f .order, f .inside)
 
 -- what is found in a well-laid slice can be taken out, and so can fewer words
-pub removable : (t : List ℕ) (n : ℕ) (s : Span) (gone : ℕ) → gone ≤ s .last + 1 - s .place → length t ≤ mostWords → n < inner
+pub removable : (t : List ℕ) (n : ℕ) (s : Span) (gone : ℕ) → gone ≤ s .last + 1 - s .place → length t ≤ mostWords → n < firstKey
     → wellLaid t ≡ true → some s ≡ scan t n → Removable t (s .place) gone
 removable [] n s gone q u l w e = apart cc
 removable (h ∷ ws) n s gone q u l w e =
@@ -168,7 +168,7 @@ removable (h ∷ ws) n s gone q u l w e =
     }
 
 -- and this is removal
-pub removed : (t : List ℕ) (n : ℕ) (s : Span) → n < inner → wellLaid t ≡ true → some s ≡ scan t n
+pub removed : (t : List ℕ) (n : ℕ) (s : Span) → n < firstKey → wellLaid t ≡ true → some s ≡ scan t n
     → _≡_ {A = Called} (record { answer = Removed; slice = takenOut t (s .place) (s .last + 1 - s .place) }) (removeByWords t n)
 unfolding removeByWords
 removed [] n s l w e = apart cc

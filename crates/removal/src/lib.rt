@@ -18,14 +18,14 @@ ghost use Rattle.tree.specs.inner.ByWords.{removeByWords};
 mod close;
 
 // The words that go, from the first to the last of them.
-pub struct Run {
+pub struct Stretch {
     pub place: usize,
     pub last: usize,
 }
 
 // Where a number stands, with the only children that lead to it.
 pub enum Located {
-    At(Run),
+    At(Stretch),
     Nowhere,
 }
 
@@ -44,7 +44,7 @@ pub(crate) fn locate(words: &[u64], number: u32) -> Located
             from = at;
         }
         if key(w) == wanted {
-            return Located::At(Run {
+            return Located::At(Stretch {
                 place: from,
                 last: at,
             });

@@ -17,11 +17,12 @@ use Rattle.clause.proofs.Apart.{apart}
 use Rattle.clause.proofs.Literals.{accepted}
 use Rattle.clause.proofs.Ends.{jump-from, jump-le, term-part}
 use Rattle.clause.proofs.Siblings.{right-inside}
-use Rattle.machine.specs.Machine.{slots, State, Outcome, onto, down, right, next, fails, given, headed}
+use Rattle.machine.specs.Machine.{slots, State, Effect, onto, down, right, next, fails, given, headed}
 use Rattle.machine.specs.Machine.{putting, pushing, require, within, sameTerms, compareTerms, stepAt, stepFrom, step, finish, finishFrom}
 use Rattle.machine.specs.Instr.{Step, Down, Right, Put, Push, Pop, Check, Compare, Instr, First, Do, Success, instruction}
 use Rattle.walk.specs.Words.{extends}
-use Rattle.cells.specs.inner.Cells.{putsAt, pushesAt, endsAt, rightsAt, cellCount, noPosition, undoBase, countIn}
+use Rattle.clause.specs.inner.Tables.{atEnds, atSiblings}
+use Rattle.cells.specs.inner.Cells.{putsAt, pushesAt, cellCount, noPosition, undoBase, countIn}
 use Rattle.cells.specs.inner.Cells.{positionIn, placed, stateOf, Tables, Walkable}
 use Rattle.stepping.specs.inner.Visits.{Met, past, bad, hit, firsts, stepped, reached, withWords, metAs, meeting, metOf, stores, plain, store, Visited}
 use Rattle.stepping.specs.declared.Go.{Go}
@@ -54,7 +55,7 @@ unfolding metOf stepped given
 moved-some h l n = rw (place-some n)
 
 -- a number that is no slot
-pub over : (k : ℕ) (o : Outcome State) → slots ≤ k → bad ≡ stepped (within k o)
+pub over : (k : ℕ) (o : Effect State) → slots ≤ k → bad ≡ stepped (within k o)
 unfolding metOf stepped require
 over k o h = rw (le-ltb k slots h)
 
@@ -78,11 +79,11 @@ pub down-below : (d : List ℕ) (h : ℕ) (l : List ℕ) → (h < length d) × (
 down-below d h l p n = moved-some h l {to = h + 1} (λ z. omega (arith, p)) ∙ ap (λ (o : Option ℕ). stepped (given o (headed (stateOf h l)))) (down-some d h (omega (arith, p)) n)
 
 module _ (d t : List ℕ) (h : ℕ) (l : List ℕ) (R : Walkable d t h l) (inside : h < length d) where
-  pub right-none : getD t (rightsAt + h) 0 ≡ 0 → positionIn noPosition ≡ right d h
+  pub right-none : getD t (atSiblings + h) 0 ≡ 0 → positionIn noPosition ≡ right d h
   unfolding right onto
   right-none e = rw (sym (R .tables .rights h inside) ∙ e) (place-none refl)
 
-  pub right-some : (getD t (rightsAt + h) 0 ≡ 0 → ⊥) → {x : ℕ} → x ≡ getD t (endsAt + h) 0 → (positionIn x ≡ right d h) × (x < maxWords)
+  pub right-some : (getD t (atSiblings + h) 0 ≡ 0 → ⊥) → {x : ℕ} → x ≡ getD t (atEnds + h) 0 → (positionIn x ≡ right d h) × (x < maxWords)
   unfolding right onto
   right-some n e =
       let r : rights d h ≡ suc (rights d h - 1) = omega (arith, R .tables .rights h inside) in
@@ -90,10 +91,10 @@ module _ (d t : List ℕ) (h : ℕ) (l : List ℕ) (R : Walkable d t h l) (insid
       let w = few-words R in
       (rw (e, R .tables .ends h inside, r) (place-some {x = jump d 1 h} (λ z. omega arith)), rw (e, R .tables .ends h inside) (omega arith))
 
-  pub right-stuck : getD t (rightsAt + h) 0 ≡ 0 → bad ≡ stepped (given (right d h) (headed (stateOf h l)))
+  pub right-stuck : getD t (atSiblings + h) 0 ≡ 0 → bad ≡ stepped (given (right d h) (headed (stateOf h l)))
   right-stuck e = moved-none h l {to = noPosition} refl ∙ ap (λ (o : Option ℕ). stepped (given o (headed (stateOf h l)))) (right-none e)
 
-  pub right-below : (getD t (rightsAt + h) 0 ≡ 0 → ⊥) → {x : ℕ} → x ≡ getD t (endsAt + h) 0 → metOf Below (stateOf x l) ≡ stepped (given (right d h) (headed (stateOf h l)))
+  pub right-below : (getD t (atSiblings + h) 0 ≡ 0 → ⊥) → {x : ℕ} → x ≡ getD t (atEnds + h) 0 → metOf Below (stateOf x l) ≡ stepped (given (right d h) (headed (stateOf h l)))
   right-below n {x} e =
       let r = right-some n {x = x} e in
       moved-some h l {to = x} (λ z. omega (arith, r .1)) ∙ ap (λ (o : Option ℕ). stepped (given o (headed (stateOf h l)))) (r .0)
@@ -141,7 +142,7 @@ check-other s a b n = rw (ne-eqb a b n)
 
 -- Compare
 -- the part that a term is
-module _ (d t : List ℕ) (T : Tables d t) (p : ℕ) (h : p < length d) {e : ℕ} (f : e ≡ getD t (endsAt + p) 0) where
+module _ (d t : List ℕ) (T : Tables d t) (p : ℕ) (h : p < length d) {e : ℕ} (f : e ≡ getD t (atEnds + p) 0) where
   pub part-start : p ≤ e
   part-start = rw (f, T .ends p h) (jump-from d 1 p)
 

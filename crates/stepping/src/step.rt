@@ -5,6 +5,7 @@ use cells::Path;
 use cells::wide;
 use clause::Clause;
 use machine::Key;
+use tree::Tree;
 use tree::extent;
 ghost use mathlib.Core.Path.{_≡_};
 ghost use mathlib.Core.List.{List};
@@ -12,11 +13,12 @@ ghost use mathlib.Core.Logic.{_⊎_};
 ghost use Prim.Native.Nat.{ℕ, _+_, _*_, _≤_, _<_, _/_, _%_, _^_};
 ghost use lib.ListN.{length, getD, set};
 ghost use Rattle.clause.specs.Clause.{maxWords, maxLiterals};
-ghost use Rattle.machine.specs.Instr.{instruction};
+ghost use Rattle.machine.specs.Instr.{operands, instruction};
+ghost use Rattle.tree.specs.Laid.{keyOf};
 ghost use Rattle.machine.specs.Machine.{sameTerms};
 ghost use Rattle.machine.specs.Machine as m;
 ghost use Rattle.stepping.specs.declared.Go.the-variants.{Stuck, Tries, Stored};
-ghost use Rattle.cells.specs.inner.Cells.{countAt, cellCount, noPosition, undoBase, countIn, positionIn, stateOf, Tables, Walkable};
+ghost use Rattle.cells.specs.inner.Cells.{countAt, cellCount, noPosition, undoBase, operationOf, countIn, positionIn, stateOf, Tables, Walkable};
 ghost use Rattle.stepping.specs.inner.Visits.{metSuccess, metFirst, metDown, metRight, metMoved, metPut, metPush, metPop, metCheck, metCompare};
 ghost use Rattle.stepping.specs.inner.Visits.{withWords, metAs, meeting, Visited};
 
@@ -42,22 +44,25 @@ impl Op {
 
     const COMPARE: u64 = Key::COMPARE / Key::OPERANDS;
 
+    // A word has its operation above this.
+    const OPERATIONS: u64 = Key::OPERANDS * Tree::EXTENTS;
+
     // The operand of Compare m k is m × this + k.
     const PAIR: u32 = Key::PAIR as u32;
 }
 
 // The operation of a word.
 fn operation(w: u64) -> u64
-    ensures { λ r. ⌜ r ≡ w / 2 ^ 60 ⌝ }
+    ensures { λ r. ⌜ r ≡ operationOf w ⌝ }
 {
-    w / 0x1000_0000_0000_0000
+    w / Op::OPERATIONS
 }
 
 // The operand of a word.
 pub fn operand(w: u64) -> u32
-    ensures { λ r. ⌜ r ≡ w / 2 ^ 28 % 2 ^ 32 ⌝ }
+    ensures { λ r. ⌜ r ≡ keyOf w % operands ⌝ }
 {
-    (w / 0x1000_0000 % 0x1_0000_0000) as u32
+    (w / Tree::EXTENTS % Key::OPERANDS) as u32
 }
 
 // To the first argument, if there is one.

@@ -20,7 +20,11 @@ use Rattle.intake.specs.declared.Session.{Session}
 use Rattle.intake.proofs.Bytes.{feed-append}
 use Rattle.feeding.proofs.Blocks.{feed-records}
 use Rattle.answering.proofs.Steady.{steady-fresh}
-use Rattle.subsume.specs.Run.{blockBytes, mostBlocks, Buffers, FedSoFar, LastLine}
+use Rattle.subsume.specs.Run.{blockBytes, Buffers, FedSoFar, LastLine}
+
+-- the most blocks of a run: so many that none uses them up, so few that no total passes 64 bits
+abbrev pub mostBlocks : ℕ
+mostBlocks = 140_737_488_355_328
 
 -- where the run is before a block: what was fed, what holds from record to record, and the blocks that may still come
 pub record Running (session : Session) (store : Store) (blocks : ℕ) : Type 0 where

@@ -12,10 +12,6 @@ use Rattle.intake.specs.declared.Session.{Session}
 abbrev pub blockBytes : ℕ
 blockBytes = 16_384
 
--- the most blocks of a run
-abbrev pub mostBlocks : ℕ
-mostBlocks = 140_737_488_355_328
-
 -- the buffers: a block, and an output in which the lines of any block fit
 pub record Buffers (input output : List ℕ) : Type 0 where
   pub block : length input ≡ blockBytes

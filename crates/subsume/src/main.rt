@@ -24,9 +24,9 @@ struct Limit {}
 
 impl Limit {
     // The most bytes of a block.
-    const BLOCK: usize = 16384;
+    const BLOCK: usize = 0x4000;
     // The most blocks. A proved loop has to end, and nothing says that the input does: no run uses them up.
-    const BLOCKS: u64 = 140737488355328;
+    const BLOCKS: u64 = 0x8000_0000_0000;
 }
 
 // What a read gave: how many bytes, and whether more may come.
@@ -36,7 +36,7 @@ struct Got {
 }
 
 // What was fed: the session after it, the place in the output after its lines, and whether they were written.
-struct Fed {
+struct FedBlock {
     session: Session,
     next: usize,
     good: bool,
@@ -91,7 +91,7 @@ fn feed_block(
     marks: &mut [u8],
     words: &mut [u16],
     output: &mut [u8],
-) -> Fed
+) -> FedBlock
     requires { ⌜ Feedable (storeOf (now words) (now tree) (now marks)) (session .totals) (length (now block)) 0 (now output) ⌝ }
     ensures fed { λ r. ⌜ record {
       session = r .session;
@@ -106,7 +106,7 @@ fn feed_block(
     let next = turn.next;
     let good = write_text(&output[..next]);
     let after = turn.session;
-    Fed {
+    FedBlock {
         session: after,
         next: next,
         good: good,
@@ -133,11 +133,11 @@ fn feed_all(
     marks: &mut [u8],
     words: &mut [u16],
     output: &mut [u8],
-) -> Fed
+) -> FedBlock
     requires { ⌜ Buffers (now input) (now output) × (storeOf (now words) (now tree) (now marks) ≡ firstStore) ⌝ }
     ensures { λ r. ⌜ FedSoFar (r .session) (storeOf (now (words .exit)) (now (tree .exit)) (now (marks .exit))) ⌝ }
 {
-    let mut here = Fed {
+    let mut here = FedBlock {
         session: begin(),
         next: 0,
         good: true,

@@ -9,7 +9,7 @@ use lib.Dec.{T, leb, ltb}
 use lib.ListN.{length, getD, drop}
 use borrow.Author.Tests.{leb-true, leb-false, lt-ltb, le-ltb}
 use Rattle.clause.specs.Clause.{shape}
-use Rattle.tree.specs.Keys.{inner}
+use Rattle.tree.specs.Keys.{firstKey}
 use Rattle.tree.specs.Forest.{headerOf, Forest, size, leaves, encode, layout, ins, del, find, holder, WellFormed, Body}
 use Rattle.tree.specs.Laid.{leastWords, mostWords, maxKept, sized, usedOf, wellLaid, decode}
 use Rattle.tree.specs.Entries.{Entry, Pair, entry}
@@ -50,7 +50,7 @@ module _ (len : ℕ) (F : Forest) (f : WellFormed F) (room : size F < len) (high
 
   -- ---- insertion
 
-  module _ (e : Entry) (b : Body (e .keys)) (l : e .number < inner) where
+  module _ (e : Entry) (b : Body (e .keys)) (l : e .number < firstKey) where
     abbrev G : Forest
     G = ins (e .keys) (e .number) F
 
@@ -114,7 +114,7 @@ module _ (len : ℕ) (F : Forest) (f : WellFormed F) (room : size F < len) (high
 
   -- ---- removal
 
-  module _ (n : ℕ) (l : n < inner) where
+  module _ (n : ℕ) (l : n < firstKey) where
     remove-found : (cs : List ℕ) → find n F ≡ some cs → (c : Closes n F)
         → removeAt header (filled len F) (locate (encode F) n 0 0 0) ≡ changed (layout len F) Removed (change (del n F))
     remove-found cs u c =

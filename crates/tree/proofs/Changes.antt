@@ -11,9 +11,10 @@ use lib.Dec.{T, leb, eqb, eqb→eq}
 use lib.ListN.{length}
 use borrow.Author.Tests.{eq-eqb, leb-false}
 use Rattle.clause.specs.Lists.{alike}
-use Rattle.tree.specs.Keys.{inner}
+use Rattle.tree.specs.Keys.{firstKey}
 use Rattle.tree.specs.Forest.{Forest, empty, size, leaves, ins, del, find, holder, Has, Body, Free}
-use Rattle.tree.specs.Entries.{Entry, Listed, Mirrors, Apart, Single, withoutEntry}
+use Rattle.tree.specs.Entries.{Entry, Listed, Mirrors}
+use Rattle.tree.specs.inner.Books.{withoutEntry, Apart, Single}
 use Rattle.tree.specs.Beginnings.{beginnings, different}
 use Rattle.tree.specs.Laid.{maxKept}
 use Rattle.tree.specs.Changes.{refuse, change, insertInto, removeFrom, numbered, varied, refuses}
@@ -114,12 +115,12 @@ pub record Keeps (F : Forest) (K : List Entry) : Type 0 where
 pub keeps-empty : Keeps empty []
 keeps-empty = record { mirrors = mirrors-empty; once = tt; count = refl }
 
-keeps-ins : (F : Forest) (K : List Entry) (e : Entry) → Keeps F K → Body (e .keys) → e .number < inner → ((cs : List ℕ) → Listed K cs (e .number) → ⊥)
+keeps-ins : (F : Forest) (K : List Entry) (e : Entry) → Keeps F K → Body (e .keys) → e .number < firstKey → ((cs : List ℕ) → Listed K cs (e .number) → ⊥)
     → ((m : ℕ) → Listed K (e .keys) m → ⊥) → Keeps (ins (e .keys) (e .number) F) (e ∷ K)
 keeps-ins F K e k b l newWords new =
     record { mirrors = mirrors-ins F K e (k .mirrors) b l new; once = (newWords, k .once); count = ins-leaves (e .keys) (e .number) F b l ∙ ap suc (k .count) }
 
-keeps-del : (F : Forest) (K : List Entry) (n : ℕ) (cs : List ℕ) → Keeps F K → n < inner → find n F ≡ some cs → Keeps (del n F) (withoutEntry n K)
+keeps-del : (F : Forest) (K : List Entry) (n : ℕ) (cs : List ℕ) → Keeps F K → n < firstKey → find n F ≡ some cs → Keeps (del n F) (withoutEntry n K)
 keeps-del F K n cs k l e =
     record {
       mirrors = mirrors-del F K cs n (k .mirrors) (once-single K (k .once)) l kept;
@@ -135,7 +136,7 @@ pub data Removes (F : Forest) (K : List Entry) (n : ℕ) : Type 0 where
   gone : removeFrom F n ≡ change (del n F) → numbered n K ≡ true → Keeps (del n F) (withoutEntry n K) → size (del n F) ≤ size F → Removes F K n
   missing : removeFrom F n ≡ refuse NoSuchNumber → numbered n K ≡ false → Removes F K n
 
-pub removes : (F : Forest) (K : List Entry) (n : ℕ) → n < inner → size F < 2 ^ 28 → Keeps F K → Removes F K n
+pub removes : (F : Forest) (K : List Entry) (n : ℕ) → n < firstKey → size F < 2 ^ 28 → Keeps F K → Removes F K n
 unfolding removeFrom
 removes F K n l h k = go (find n F) refl
   where
@@ -168,7 +169,7 @@ pub data Inserts (len : ℕ) (F : Forest) (K : List Entry) (e : Entry) : Type 0 
   grown : insertInto len F e ≡ change (ins (e .keys) (e .number) F) → refuses len K e ≡ false → Keeps (ins (e .keys) (e .number) F) (e ∷ K)
       → ((m : ℕ) → Listed K (e .keys) m → ⊥) → size (ins (e .keys) (e .number) F) < len → length K < maxKept → Inserts len F K e
 
-module _ (len : ℕ) (e : Entry) (F : Forest) (K : List Entry) (b : Body (e .keys)) (l : e .number < inner) (k : Keeps F K) where
+module _ (len : ℕ) (e : Entry) (F : Forest) (K : List Entry) (b : Body (e .keys)) (l : e .number < firstKey) (k : Keeps F K) where
   insert-taken : (cs : List ℕ) → find (e .number) F ≡ some cs → Inserts len F K e
   unfolding insertInto
   insert-taken cs u =

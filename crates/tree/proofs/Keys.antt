@@ -7,7 +7,7 @@ use native.Mathlib.Nat.{le-of-suc-le-suc, not-suc-le-zero}
 use native.Mathlib.Omega.{arith}
 use lib.Dec.{T, ltb→lt}
 use Rattle.machine.specs.Instr.{instr}
-use Rattle.tree.specs.Keys.{inner, lawful}
+use Rattle.tree.specs.Keys.{firstKey, lawful}
 use Rattle.clause.proofs.Tests.{and-l}
 
 -- how two numbers lie, with the proof
@@ -46,7 +46,7 @@ compare-more (suc a) zero h = compare·suc-zero a
 compare-more (suc a) (suc b) h = compare·suc-suc a b ∙ compare-more a b (le-of-suc-le-suc h)
 
 -- the order of the keys is by operation, then by operand
-pub instr-order : (o a p b : ℕ) → a < inner → b < inner → (instr o a < instr p b) ↔ ((o < p) ⊎ ((o ≡ p) × (a < b)))
+pub instr-order : (o a p b : ℕ) → a < firstKey → b < firstKey → (instr o a < instr p b) ↔ ((o < p) ⊎ ((o ≡ p) × (a < b)))
 instr-order o a p b ha hb = (λ h. to h (tri o p), from)
   where
     to : instr o a < instr p b → Tri o p → (o < p) ⊎ ((o ≡ p) × (a < b))

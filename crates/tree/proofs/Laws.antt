@@ -10,7 +10,7 @@ use lib.Dec.{eqb}
 use lib.ListN.{length}
 use borrow.Author.Tests.{ne-eqb}
 use Rattle.machine.specs.Instr.{key, Success}
-use Rattle.tree.specs.Keys.{inner, nextKey}
+use Rattle.tree.specs.Keys.{firstKey, nextKey}
 use Rattle.tree.specs.Forest.{Forest, empty, node, Formed, WellFormed, Has, find, Free, holder}
 use Rattle.tree.specs.Laid.{wellLaid, decode}
 use Rattle.tree.specs.Entries.{Entry}
@@ -39,7 +39,7 @@ none≢some e = apart cc
 
 -- ---- the first with a number
 
-module _ (n : ℕ) (l : n < inner) where
+module _ (n : ℕ) (l : n < firstKey) where
   first-under : (i : ℕ) (es fs : List Entry)
       → firstWith n (map (under i) es ++ fs) ≡ elim (firstWith n es) [ some cs ↦ some (i ∷ cs) | none ↦ firstWith n fs ]
   first-under i [] fs = refl
@@ -73,7 +73,7 @@ module _ (F : Forest) (f : WellFormed F) where
   free cs none h = (λ e. h, λ g. refl)
   free cs (some k) h = (λ e. absurd (none≢some (sym e)), λ g. absurd (g k h))
 
-  missing : (n : ℕ) → n < inner → (o : Option (List ℕ)) → find n F ≡ o → (find n F ≡ none) ↔ ((cs : List ℕ) → Has F cs n → ⊥)
+  missing : (n : ℕ) → n < firstKey → (o : Option (List ℕ)) → find n F ≡ o → (find n F ≡ none) ↔ ((cs : List ℕ) → Has F cs n → ⊥)
   missing n l none e = (λ u. find-none n F l f u, λ g. e)
   missing n l (some cs) e = (λ u. absurd (none≢some (sym u ∙ e)), λ g. absurd (g cs (find-some n F l f cs e)))
 

@@ -6,14 +6,14 @@ use lib.Dec.{T}
 use borrow.Author.Tests.{lt-ltb, le-ltb, le-leb}
 use Rattle.clause.specs.Lists.{All, none, also}
 use Rattle.machine.specs.Instr.{Down, Right, Put, Push, Pop, Check, Compare, Instr, First, Do, Success, instr, key}
-use Rattle.tree.specs.Keys.{inner, lawful}
+use Rattle.tree.specs.Keys.{firstKey, lawful}
 use Rattle.tree.specs.Forest.{Body}
 use Rattle.machine.proofs.Keys.{Plain}
 
 lawful-operand : (op x : ℕ) → 4 ≤ op → op ≤ 8 → x < 2 ^ 32 → T (lawful (instr op x))
 unfolding lawful
 lawful-operand op x h g l =
-    rw (lt-ltb (instr op x) (9 * 2 ^ 32) (omega arith), le-ltb (instr op x) inner (omega arith), le-leb (4 * 2 ^ 32) (instr op x) (omega arith)) tt
+    rw (lt-ltb (instr op x) (9 * 2 ^ 32) (omega arith), le-ltb (instr op x) firstKey (omega arith), le-leb (4 * 2 ^ 32) (instr op x) (omega arith)) tt
 
 plain-legal : (i : Instr) → Plain i → T (lawful (key i))
 unfolding key lawful
@@ -27,7 +27,7 @@ plain-legal (Do (Check w)) h = lawful-operand 7 w (omega arith) (omega arith) h
 plain-legal (Do (Compare m k)) h = lawful-operand 8 (m * 2 ^ 16 + k) (omega arith) (omega arith) (omega arith)
 plain-legal (Success n) h = absurd h
 
-plain-inner : (i : Instr) → Plain i → inner ≤ key i
+plain-inner : (i : Instr) → Plain i → firstKey ≤ key i
 unfolding key
 plain-inner First h = omega arith
 plain-inner (Do Down) h = omega arith

@@ -3,13 +3,11 @@ use mathlib.Core.Path.{_≡_}
 use mathlib.Core.List.{List, [], _∷_}
 use mathlib.Core.Logic.{_↔_, _⊎_}
 use Prim.Native.Nat.{ℕ, _<_}
-use mathlib.Core.Bool.{true, false}
-use lib.Dec.{eqb}
 use Rattle.clause.specs.Word.{Words}
 use Rattle.clause.specs.Clause.{Accepted}
 use Rattle.machine.specs.Compile.{keys}
-use Rattle.tree.specs.Keys.{inner}
-use Rattle.tree.specs.Forest.{Forest, empty, ins, Has, WellFormed, Body}
+use Rattle.tree.specs.Keys.{firstKey}
+use Rattle.tree.specs.Forest.{Forest, empty, ins, Has, WellFormed}
 
 -- a number and the keys of its sequence
 pub record Entry : Type 0 where
@@ -25,7 +23,7 @@ pub record Pair : Type 0 where
 pub record Sound (p : Pair) : Type 0 where
   pub accepted : Accepted (p .clause)
   pub words : Words (p .clause)
-  pub number : p .number < inner
+  pub number : p .number < firstKey
 
 -- a pair as the tree holds it
 abbrev pub entry : Pair → Entry
@@ -36,11 +34,6 @@ abbrev pub Listed : List Entry → List ℕ → ℕ → Type 0
 Listed [] cs n = ⊥
 Listed (e ∷ K) cs n = ((cs ≡ e .keys) × (n ≡ e .number)) ⊎ Listed K cs n
 
--- the book without a number
-unfoldable pub withoutEntry : ℕ → List Entry → List Entry
-withoutEntry n [] = []
-withoutEntry n (e ∷ K) = elim (eqb (e .number) n) [ true ↦ withoutEntry n K | false ↦ e ∷ withoutEntry n K ]
-
 -- the sequences merged one after another
 abbrev pub build : List Entry → Forest
 build [] = empty
@@ -50,12 +43,3 @@ build (e ∷ K) = ins (e .keys) (e .number) (build K)
 pub record Mirrors (F : Forest) (K : List Entry) : Type 0 where
   pub formed : WellFormed F
   pub paths : (cs : List ℕ) (n : ℕ) → Has F cs n ↔ Listed K cs n
-
--- sequences that a tree can hold, no two of them variants
-abbrev pub Apart : List Entry → Type 0
-Apart [] = Unit {0}
-Apart (e ∷ K) = record { body : Body (e .keys); number : e .number < inner; new : (m : ℕ) → Listed K (e .keys) m → ⊥; rest : Apart K }
-
--- no number stands for two sequences
-abbrev pub Single : List Entry → Type 0
-Single K = (cs ds : List ℕ) (n : ℕ) → Listed K cs n → Listed K ds n → cs ≡ ds

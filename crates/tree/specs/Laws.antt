@@ -9,7 +9,7 @@ use Prim.Native.Nat.{ℕ, _≤_, _<_}
 use lib.Dec.{eqb}
 use lib.ListN.{length}
 use Rattle.machine.specs.Instr.{instr, key, Success}
-use Rattle.tree.specs.Keys.{inner}
+use Rattle.tree.specs.Keys.{firstKey}
 use Rattle.tree.specs.Forest.{Forest, empty, node, size, leaves, extentLimit, layout, WellFormed, Has, ins, find, del, Body, Free, holder}
 use Rattle.tree.specs.Laid.{maxKept, wellLaid, decode}
 use Rattle.tree.specs.Entries.{Entry, Mirrors}
@@ -48,14 +48,14 @@ pub record Paths (F : Forest) : Type 0 where
   pub held : (cs : List ℕ) (m : ℕ) → (holder cs F ≡ some m) ↔ Has F cs m
   pub free : (cs : List ℕ) → (holder cs F ≡ none) ↔ Free cs F
   -- a number is taken when a Success has it; where it stands twice, the first is found
-  pub taken : (n : ℕ) (cs : List ℕ) → n < inner → find n F ≡ some cs → Has F cs n
-  pub missing : (n : ℕ) → n < inner → (find n F ≡ none) ↔ ((cs : List ℕ) → Has F cs n → ⊥)
-  pub first : (n : ℕ) → n < inner → find n F ≡ firstWith n (pathsOf F)
+  pub taken : (n : ℕ) (cs : List ℕ) → n < firstKey → find n F ≡ some cs → Has F cs n
+  pub missing : (n : ℕ) → n < firstKey → (find n F ≡ none) ↔ ((cs : List ℕ) → Has F cs n → ⊥)
+  pub first : (n : ℕ) → n < firstKey → find n F ≡ firstWith n (pathsOf F)
   -- insertion adds a path
-  pub inserted : (cs : List ℕ) (n : ℕ) → Body cs → n < inner → Free cs F
+  pub inserted : (cs : List ℕ) (n : ℕ) → Body cs → n < firstKey → Free cs F
       → WellFormed (ins cs n F) × ((ds : List ℕ) (m : ℕ) → Has (ins cs n F) ds m ↔ (((ds ≡ cs) × (m ≡ n)) ⊎ Has F ds m))
   -- removal takes out the path that is found
-  pub removed : (n : ℕ) (cs : List ℕ) → n < inner → find n F ≡ some cs
+  pub removed : (n : ℕ) (cs : List ℕ) → n < firstKey → find n F ≡ some cs
       → WellFormed (del n F) × ((ds : List ℕ) (m : ℕ) → Has (del n F) ds m ↔ (Has F ds m × (((ds ≡ cs) × (m ≡ n)) → ⊥)))
   -- no other well-formed forest has the same paths
   pub only : (G : Forest) → WellFormed G → ((cs : List ℕ) (n : ℕ) → Has F cs n ↔ Has G cs n) → F ≡ G
@@ -67,6 +67,6 @@ pub record TreeLaws : Type 0 where
   -- the key of Success n is n itself
   pub success : (n : ℕ) → key (Success n) ≡ n
   -- keys are in order by operation, then by operand
-  pub order : (o a p b : ℕ) → a < inner → b < inner → (instr o a < instr p b) ↔ ((o < p) ⊎ ((o ≡ p) × (a < b)))
+  pub order : (o a p b : ℕ) → a < firstKey → b < firstKey → (instr o a < instr p b) ↔ ((o < p) ⊎ ((o ≡ p) × (a < b)))
   pub slices : (s : List ℕ) → length s ≤ extentLimit → Slices s
   pub paths : (F : Forest) → WellFormed F → Paths F

@@ -2,3 +2,4 @@
 pub mod Merge
 pub mod Cut
 pub mod ByWords
+pub mod Books

@@ -1,10 +1,8 @@
 // Tree words (docs/REFERENCE.md, "Tree words"): the fields of a word and of a header, the size of a slice; what calls answer.
 ghost use mathlib.Core.Path.{_≡_};
-ghost use mathlib.Core.Bool.{_&&_};
 ghost use Prim.Native.Nat.{_≤_, _<_};
-ghost use lib.Dec.{leb};
 ghost use Rattle.tree.specs.Forest.{wordLimit, headerOf};
-ghost use Rattle.tree.specs.Laid.{leastWords, mostWords, usedOf, keptOf, oneMore, oneLess};
+ghost use Rattle.tree.specs.Laid.{treeSized, usedOf, keptOf, oneMore, oneLess};
 use clause::Fault;
 
 mod fields;
@@ -49,7 +47,7 @@ impl Tree {
     // The fewest words of a tree's slice.
     pub const LEAST: usize = 2;
     // The most words of a tree's slice.
-    pub const WORDS: usize = 65536;
+    pub const WORDS: usize = 0x1_0000;
     // The most clauses that a tree keeps.
     pub const CLAUSES: usize = 1024;
 
@@ -100,7 +98,7 @@ impl Tree {
 
     // Whether a slice of so many words may hold a tree.
     pub fn sized(words: usize) -> bool
-        ensures { λ r. ⌜ r ≡ (leb leastWords words && leb words mostWords) ⌝ }
+        ensures { λ r. ⌜ r ≡ treeSized words ⌝ }
     {
         if words < Self::LEAST {
             return false;

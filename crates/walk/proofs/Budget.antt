@@ -6,7 +6,7 @@ use mathlib.Core.Option.{Option, none, some}
 use lib.Dec.{leb}
 use borrow.Author.Tests.{le-leb, lt-leb}
 use Rattle.machine.specs.Instr.{Instr, First, Do, Success, instrOf}
-use Rattle.machine.specs.Machine.{Outcome, next, fails, stuck}
+use Rattle.machine.specs.Machine.{Effect, next, fails, stuck}
 use Rattle.tree.specs.Forest.{Forest, empty, node}
 use Rattle.walk.specs.Walk.{Machine, Answer, covered, notCovered, spent, broken, Part, andThen, follow, count, attempt, upTo, always, tries, visitAt, walk}
 use Rattle.walk.proofs.Count.{Counts, counts-map, counts-then, Rises, rises-tries, rises}
@@ -39,13 +39,13 @@ module _ {S : Type 0} {b : ℕ} where
       at (no l) = rw (lt-leb (suc c) b (omega arith)) (over (counts-map (λ d l′. omega arith) (r (suc c))))
 
   -- a step
-  capped-follow : (k k′ : S → Part S) → ((s : S) → Within b (k s) (k′ s)) → (o : Outcome S) → Within b (follow o k) (follow o k′)
+  capped-follow : (k k′ : S → Part S) → ((s : S) → Within b (k s) (k′ s)) → (o : Effect S) → Within b (follow o k) (follow o k′)
   capped-follow k k′ w (next s) c h = w s c h
   capped-follow k k′ w fails c h = as-notCovered h
   capped-follow k k′ w stuck c h = as-broken
 
   -- a candidate
-  capped-attempt : (k k′ : S → Part S) → ((s : S) → Within b (k s) (k′ s)) → ((s : S) → Rises (k s)) → (o : Outcome S)
+  capped-attempt : (k k′ : S → Part S) → ((s : S) → Within b (k s) (k′ s)) → ((s : S) → Rises (k s)) → (o : Effect S)
       → Within b (attempt always o k) (attempt (upTo b) o k′)
   capped-attempt k k′ w r (next s) c h = capped-count (k s) (k′ s) (w s) (r s) c
   capped-attempt k k′ w r fails c h = as-notCovered h

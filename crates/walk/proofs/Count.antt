@@ -6,7 +6,7 @@ use mathlib.Core.Path.{_≡_, refl}
 use mathlib.Core.Bool.{Bool, true, false}
 use mathlib.Core.Option.{Option, none, some}
 use Rattle.machine.specs.Instr.{Instr, First, Do, Success, instrOf}
-use Rattle.machine.specs.Machine.{Outcome, next, fails, stuck}
+use Rattle.machine.specs.Machine.{Effect, next, fails, stuck}
 use Rattle.tree.specs.Forest.{Forest, empty, node}
 use Rattle.walk.specs.Walk.{Machine, Answer, covered, notCovered, spent, broken, Part, andThen, follow, count, attempt, tries, visitAt, walk}
 
@@ -39,13 +39,13 @@ module _ {S : Type 0} {P : ℕ → Type 0} where
   counts-count false k c h = of-spent
 
   -- below a step, or past it
-  pub counts-follow : (below : S → Part S) (c : ℕ) (o : Outcome S) → P c → ((s : S) → o ≡ next s → Counts P (below s c)) → Counts P (follow o below c)
+  pub counts-follow : (below : S → Part S) (c : ℕ) (o : Effect S) → P c → ((s : S) → o ≡ next s → Counts P (below s c)) → Counts P (follow o below c)
   counts-follow below c (next s) h k = k s refl
   counts-follow below c fails h k = of-notCovered h
   counts-follow below c stuck h k = of-broken
 
   -- below a candidate, or past it
-  pub counts-attempt : (allow : ℕ → Bool) (below : S → Part S) (c : ℕ) (o : Outcome S) → P c → ((s : S) → o ≡ next s → Counts P (below s (suc c)))
+  pub counts-attempt : (allow : ℕ → Bool) (below : S → Part S) (c : ℕ) (o : Effect S) → P c → ((s : S) → o ≡ next s → Counts P (below s (suc c)))
       → Counts P (attempt allow o below c)
   counts-attempt allow below c (next s) h k = counts-count (allow (suc c)) (below s) c (k s refl)
   counts-attempt allow below c fails h k = of-notCovered h

@@ -13,7 +13,7 @@ use Rattle.tree.specs.Forest.{Forest, size, leaves, layout, Formed}
 use Rattle.tree.specs.Entries.{Mirrors, Pair, Sound, entry}
 use Rattle.walk.specs.Walk.{Answer, covered, notCovered, upTo, always, walk}
 use Rattle.walk.specs.Ceiling.{ceiling}
-use Rattle.walk.specs.Query.{machine, witnessWords, shown, withShown, unanswered, told, query}
+use Rattle.walk.specs.Query.{machine, witnessWords, shown, withShown, unanswered, answerBy, query}
 use Rattle.walk.specs.Covering.{most, Subsumed, Shows, countOf, candidates, IsSpent, Answers}
 use Rattle.clause.proofs.Apart.{apart}
 use Rattle.clause.proofs.Lists.{mem-index, index-mem}
@@ -50,7 +50,7 @@ counted-le of-broken = omega arith
 -- the query of an accepted clause on the slice of a tree is the walk over the tree
 module _ (len : ℕ) (F : Forest) (low : 2 ≤ len) (high : len ≤ 65_536) (room : size F < len)
     (d : List ℕ) (D : Accepted d) (b : ℕ) (W : List ℕ) (long : witnessWords ≤ length W) where
-  pub query-tree : (f : Formed 0 F) → query (layout len F) d b W ≡ told b W (walk (machine d) (upTo b) F initial 0)
+  pub query-tree : (f : Formed 0 F) → query (layout len F) d b W ≡ answerBy b W (walk (machine d) (upTo b) F initial 0)
   unfolding query
   query-tree f =
       rw (
@@ -96,7 +96,7 @@ module _ (K : List Pair) (F : Forest) (S : All Sound K) (R : Mirrors F (map entr
 
     -- the answer from the walk's answer without a budget and within it
     answers-from : (a a′ : Answer State) → walk (machine d) always F initial 0 ≡ a → Decides (Finds (machine d) F initial) a → Capped b a a′
-        → query T d b W ≡ told b W a′ → Answers K F T d b W
+        → query T d b W ≡ answerBy b W a′ → Answers K F T d b W
     answers-from (covered n t c) a′ e (found g) (as-covered h) u =
         let is : query T d b W .answer ≡ Covered n c = ap (λ x. x .answer) u in
         let words : query T d b W .witness ≡ withShown (shown t) W = ap (λ x. x .witness) u in

@@ -8,7 +8,7 @@ use native.Mathlib.Omega.{arith}
 use lib.Dec.{T}
 use Rattle.clause.proofs.Apart.{apart}
 use Rattle.machine.specs.Instr.{Instr, First, Do, Success, instruction, instrOf}
-use Rattle.tree.specs.Keys.{inner, lawful, nextKey}
+use Rattle.tree.specs.Keys.{firstKey, lawful, nextKey}
 use Rattle.tree.specs.Forest.{Forest, empty, node, Formed, Has, leaf, deeper, further}
 use Rattle.machine.proofs.Keys.{instrOf-success}
 use Rattle.tree.proofs.Keys.{lawful-small}
@@ -35,7 +35,7 @@ inside-op (suc (suc (suc (suc (suc (suc (suc (suc zero)))))))) x h g = tt
 inside-op (suc (suc (suc (suc (suc (suc (suc (suc (suc n))))))))) x h g = absurd (omega arith)
 
 -- a key of a well-formed forest that is no clause number
-inside : (i : ℕ) → inner ≤ i → T (lawful i) → Inside (instrOf i)
+inside : (i : ℕ) → firstKey ≤ i → T (lawful i) → Inside (instrOf i)
 unfolding instrOf
 inside i h t =
     let u : i < 9 * 2 ^ 32 = lawful-small i t in

@@ -10,7 +10,7 @@ use Rattle.machine.specs.Instr.{Instr, First, Do, Success, instrOf}
 use Rattle.machine.specs.Machine.{next}
 use Rattle.tree.specs.Forest.{Forest, empty, node}
 use Rattle.walk.specs.Walk.{Machine, always, walk}
-use Rattle.machine.proofs.Outcomes.{fails≢next, bind-next}
+use Rattle.machine.proofs.Effects.{fails≢next, bind-next}
 use Rattle.walk.proofs.Paths.{LeadsAt, Leads, run, Candidates, Finds}
 use Rattle.walk.proofs.Search.{Decides, decides-map, SolvesAt, Solves, Smooth, decides-walk}
 

@@ -24,7 +24,7 @@ use Rattle.machine.proofs.Table.{filled-get, filled-none}
 use Rattle.machine.proofs.Fits.{chosen}
 use Rattle.machine.proofs.Matching.{Result, covers, misses, runs, subsumes-matched}
 use Rattle.machine.proofs.Codes.{firsts as firstsOf, sequence-plain, sequence-firsts}
-use Rattle.machine.proofs.Outcomes.{fails≢next, stuck≢next, fails≢stuck}
+use Rattle.machine.proofs.Effects.{fails≢next, stuck≢next, fails≢stuck}
 use Rattle.machine.proofs.Candidates.{run-enough, run-take, run-stuck}
 use Rattle.machine.proofs.Replace.{length-vars}
 use Rattle.walk.proofs.Paths.{Leads, firsts, run, Candidates, Finds, NeverStuck}

@@ -6,7 +6,7 @@ use mathlib.Core.List.{List, [], _∷_}
 use Prim.Native.Nat.{ℕ, zero, suc, _<_}
 use Rattle.clause.specs.Lists.{All}
 use Rattle.machine.specs.Instr.{Instr, First, Do, Success, instrOf}
-use Rattle.machine.specs.Machine.{Outcome, next, fails, stuck, bind}
+use Rattle.machine.specs.Machine.{Effect, next, fails, stuck, bind}
 use Rattle.tree.specs.Forest.{Forest, empty, node}
 use Rattle.walk.specs.Walk.{Machine}
 
@@ -47,7 +47,7 @@ firsts (k ∷ p) = firstsAt (instrOf k) (firsts p)
 
 module _ (M : Machine) where
   -- one instruction, then the rest; First takes the next of the given candidates
-  abbrev pub runAt : Option Instr → (List ℕ → M .State → Outcome (M .State)) → List ℕ → M .State → Outcome (M .State)
+  abbrev pub runAt : Option Instr → (List ℕ → M .State → Effect (M .State)) → List ℕ → M .State → Effect (M .State)
   runAt none rest js s = stuck
   runAt (some (Success m)) rest js s = M .finish s
   runAt (some First) rest [] s = fails
@@ -55,7 +55,7 @@ module _ (M : Machine) where
   runAt (some (Do x)) rest js s = bind (M .step x s) (rest js)
 
   -- the run along a path, and then Success
-  abbrev pub run : List ℕ → List ℕ → M .State → Outcome (M .State)
+  abbrev pub run : List ℕ → List ℕ → M .State → Effect (M .State)
   run [] js s = M .finish s
   run (k ∷ p) js s = runAt (instrOf k) (run p) js s
 

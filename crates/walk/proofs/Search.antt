@@ -6,10 +6,10 @@ use mathlib.Core.Path.{_≡_, refl, sym, subst}
 use mathlib.Core.Logic.{_⊎_, inl, inr}
 use mathlib.Core.Option.{Option, none, some}
 use Rattle.machine.specs.Instr.{Instr, First, Do, Success, instrOf}
-use Rattle.machine.specs.Machine.{Outcome, next, fails, stuck}
+use Rattle.machine.specs.Machine.{Effect, next, fails, stuck}
 use Rattle.tree.specs.Forest.{Forest, empty, node}
 use Rattle.walk.specs.Walk.{Machine, Answer, covered, notCovered, Part, andThen, follow, attempt, always, tries, visitAt, walk}
-use Rattle.machine.proofs.Outcomes.{fails≢next}
+use Rattle.machine.proofs.Effects.{fails≢next}
 
 -- what can be found: a number and a final state
 abbrev pub Goal : Type 0 → Type 1
@@ -21,7 +21,7 @@ pub data Decides {S : Type 0} (G : Goal S) : Answer S → Type 0 where
   nothing : {c : ℕ} → ((n : ℕ) (s : S) → G n s → ⊥) → Decides G (notCovered c)
 
 -- an outcome can be taken, and P holds of its state
-abbrev pub Goes : {S : Type 0} → (S → Type 0) → Outcome S → Type 0
+abbrev pub Goes : {S : Type 0} → (S → Type 0) → Effect S → Type 0
 Goes P (next s) = P s
 Goes P fails = Unit {0}
 Goes P stuck = ⊥
@@ -32,7 +32,7 @@ next-inj e = cc
 
 module _ {S : Type 0} where
   -- P may be weakened
-  goes-map : {P Q : S → Type 0} → ((s : S) → P s → Q s) → (o : Outcome S) → Goes P o → Goes Q o
+  goes-map : {P Q : S → Type 0} → ((s : S) → P s → Q s) → (o : Effect S) → Goes P o → Goes Q o
   goes-map f (next s) h = f s h
   goes-map f fails h = tt
   goes-map f stuck h = h
@@ -52,7 +52,7 @@ module _ {S : Type 0} where
       back n s (inr h) = h
 
   -- a goal behind an outcome
-  abbrev pub Behind : Outcome S → (S → Goal S) → Goal S
+  abbrev pub Behind : Effect S → (S → Goal S) → Goal S
   Behind o G n t = (s : S) × (o ≡ next s) × G s n t
 
   -- a goal behind a step that is taken
@@ -60,14 +60,14 @@ module _ {S : Type 0} where
   decides-here {G} s d = decides-map (λ n t g. (s, refl, g)) (λ n t g. subst (λ x. G x n t) (sym (next-inj (g .1))) (g .2)) d
 
   -- a step decides the goal behind it
-  decides-follow : (G : S → Goal S) (below : S → Part S) (o : Outcome S) (c : ℕ) → Goes (λ s. (c : ℕ) → Decides (G s) (below s c)) o
+  decides-follow : (G : S → Goal S) (below : S → Part S) (o : Effect S) (c : ℕ) → Goes (λ s. (c : ℕ) → Decides (G s) (below s c)) o
       → Decides (Behind o G) (follow o below c)
   decides-follow G below (next s) c h = decides-here s (h c)
   decides-follow G below fails c h = nothing (λ n t g. fails≢next (g .1))
   decides-follow G below stuck c h = absurd h
 
   -- a candidate decides the goal behind it
-  decides-attempt : (G : S → Goal S) (below : S → Part S) (o : Outcome S) (c : ℕ) → Goes (λ s. (c : ℕ) → Decides (G s) (below s c)) o
+  decides-attempt : (G : S → Goal S) (below : S → Part S) (o : Effect S) (c : ℕ) → Goes (λ s. (c : ℕ) → Decides (G s) (below s c)) o
       → Decides (Behind o G) (attempt always o below c)
   decides-attempt G below (next s) c h = decides-here s (h (suc c))
   decides-attempt G below fails c h = nothing (λ n t g. fails≢next (g .1))

@@ -6,14 +6,14 @@ use mathlib.Core.Option.{Option, none, some}
 use mathlib.Core.List.{List, [], _∷_}
 use Rattle.clause.specs.Lists.{none as all-none, also}
 use Rattle.machine.specs.Instr.{Instr, First, Do, Success, instrOf}
-use Rattle.machine.specs.Machine.{Outcome, next, fails, stuck}
+use Rattle.machine.specs.Machine.{Effect, next, fails, stuck}
 use Rattle.tree.specs.Forest.{Forest, empty, node}
 use Rattle.walk.specs.Walk.{Machine}
 use Rattle.walk.proofs.Paths.{LeadsAt, Leads, FullAt, Full, run, Candidates, NeverStuck}
 use Rattle.walk.proofs.Search.{Goes, SmoothAt, Smooth}
 
 -- an outcome that is not stuck can be taken
-goes-of : {S : Type 0} {P : S → Type 0} (o : Outcome S) → o ≢ stuck → ((s : S) → o ≡ next s → P s) → Goes P o
+goes-of : {S : Type 0} {P : S → Type 0} (o : Effect S) → o ≢ stuck → ((s : S) → o ≡ next s → P s) → Goes P o
 goes-of (next s) h k = k s refl
 goes-of fails h k = tt
 goes-of stuck h k = h refl

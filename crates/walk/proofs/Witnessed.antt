@@ -59,7 +59,7 @@ module _ (s : State) where
       List·getD-append (take maxLiterals front) (s .puts) none i (rw length-front g) ∙ getD-take maxLiterals front i none g
       ∙ rw (← e) (getD-append-add (map some (s .chosen)) (replicate maxLiterals none) n none ∙ getD-replicate maxLiterals n none none (omega arith))
 
-  -- the position for Put k stands at 8 + k
+  -- the position for Put k stands at maxLiterals + k
   pub shown-position : (k : ℕ) → getD (shown s) (maxLiterals + k) none ≡ getD (s .puts) k none
   unfolding shown
   shown-position k =

@@ -25,7 +25,7 @@ machine d = record { State = State; step = step d; enter = enter d; finish = fin
 abbrev pub witnessWords : ℕ
 witnessWords = maxLiterals + slots
 
--- what a state shows: the literal for literal i at i, the position for Put k at 8 + k
+-- what a state shows: the literal for literal i at i, the position for Put k at maxLiterals + k
 unfoldable pub shown : State → List (Option ℕ)
 shown s = take maxLiterals (map some (s .chosen) ++ replicate maxLiterals none) ++ s .puts
 
@@ -46,11 +46,11 @@ abbrev pub unanswered : Refusal → List ℕ → Asked
 unanswered r W = record { answer = Unanswered r; witness = W }
 
 -- what the walk's answer makes of a witness
-abbrev pub told : (budget : ℕ) (witness : List ℕ) → Answer State → Asked
-told b W (covered n s c) = record { answer = Covered n c; witness = withShown (shown s) W }
-told b W (notCovered c) = record { answer = NotCovered c; witness = W }
-told b W spent = unanswered (Spent b) W
-told b W broken = unanswered Broken W
+abbrev pub answerBy : (budget : ℕ) (witness : List ℕ) → Answer State → Asked
+answerBy b W (covered n s c) = record { answer = Covered n c; witness = withShown (shown s) W }
+answerBy b W (notCovered c) = record { answer = NotCovered c; witness = W }
+answerBy b W spent = unanswered (Spent b) W
+answerBy b W broken = unanswered Broken W
 
 -- the walk over a slice
 abbrev pub walkSlice : (slice clause : List ℕ) (budget : ℕ) → Answer State
@@ -61,7 +61,7 @@ abbrev pub queryAs : Shape → (slice clause : List ℕ) (budget : ℕ) (witness
 queryAs (Faulty f) T d b W = unanswered (BadClause f) W
 queryAs (Whole q) T d b W =
     cond (ltb (length W) witnessWords) (unanswered ShortWitness W)
-    (cond (ltb (length T - 1) (usedOf (getD T 0 0))) (unanswered Broken W) (told b W (walkSlice T d b)))
+    (cond (ltb (length T - 1) (usedOf (getD T 0 0))) (unanswered Broken W) (answerBy b W (walkSlice T d b)))
 
 -- the query call
 unfoldable pub query : (slice clause : List ℕ) (budget : ℕ) (witness : List ℕ) → Asked

@@ -4,16 +4,16 @@ use mathlib.Core.Option.{Option, none, some}
 use Prim.Native.Nat.{ℕ, zero, suc}
 use lib.Dec.{leb}
 use Rattle.machine.specs.Instr.{Step, Instr, First, Do, Success, instrOf}
-use Rattle.machine.specs.Machine.{Outcome, next, fails, stuck}
+use Rattle.machine.specs.Machine.{Effect, next, fails, stuck}
 use Rattle.tree.specs.Forest.{Forest, empty, node}
 
 -- what the walk needs of a query: the states, a step, First with literal j, Success, and the number of literals.
 -- Where `enter j s` fails, literal j is passed over and not counted
 pub record Machine : Type 1 where
   pub State : Type 0
-  pub step : Step → State → Outcome State
-  pub enter : ℕ → State → Outcome State
-  pub finish : State → Outcome State
+  pub step : Step → State → Effect State
+  pub enter : ℕ → State → Effect State
+  pub finish : State → Effect State
   pub queryLiterals : ℕ
 
 -- the walk's answer: number, final state and count; the count; the budget, its fuel in candidates, is spent; broken
@@ -35,7 +35,7 @@ andThen spent k = spent
 andThen broken k = broken
 
 -- after a step: below it, or past it
-abbrev pub follow : {S : Type 0} → Outcome S → (S → Part S) → Part S
+abbrev pub follow : {S : Type 0} → Effect S → (S → Part S) → Part S
 follow (next s) below c = below s c
 follow fails below c = notCovered c
 follow stuck below c = broken
@@ -46,7 +46,7 @@ count true k c = k (suc c)
 count false k c = spent
 
 -- one candidate: counted unless it is passed over, then below it
-abbrev pub attempt : {S : Type 0} → (ℕ → Bool) → Outcome S → (S → Part S) → Part S
+abbrev pub attempt : {S : Type 0} → (ℕ → Bool) → Effect S → (S → Part S) → Part S
 attempt allow (next s) below c = count (allow (suc c)) (below s) c
 attempt allow fails below c = notCovered c
 attempt allow stuck below c = broken

@@ -11,8 +11,8 @@ use borrow.Author.Tests.{leb-true, lt-leb}
 use Rattle.clause.specs.Clause.{literals, maxLiterals}
 use Rattle.clause.proofs.Apart.{apart}
 use Rattle.machine.specs.Instr.{Instr, First, Do, Success, instruction, instrOf}
-use Rattle.machine.specs.Machine.{State, Outcome, next, fails, stuck, step, enter, finish, require}
-use Rattle.tree.specs.Keys.{inner}
+use Rattle.machine.specs.Machine.{State, Effect, next, fails, stuck, step, enter, finish, require}
+use Rattle.tree.specs.Keys.{firstKey}
 use Rattle.tree.specs.Laid.{keyOf, extentOf}
 use Rattle.walk.specs.Walk.{Answer, covered, notCovered, spent, broken, Part, andThen, follow, tries, visitAt, upTo}
 use Rattle.walk.specs.Words.{extends, walkWords}
@@ -29,7 +29,7 @@ unfolding extends
 extends-within w n h =
     let low : Bool = leb 1 (extentOf w) in
     let high : Bool = leb (extentOf w) (suc n) in
-    let (front, last) = and-eq-true-iff (low && high) (not (ltb (keyOf w) inner) || eqb (extentOf w) 1) .0 h in
+    let (front, last) = and-eq-true-iff (low && high) (not (ltb (keyOf w) firstKey) || eqb (extentOf w) 1) .0 h in
     let (l, u) = and-eq-true-iff low high .0 front in
     (leb-true 1 (extentOf w) l, leb-true (extentOf w) (suc n) u)
 
@@ -65,13 +65,13 @@ number (suc (suc (suc (suc (suc (suc (suc (suc zero)))))))) x n e = apart cc
 number (suc (suc (suc (suc (suc (suc (suc (suc (suc op))))))))) x n e = apart cc
 
 module _ (d : List ℕ) (b n : ℕ) (k : State → Part State) (s : State) (c : ℕ) where
-  follow-step : (o : Outcome State) → follow o k c ≡ goingOn d b n (stepped o) k c
+  follow-step : (o : Effect State) → follow o k c ≡ goingOn d b n (stepped o) k c
   unfolding goingOn stepped
   follow-step (next t) = refl
   follow-step fails = refl
   follow-step stuck = refl
 
-  follow-finish : (o : Outcome State) → follow o (covered n) c ≡ goingOn d b n (reached o) k c
+  follow-finish : (o : Effect State) → follow o (covered n) c ≡ goingOn d b n (reached o) k c
   unfolding goingOn reached
   follow-finish (next t) = refl
   follow-finish fails = refl

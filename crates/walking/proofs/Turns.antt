@@ -13,7 +13,8 @@ use Rattle.machine.proofs.Safe.{start-in, starting-safe}
 use Rattle.walk.specs.Walk.{Answer, covered, notCovered, broken, Part, andThen, upTo}
 use Rattle.walk.specs.Words.{walkWords}
 use Rattle.walk.specs.Query.{machine}
-use Rattle.cells.specs.inner.Cells.{literalsAt, cellCount, noPosition, HasPlace, HasCandidate, stateOf, Walkable}
+use Rattle.clause.specs.inner.Tables.{atCount}
+use Rattle.cells.specs.inner.Cells.{cellCount, noPosition, HasPlace, HasCandidate, stateOf, Walkable}
 use Rattle.cells.specs.inner.Cells.{aboveOf, reserved, candidate, released, keptIn, passHead, passState, passesOf, entered}
 use Rattle.cells.specs.declared.Above.{Above}
 use Rattle.cells.specs.declared.Above.the-variants.{First, Step}
@@ -75,7 +76,7 @@ pub record Entry (d t words : List ℕ) (b h : ℕ) (l : List ℕ) (n₀ : ℕ) 
   pub ready : Walkable d t h l
   pub room : h ≡ noPosition → HasPlace l
   pub by-head : above ≡ aboveOf h
-  pub times : last ≡ passesOf above (getD t literalsAt 0)
+  pub times : last ≡ passesOf above (getD t atCount 0)
   pub keeps : kept ≡ keptIn above l
   pub reserves : l₁ ≡ reserved above l
 

@@ -15,7 +15,7 @@ use Rattle.clause.specs.Clause.{literals, maxLiterals}
 use Rattle.clause.proofs.Apart.{apart}
 use Rattle.clause.proofs.Literals.{accepted, some-literal}
 use Rattle.machine.specs.Instr.{Instr, First, Do, Success, instrOf}
-use Rattle.machine.specs.Machine.{State, Outcome, next, fails, stuck, enter, step, finish}
+use Rattle.machine.specs.Machine.{State, Effect, next, fails, stuck, enter, step, finish}
 use Rattle.machine.specs.inner.Safe.{Safe}
 use Rattle.machine.proofs.Safe.{step-safe, step-headed}
 use Rattle.tree.specs.Laid.{keyOf, extentOf}
@@ -40,25 +40,25 @@ use Rattle.stepping.proofs.Visits.{head-some, chosen-length}
 use Rattle.walking.proofs.Passes.{then-on, then-ends, missed-of}
 
 -- a step that goes below leads to a safe state
-below-step : (o : Outcome State) {t : State} → below t ≡ stepped o → o ≡ next t
+below-step : (o : Effect State) {t : State} → below t ≡ stepped o → o ≡ next t
 unfolding stepped
 below-step (next s) e = cc
 below-step fails e = apart cc
 below-step stuck e = apart cc
 
-below-finish : (o : Outcome State) {t : State} → below t ≡ reached o → ⊥
+below-finish : (o : Effect State) {t : State} → below t ≡ reached o → ⊥
 unfolding reached
 below-finish (next s) e = apart cc
 below-finish fails e = apart cc
 below-finish stuck e = apart cc
 
-firsts-step : (o : Outcome State) {t : State} → firsts t ≡ stepped o → ⊥
+firsts-step : (o : Effect State) {t : State} → firsts t ≡ stepped o → ⊥
 unfolding stepped
 firsts-step (next s) e = apart cc
 firsts-step fails e = apart cc
 firsts-step stuck e = apart cc
 
-firsts-finish : (o : Outcome State) {t : State} → firsts t ≡ reached o → ⊥
+firsts-finish : (o : Effect State) {t : State} → firsts t ≡ reached o → ⊥
 unfolding reached
 firsts-finish (next s) e = apart cc
 firsts-finish fails e = apart cc

@@ -8,6 +8,8 @@ use lib.Dec.{eqb}
 use lib.ListN.{length, getD, take, drop, set}
 use Rattle.clause.specs.Clause.{Accepted, literals, startOf, maxWords, maxLiterals}
 use Rattle.clause.specs.Positions.{jump, rights}
+use Rattle.clause.specs.inner.Tables.{atEnds, atSiblings, atCount}
+use Rattle.machine.specs.Instr.{operands, instr}
 use Rattle.machine.specs.Machine.{slots, State, starting}
 use Rattle.machine.specs.inner.Safe.{Safe}
 use Rattle.walk.specs.Walk.{Part, tries, upTo}
@@ -38,6 +40,14 @@ noPosition = 255
 abbrev pub undoBase : ℕ
 undoBase = cellCount
 
+-- undos are below this
+abbrev pub undoLimit : ℕ
+undoLimit = 2 ^ 16
+
+-- a trail below this has room for one more undo
+abbrev pub trailLimit : ℕ
+trailLimit = 2 ^ 48
+
 -- how many candidates the cells hold
 abbrev pub countIn : List ℕ → ℕ
 countIn l = getD l countAt 0
@@ -61,23 +71,12 @@ placed a l = map positionIn (take slots (drop a l))
 abbrev pub stateOf : (head : ℕ) (cells : List ℕ) → State
 stateOf h l = record { chosen = take (countIn l) l; head = positionIn h; puts = placed putsAt l; pushes = placed pushesAt l }
 
--- Where a query's tables stand, one after another: where its literals begin, from 0 on, where the terms at its positions end, their right siblings,
--- how many literals it has.
-abbrev pub endsAt : ℕ
-endsAt = maxLiterals
-
-abbrev pub rightsAt : ℕ
-rightsAt = endsAt + maxWords
-
-abbrev pub literalsAt : ℕ
-literalsAt = rightsAt + maxWords
-
--- the tables of a query
+-- the tables of a query, laid out as those of a clause
 pub record Tables (d l : List ℕ) : Type 0 where
   pub starts : (j : ℕ) → j < length (literals d) → getD l j 0 ≡ startOf d j
-  pub ends : (p : ℕ) → p < length d → getD l (endsAt + p) 0 ≡ jump d 1 p
-  pub rights : (p : ℕ) → p < length d → getD l (rightsAt + p) 0 ≡ rights d p
-  pub count : getD l literalsAt 0 ≡ length (literals d)
+  pub ends : (p : ℕ) → p < length d → getD l (atEnds + p) 0 ≡ jump d 1 p
+  pub rights : (p : ℕ) → p < length d → getD l (atSiblings + p) 0 ≡ rights d p
+  pub count : getD l atCount 0 ≡ length (literals d)
 
 -- an accepted query with its tables, and a state whose positions lie in it
 pub record Walkable (d t : List ℕ) (head : ℕ) (cells : List ℕ) : Type 0 where
@@ -95,15 +94,23 @@ restored m l = cond (eqb m 0) l (set l (m / undoBase % undoBase) (m % undoBase))
 unfoldable pub unwound : ℕ → List ℕ → List ℕ
 unwound t l = restored (t / 2 ^ 48) (restored (t / 2 ^ 32) (restored (t / 2 ^ 16) (restored t l)))
 
+-- the operation of a tree word, above its operand and its extent
+abbrev pub operationOf : ℕ → ℕ
+operationOf w = w / 2 ^ 60
+
+-- a key of a Check
+abbrev pub IsCheck : ℕ → Type 0
+IsCheck key = key / operands ≡ 7
+
 -- the key of the Check that fits at a head
 unfoldable pub wantedAt : List ℕ → ℕ → ℕ
-wantedAt d h = 7 * 2 ^ 32 + getD d h 0
+wantedAt d h = instr 7 (getD d h 0)
 
 -- only Checks that fail there stand between two places of a row
 pub record Skipped (words : List ℕ) (at wanted : ℕ) (r : ℕ) : Type 0 where
   pub inside : r ≤ length words
   pub further : at ≤ r
-  pub same : (d : List ℕ) (allow : ℕ → Bool) (s : State) (p c : ℕ) → s .head ≡ some p → wanted ≡ 7 * 2 ^ 32 + getD d p 0
+  pub same : (d : List ℕ) (allow : ℕ → Bool) (s : State) (p c : ℕ) → s .head ≡ some p → wanted ≡ instr 7 (getD d p 0)
       → walkWords (machine d) allow (drop at words) s c ≡ walkWords (machine d) allow (drop r words) s c
 
 -- what words stand below, by the head that is handed to them: below a First it is none

@@ -3,7 +3,7 @@ use mathlib.Core.Path.{ap}
 use Rattle.book.specs.Table.{asked}
 use Rattle.interface.specs.Calls.{ctQuery}
 use Rattle.interface.proofs.Handed.{hands}
-use Rattle.interface.proofs.Answers.{told-apart}
+use Rattle.interface.proofs.Differ.{told-apart}
 use Rattle.interface.proofs.Lists.{ct-reach, ct-demand2, ct-demand3}
 use borrow.Author.Needs.{needs}
 use Rattle.codetree.proofs.ct_query.Statement.{statement}

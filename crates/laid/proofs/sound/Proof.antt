@@ -4,7 +4,7 @@ use Prim.Native.Nat.{_*_, _^_, _≤_, _<_}
 use native.Mathlib.Omega.{arith}
 use borrow.Author.Tests.{lt-ltb, le-ltb, le-leb, lt-leb}
 use borrow.Author.Needs.{needs}
-use Rattle.tree.specs.Keys.{inner, lawful}
+use Rattle.tree.specs.Keys.{firstKey, lawful}
 use Rattle.tree.specs.Laid.{keyOf}
 use Rattle.laid.proofs.WellLaid.{sound-success, sound-alone, sound-inner}
 use Rattle.laid.proofs.sound.Statement.{statement}
@@ -35,7 +35,7 @@ returns-4 c =
     let w = c .before .before .before .before .before .before .args .w in
     let small : keyOf w < 9 * 2 ^ 32 = omega arith in
     let more : 4 * 2 ^ 32 ≤ keyOf w = omega arith in
-    sym (sound-inner w (omega arith) (omega arith) ∙ rw (lt-ltb (keyOf w) (9 * 2 ^ 32) small, le-ltb (keyOf w) inner (omega arith), le-leb (4 * 2 ^ 32) (keyOf w) more))
+    sym (sound-inner w (omega arith) (omega arith) ∙ rw (lt-ltb (keyOf w) (9 * 2 ^ 32) small, le-ltb (keyOf w) firstKey (omega arith), le-leb (4 * 2 ^ 32) (keyOf w) more))
 
 returns-5 : tie.Need-returns-5
 unfolding lawful
@@ -43,7 +43,7 @@ returns-5 c =
     let w = c .before .before .before .before .before .before .args .w in
     let less : keyOf w < 4 * 2 ^ 32 = omega arith in
     rw (c .before .before .before .before .before .key .ensures)
-    (sym (sound-inner w (omega arith) (omega arith) ∙ rw (lt-ltb (keyOf w) (9 * 2 ^ 32) (omega arith), le-ltb (keyOf w) inner (omega arith), lt-leb (4 * 2 ^ 32) (keyOf w) less)))
+    (sym (sound-inner w (omega arith) (omega arith) ∙ rw (lt-ltb (keyOf w) (9 * 2 ^ 32) (omega arith), le-ltb (keyOf w) firstKey (omega arith), lt-leb (4 * 2 ^ 32) (keyOf w) less)))
 
 pub sound-spec : {M : Type 1} → statement M
 sound-spec =

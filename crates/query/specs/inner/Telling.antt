@@ -1,4 +1,4 @@
--- What is told of a reading and of a walk.
+-- What is answered after a reading and after a walk.
 use mathlib.Core.List.{List}
 use Prim.Native.Nat.{ℕ}
 use Rattle.walk.specs.Query.{Asked, unanswered, withShown}
@@ -14,7 +14,7 @@ unfoldable pub refusalOf : Shape → Refusal
 refusalOf (Faulty f) = BadClause f
 refusalOf (Whole n) = Broken
 
--- what is asked is told by what is seen of the walk
+-- what is asked is answered by what is seen of the walk
 unfoldable pub toldOut : (budget : ℕ) (witness : List ℕ) → Out → Asked
 toldOut b W (missed c) = record { answer = NotCovered c; witness = W }
 toldOut b W (found n os c) = record { answer = Covered n c; witness = withShown os W }

@@ -8,7 +8,7 @@ use lib.Dec.{ltb, eqb}
 use lib.ListN.{length, getD, set}
 use Rattle.clause.specs.Clause.{maxLiterals}
 use Rattle.machine.specs.Instr.{Instr, First, Do, Success, Compare, instrOf}
-use Rattle.machine.specs.Machine.{State, Outcome, next, fails, stuck, step, finish, down, right, given, headed, putting, pushing, require, within, stepAt}
+use Rattle.machine.specs.Machine.{State, Effect, next, fails, stuck, step, finish, down, right, given, headed, putting, pushing, require, within, stepAt}
 use Rattle.tree.specs.Laid.{keyOf}
 use Rattle.walk.specs.Words.{extends}
 use Rattle.cells.specs.inner.Cells.{putsAt, pushesAt, countAt, undoBase, countIn, positionIn, placed, stateOf}
@@ -22,13 +22,13 @@ pub data Met : Type 0 where
   hit firsts below : State → Met
 
 -- what a step comes to
-unfoldable pub stepped : Outcome State → Met
+unfoldable pub stepped : Effect State → Met
 stepped (next s) = below s
 stepped fails = past
 stepped stuck = bad
 
 -- what a Success comes to
-unfoldable pub reached : Outcome State → Met
+unfoldable pub reached : Effect State → Met
 reached (next s) = hit s
 reached fails = past
 reached stuck = bad

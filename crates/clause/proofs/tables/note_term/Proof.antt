@@ -6,12 +6,12 @@ use Rattle.clause.specs.Word.{arities, arity}
 use Rattle.clause.specs.Clause.{maxWords}
 use Rattle.clause.proofs.Literals.{accepted}
 use borrow.Author.Needs.{needs}
-use Rattle.clause.proofs.Marking.{Marking, marking-none, marking-term, marking-all}
+use Rattle.clause.proofs.Noting.{Noting, noting-none, noting-term, noting-all}
 use Rattle.clause.proofs.tables.note_term.Statement.{statement}
 use Rattle.clause.proofs.tables.note_term.Tie as tie
 
 abbrev Inv-loop : tie.InvT-loop
-Inv-loop words tables₀ p at₀ left₀ tables at left = (at ≤ maxWords) × (left < arities) × Marking words p at left tables
+Inv-loop words tables₀ p at₀ left₀ tables at left = (at ≤ maxWords) × (left < arities) × Noting words p at left tables
 
 abbrev μ-loop : tie.MeasureT-loop
 μ-loop words tables₀ p at₀ left₀ tables at left = left
@@ -34,7 +34,7 @@ loop-holds c =
     let x = c .before .before .before in
     let a = x .args in
     let fits = accepted (a .words .now) (x .pre .0) .fits in
-    (omega (arith, x .pre .1), omega (arith, c .arity .ensures), marking-none (a .words .now) (x .pre .0) (a .p) (x .pre .1) _ (c .arity .ensures) (x .pre .2))
+    (omega (arith, x .pre .1), omega (arith, c .arity .ensures), noting-none (a .words .now) (x .pre .0) (a .p) (x .pre .1) _ (c .arity .ensures) (x .pre .2))
 
 sub-left : tie.Need-sub-left Inv-loop μ-loop
 sub-left c = search needs
@@ -59,7 +59,7 @@ cast-at c =
     let x = c .before .before in
     let s = x .before .before .before .before in
     let g : 0 < x .loop .left = omega (arith, c .before .loop-test .taken) in
-    let m = marking-term (s .args .words .now) (s .pre .0) (s .args .p) (s .pre .1) (x .loop .at) (x .loop .left) (x .loop .left - 1) g refl (x .loop .inv .2) in
+    let m = noting-term (s .args .words .now) (s .pre .0) (s .args .p) (s .pre .1) (x .loop .at) (x .loop .left) (x .loop .left - 1) g refl (x .loop .inv .2) in
     record { fits = omega (arith, m .0, m .1 .high, accepted (s .args .words .now) (s .pre .0) .fits) }
 
 loop-less : tie.Need-loop-less Inv-loop μ-loop
@@ -70,7 +70,7 @@ loop-again c =
     let x = c .before .before in
     let s = x .before .before .before .before in
     let g : 0 < x .loop .left = omega (arith, c .before .loop-test .taken) in
-    let m = marking-term (s .args .words .now) (s .pre .0) (s .args .p) (s .pre .1) (x .loop .at) (x .loop .left) (x .loop .left - 1) g refl (x .loop .inv .2) in
+    let m = noting-term (s .args .words .now) (s .pre .0) (s .args .p) (s .pre .1) (x .loop .at) (x .loop .left) (x .loop .left - 1) g refl (x .loop .inv .2) in
     (omega (arith, m .0, m .1 .high, accepted (s .args .words .now) (s .pre .0) .fits), omega (arith, x .loop .inv .1), rw (m .0) (m .1))
 
 add-end : tie.Need-add-end Inv-loop μ-loop
@@ -87,7 +87,7 @@ returns c =
     let x = c .before in
     let s = x .before .before .before .before in
     let e : x .loop .left ≡ 0 = omega (arith, c .loop-test .left) in
-    marking-all (s .args .words .now) (s .pre .0) (s .args .p) (s .pre .1) (x .loop .at) (rw e at (x .loop .inv .2)) .1
+    noting-all (s .args .words .now) (s .pre .0) (s .args .p) (s .pre .1) (x .loop .at) (rw e at (x .loop .inv .2)) .1
 
 pub note-term-spec : {M : Type 1} → statement M
 note-term-spec =

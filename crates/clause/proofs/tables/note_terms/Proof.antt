@@ -5,7 +5,7 @@ use native.Mathlib.Omega.{arith}
 use lib.ListN.{length}
 use borrow.Author.Needs.{needs}
 use Rattle.clause.specs.inner.Tables.{tablesFrom}
-use Rattle.clause.proofs.Marking.{marked-none}
+use Rattle.clause.proofs.Noting.{noted-none}
 use Rattle.clause.proofs.tables.note_terms.Statement.{statement}
 use Rattle.clause.proofs.tables.note_terms.Tie as tie
 
@@ -16,7 +16,7 @@ abbrev μ-loop : tie.MeasureT-loop
 μ-loop words tables₀ p₀ tables p = p
 
 loop-holds : tie.Need-loop-holds Inv-loop μ-loop
-loop-holds c = (omega arith, c .before .pre .1 ∙ marked-none _)
+loop-holds c = (omega arith, c .before .pre .1 ∙ noted-none _)
 
 sub-p : tie.Need-sub-p Inv-loop μ-loop
 sub-p c = search needs

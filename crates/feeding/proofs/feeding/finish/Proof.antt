@@ -31,7 +31,7 @@ returns c =
     let a = c19 .args in
     let m = storeOf (a .words .now) (a .tree .now) (a .marks .now) in
     let p = c5 .put-line .ensures in
-    finishes (a .head .number) (a .head .count) (a .turn .session .totals) m (a .output .now) (a .turn .next) (c11 .outcome-of .ensures) (c .count-outcome .ensures) (p .0) (p .1)
+    finishes (a .heading .number) (a .heading .count) (a .turn .session .totals) m (a .output .now) (a .turn .next) (c11 .outcome-of .ensures) (c .count-outcome .ensures) (p .0) (p .1)
 
 pub finish-spec : {M : Type 1} → statement M
 finish-spec =

@@ -34,13 +34,13 @@ seam (w ∷ ws) (suc n ∷ due) rest (suc k) (also h p) e =
     (seam ws (pushDue (arity w) (pushDue n due)) rest (arity w + k) (push-positive (arity w) (push-positive n p)) (simp push-total (omega arith))))
 
 -- the right siblings inside the term at a position, without those of the term itself
-inner : List ℕ → ℕ → List ℕ
-inner d at = take (skip (arity (getD d at 0)) (drop (suc at) d)) (siblings (drop (suc at) d) (pushDue (arity (getD d at 0)) []))
+firstKey : List ℕ → ℕ → List ℕ
+firstKey d at = take (skip (arity (getD d at 0)) (drop (suc at) d)) (siblings (drop (suc at) d) (pushDue (arity (getD d at 0)) []))
 
 module _ (d : List ℕ) (at : ℕ) (h : at < length d) where
   -- the right siblings from a term on: its own, those inside it, and those after it
-  siblings-term : (rest : List ℕ) → siblings (drop at d) rest ≡ rightsOf rest ∷ inner d at ++ siblings (drop (jump d 1 at) d) (afterTerm rest)
-  unfolding jump skip inner
+  siblings-term : (rest : List ℕ) → siblings (drop at d) rest ≡ rightsOf rest ∷ firstKey d at ++ siblings (drop (jump d 1 at) d) (afterTerm rest)
+  unfolding jump skip firstKey
   siblings-term rest =
       let w = getD d at 0 in
       let ws = drop (suc at) d in
@@ -51,8 +51,8 @@ module _ (d : List ℕ) (at : ℕ) (h : at < length d) where
       let f : drop (skip a ws) ws ≡ drop (at + suc (skip (a + 0) ws)) d = rw (drop-drop, add-zero, g) in
       rw (c, siblings-cons w ws rest, push-append a [] (afterTerm rest), seam ws (pushDue a []) (afterTerm rest) a (push-positive a none) t, f)
 
-  inner-size : (x : ℕ) → at + length (x ∷ inner d at) ≡ jump d 1 at
-  unfolding jump skip inner
+  inner-size : (x : ℕ) → at + length (x ∷ firstKey d at) ≡ jump d 1 at
+  unfolding jump skip firstKey
   inner-size x =
       let w = getD d at 0 in
       let ws = drop (suc at) d in
@@ -78,7 +78,7 @@ from-set l p v h e =
     ∙ rw (e, ← drop-cons l p 0 h)
 
 -- some of the arguments of the word at p are noted, and `left` more stand from `at` on
-pub record Marking (d : List ℕ) (p at left : ℕ) (table : List ℕ) : Type 0 where
+pub record Noting (d : List ℕ) (p at left : ℕ) (table : List ℕ) : Type 0 where
   pub done : List ℕ
   pub size : length done ≡ at
   pub is : table ≡ packed [] (replicate (suc p) 0 ++ drop (suc p) (ends d)) (done ++ siblings (drop at d) []) 0
@@ -89,9 +89,9 @@ pub record Marking (d : List ℕ) (p at left : ℕ) (table : List ℕ) : Type 0 
   pub high : at ≤ length d
 
 module _ (d : List ℕ) (A : Accepted d) (p : ℕ) (h : p < length d) where
-  pub marking-none : {table : List ℕ} (left : ℕ) → left ≡ arity (getD d p 0) → table ≡ tablesFrom d (suc p) → Marking d p (p + 1) left table
+  pub noting-none : {table : List ℕ} (left : ℕ) → left ≡ arity (getD d p 0) → table ≡ tablesFrom d (suc p) → Noting d p (p + 1) left table
   unfolding tablesFrom
-  marking-none left e t =
+  noting-none left e t =
       let w = getD d p 0 in
       let n : siblings (drop p d) [] ≡ 0 ∷ siblings (drop (suc p) d) (pushDue left []) = rw (drop-cons d p 0 h, siblings-cons w (drop (suc p) d) [], e) in
       rw add-one
@@ -108,17 +108,17 @@ module _ (d : List ℕ) (A : Accepted d) (p : ℕ) (h : p < length d) where
 
   module _ (at : ℕ) {table : List ℕ} where
     -- one argument more
-    pub marking-term : (left v : ℕ) → 0 < left → v ≡ left - 1 → Marking d p at left table
-        → (getD (set table (atSiblings + at) v) (atEnds + at) 0 ≡ jump d 1 at) × Marking d p (jump d 1 at) v (set table (atSiblings + at) v)
+    pub noting-term : (left v : ℕ) → 0 < left → v ≡ left - 1 → Noting d p at left table
+        → (getD (set table (atSiblings + at) v) (atEnds + at) 0 ≡ jump d 1 at) × Noting d p (jump d 1 at) v (set table (atSiblings + at) v)
     unfolding pushDue
-    marking-term zero v g e M = absurd (omega arith)
-    marking-term (suc n) v g e M = let f : v ≡ n = omega arith in rw f (
+    noting-term zero v g e M = absurd (omega arith)
+    noting-term (suc n) v g e M = let f : v ≡ n = omega arith in rw f (
       ap (λ (t : List ℕ). getD t (atEnds + at) 0) stored ∙ end-at [] _ _ 0 at room ∙ from-at (ends d) (suc p) at (M .low) ∙ ends-at d at b,
       record {
-        done = M .done ++ n ∷ inner d at;
+        done = M .done ++ n ∷ firstKey d at;
         size = rw (length-append, M .size) (inner-size d at b n);
         is = stored;
-        goal = append-assoc (M .done) (n ∷ inner d at) _ ∙ later;
+        goal = append-assoc (M .done) (n ∷ firstKey d at) _ ∙ later;
         enough = enough-term d n at (M .enough);
         over = sym (jump-suc d n at) ∙ M .over;
         low = omega (arith, M .low, jump-from d 1 at);
@@ -132,22 +132,22 @@ module _ (d : List ℕ) (A : Accepted d) (p : ℕ) (h : p < length d) where
         room : at < maxWords
         room = omega (arith, b, accepted d A .fits)
 
-        later : M .done ++ (n ∷ inner d at ++ siblings (drop (jump d 1 at) d) (pushDue n [])) ≡ replicate p 0 ++ siblings (drop p d) []
+        later : M .done ++ (n ∷ firstKey d at ++ siblings (drop (jump d 1 at) d) (pushDue n [])) ≡ replicate p 0 ++ siblings (drop p d) []
         later = ap (λ (l : List ℕ). M .done ++ l) (sym (siblings-term d at b (suc n ∷ []))) ∙ M .goal
 
         stored : set table (atSiblings + at) n
-            ≡ packed [] (replicate (suc p) 0 ++ drop (suc p) (ends d)) (M .done ++ n ∷ inner d at ++ siblings (drop (jump d 1 at) d) []) 0
+            ≡ packed [] (replicate (suc p) 0 ++ drop (suc p) (ends d)) (M .done ++ n ∷ firstKey d at ++ siblings (drop (jump d 1 at) d) []) 0
         stored =
             let r = M .done ++ siblings (drop at d) [] in
             let l : at < length r = simp (length-append, length-siblings, length-drop, M .size) (omega (arith, b)) in
-            let s : set r at n ≡ M .done ++ n ∷ inner d at ++ siblings (drop (jump d 1 at) d) [] =
-            rw (siblings-term d at b [], set-at (M .done) 0 (inner d at ++ siblings (drop (jump d 1 at) d) []) n at (M .size), append-assoc) in
+            let s : set r at n ≡ M .done ++ n ∷ firstKey d at ++ siblings (drop (jump d 1 at) d) [] =
+            rw (siblings-term d at b [], set-at (M .done) 0 (firstKey d at ++ siblings (drop (jump d 1 at) d) []) n at (M .size), append-assoc) in
             rw (M .is, set-right [] _ r 0 at n room l, s)
 
     -- all of them are noted: the end of the term is known
-    pub marking-all : Marking d p at 0 table → (at ≡ jump d 1 p) × (set table (atEnds + p) at ≡ tablesFrom d p)
+    pub noting-all : Noting d p at 0 table → (at ≡ jump d 1 p) × (set table (atEnds + p) at ≡ tablesFrom d p)
     unfolding tablesFrom pushDue
-    marking-all M =
+    noting-all M =
         let e : at ≡ jump d 1 p = sym (jump-zero d at) ∙ M .over in
         let E = replicate (suc p) 0 ++ drop (suc p) (ends d) in
         let l : p < length E = simp (length-append, length-replicate) (omega arith) in
@@ -156,8 +156,8 @@ module _ (d : List ℕ) (A : Accepted d) (p : ℕ) (h : p < length d) where
         (e, rw (M .is, M .goal, set-end [] E _ 0 p at room l, from-set (ends d) p at g (e ∙ sym (ends-at d p h))))
 
 -- nothing is noted yet
-pub marked-none : (d : List ℕ) → replicate tablesSize 0 ≡ tablesFrom d (length d)
+pub noted-none : (d : List ℕ) → replicate tablesSize 0 ≡ tablesFrom d (length d)
 unfolding tablesFrom siblings
-marked-none d =
+noted-none d =
     let l : drop (length d) (ends d) ≡ [] = ap (λ (m : ℕ). drop m (ends d)) (sym (length-ends d)) ∙ drop-length (ends d) in
     rw (l, drop-length d, append-nil) (sym (packed-zeros (length d)))
