@@ -20,7 +20,7 @@ pub data Call : Type 0 where
   insert : (clause : List ℕ) (number : ℕ) → Call
   remove : (number : ℕ) → Call
 
--- clause words have 16 bits, clause numbers 32
+-- clause words have 16 bits, clause numbers 32: they are the keys below the first that is no Success
 abbrev pub Fit : Call → Type 0
 Fit (insert c n) = Words c × (n < firstKey)
 Fit (remove n) = n < firstKey

@@ -1,7 +1,7 @@
 -- Where the scope leaves room: the readings taken, each on a small input.
 use mathlib.Core.Path.{_≡_}
 use mathlib.Core.List.{List, [], _∷_, _++_}
-use Prim.Native.Nat.{ℕ, _+_, _*_, _^_}
+use Prim.Native.Nat.{ℕ}
 use lib.ListN.{length, replicate}
 use Rattle.clause.specs.Clause.{shape}
 use Rattle.machine.specs.Instr.{Down, Right, Put, Push, Pop, Check, Compare, First, Do, instr}

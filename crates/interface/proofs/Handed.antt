@@ -4,7 +4,7 @@ use mathlib.Core.List.{List}
 use Prim.Native.Nat.{ℕ}
 use Rattle.book.specs.Table.{Said, Result}
 use Rattle.interface.specs.Told.{Reply, replied}
-use Rattle.interface.specs.Calls.{Left, left, handed}
+use Rattle.interface.specs.Calls.{left, handed}
 
 -- with the words told
 pub hands : {n : ℕ} {us ws : List ℕ} {s : Said} {r : Result} (ts : List ℕ)

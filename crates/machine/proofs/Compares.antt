@@ -87,7 +87,7 @@ module _ {κ} {P : Step → Type κ} (puts : List ℕ) (from : ℕ) where
   compares-each p m k i j e =
       all-head (rw e at (numbersBelow-all (length puts) (flatMap-all _ _ (numbersBelow-all (length puts) (flatMap-all _ _ p) m i)) k j))
 
--- an outcome goes on as r does if P holds, and fails if it does not
+-- an effect goes on as r does if P holds, and fails if it does not
 pub data GoesIf (P : Type 0) (o r : Effect State) : Type 0 where
   holds : P → o ≡ r → GoesIf P o r
   refuted : (P → ⊥) → o ≡ fails → GoesIf P o r
@@ -100,7 +100,7 @@ pub goes-if-from : {P : Type 0} {o o′ r : Effect State} → o ≡ o′ → Goe
 goes-if-from e (holds p f) = holds p (e ∙ f)
 goes-if-from e (refuted n f) = refuted n (e ∙ f)
 
--- an outcome that can go on does so exactly if P holds
+-- an effect that can go on does so exactly if P holds
 pub goes-if-next : {P : Type 0} {o : Effect State} {s t : State} → GoesIf P o (next t) → o ≡ next s → P
 goes-if-next (holds p e) f = p
 goes-if-next (refuted n e) f = absurd (fails≢next (sym e ∙ f))

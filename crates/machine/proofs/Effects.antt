@@ -4,7 +4,7 @@ use Rattle.machine.specs.Machine.{Effect, next, fails, stuck, bind}
 use Rattle.clause.proofs.Apart.{apart}
 
 module _ {S : Type 0} where
-  -- the three outcomes are apart
+  -- the three effects are apart
   pub fails≢next : {t : S} → fails ≡ next t → ⊥
   fails≢next e = apart cc
 

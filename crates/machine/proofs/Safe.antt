@@ -47,7 +47,7 @@ set-entry P l n x p h k a e = go (ℕ-discrete k n) (decLt n (length l))
     go (yes q) (yes b) = let f : x ≡ a = Option·some-injective x a (sym (getD-set-same l n (some x) none b) ∙ rw q at e) in rw f at p
     go (yes q) (no b) = h k a (rw (set-out l n (some x) (omega arith)) at e)
 
--- an outcome that goes on had its test passed, or its position given
+-- an effect that goes on had its test passed, or its position given
 goes : (o : Effect State) (b : Bool) (r : Effect State) {t : State} → ((t : State) → o ≡ next t → ⊥) → require o b r ≡ next t → r ≡ next t
 unfolding require
 goes o true r n e = e

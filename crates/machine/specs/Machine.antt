@@ -48,7 +48,7 @@ pub data Effect (S : Type 0) : Type 0 where
   next : S → Effect S
   fails stuck : Effect S
 
--- an outcome, then what follows a next state
+-- an effect, then what follows a next state
 abbrev pub bind : {S : Type 0} → Effect S → (S → Effect S) → Effect S
 bind (next s) f = f s
 bind fails f = fails
@@ -113,7 +113,7 @@ step d x s = stepFrom d x s (s .head)
 abbrev pub starting : List ℕ → State → ℕ → State
 starting d s j = record { chosen = s .chosen ++ (j ∷ []); head = some (startOf d j); puts = s .puts; pushes = s .pushes }
 
--- First with literal j: a ninth cannot be taken. It never fails: that outcome, of a literal that is passed over uncounted, is there only for
+-- First with literal j: a ninth cannot be taken. It never fails: that effect, of a literal that is passed over uncounted, is there only for
 -- machines that do not take a literal twice
 unfoldable pub enter : List ℕ → ℕ → State → Effect State
 enter d j s = require stuck (ltb (length (s .chosen)) maxLiterals) (next (starting d s j))

@@ -20,13 +20,13 @@ pub data Decides {S : Type 0} (G : Goal S) : Answer S → Type 0 where
   found : {n : ℕ} {s : S} {c : ℕ} → G n s → Decides G (covered n s c)
   nothing : {c : ℕ} → ((n : ℕ) (s : S) → G n s → ⊥) → Decides G (notCovered c)
 
--- an outcome can be taken, and P holds of its state
+-- an effect can be taken, and P holds of its state
 abbrev pub Goes : {S : Type 0} → (S → Type 0) → Effect S → Type 0
 Goes P (next s) = P s
 Goes P fails = Unit {0}
 Goes P stuck = ⊥
 
--- a next state is known by its outcome
+-- a next state is known by its effect
 next-inj : {S : Type 0} {s t : S} → next s ≡ next t → s ≡ t
 next-inj e = cc
 
@@ -51,7 +51,7 @@ module _ {S : Type 0} where
       back n s (inl g) = absurd (d n s g)
       back n s (inr h) = h
 
-  -- a goal behind an outcome
+  -- a goal behind an effect
   abbrev pub Behind : Effect S → (S → Goal S) → Goal S
   Behind o G n t = (s : S) × (o ≡ next s) × G s n t
 

@@ -12,7 +12,7 @@ use Rattle.walk.specs.Walk.{Machine}
 use Rattle.walk.proofs.Paths.{LeadsAt, Leads, FullAt, Full, run, Candidates, NeverStuck}
 use Rattle.walk.proofs.Search.{Goes, SmoothAt, Smooth}
 
--- an outcome that is not stuck can be taken
+-- an effect that is not stuck can be taken
 goes-of : {S : Type 0} {P : S → Type 0} (o : Effect S) → o ≢ stuck → ((s : S) → o ≡ next s → P s) → Goes P o
 goes-of (next s) h k = k s refl
 goes-of fails h k = tt

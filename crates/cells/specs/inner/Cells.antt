@@ -3,10 +3,10 @@ use mathlib.Core.Path.{_≡_}
 use mathlib.Core.Bool.{Bool, cond}
 use mathlib.Core.Option.{Option, none, some}
 use mathlib.Core.List.{List, map}
-use Prim.Native.Nat.{ℕ, _+_, _-_, _*_, _/_, _%_, _^_, _≤_, _<_}
+use Prim.Native.Nat.{ℕ, _+_, _-_, _/_, _%_, _^_, _≤_, _<_}
 use lib.Dec.{eqb}
 use lib.ListN.{length, getD, take, drop, set}
-use Rattle.clause.specs.Clause.{Accepted, literals, startOf, maxWords, maxLiterals}
+use Rattle.clause.specs.Clause.{Accepted, literals, startOf, maxLiterals}
 use Rattle.clause.specs.Positions.{jump, rights}
 use Rattle.clause.specs.inner.Tables.{atEnds, atSiblings, atCount}
 use Rattle.machine.specs.Instr.{operands, instr}
