@@ -1,4 +1,4 @@
-//! A page: records in, lines out (document 01, "The program").
+//! A page: records in, lines and tally sheet out (document 01, "The program").
 use std::io::{self, Read, Write};
 
 /// What becomes of a record.
@@ -38,34 +38,47 @@ pub fn records(page: &[u8]) -> impl Iterator<Item = (u16, &[u8])> {
     })
 }
 
-/// The lines of a page, gathered into large writes, and the counts for the last one.
-#[derive(Default)]
+/// The lines of a page, gathered into large writes, the counts for the line of totals, and the tallies for the sheet.
 pub struct Lines {
     text: Vec<u8>,
-    kept: u64,
+    /// Whether covering numbers and candidates are told; a matcher without a tree has none.
+    values: bool,
     struck: u64,
     refused: u64,
+    /// The numbers kept, in the order of their records.
+    kept: Vec<u16>,
+    /// The strikes of each number, and the candidates spent on them.
+    tallies: Vec<[u64; 2]>,
 }
 
 impl Lines {
-    /// The line of a record; a matcher without a tree has no values for a strike.
-    pub fn put(&mut self, number: u16, verdict: &Verdict, values: bool) -> io::Result<()> {
+    pub fn new(values: bool) -> Lines {
+        Lines {
+            text: Vec::new(),
+            values,
+            struck: 0,
+            refused: 0,
+            kept: Vec::new(),
+            tallies: vec![[0; 2]; 1 << 16],
+        }
+    }
+
+    /// The line of a record.
+    pub fn put(&mut self, number: u16, verdict: &Verdict) -> io::Result<()> {
         self.digits(u64::from(number));
         match *verdict {
             Verdict::Kept { used } => {
-                self.kept += 1;
+                self.kept.push(number);
                 self.text.extend_from_slice(b" kept ");
                 self.digits(used as u64);
             }
             Verdict::Struck { by, candidates } => {
                 self.struck += 1;
+                let [strikes, spent] = &mut self.tallies[by as usize];
+                *strikes += 1;
+                *spent += candidates;
                 self.text.extend_from_slice(b" struck");
-                if values {
-                    self.text.push(b' ');
-                    self.digits(u64::from(by));
-                    self.text.push(b' ');
-                    self.digits(candidates);
-                }
+                self.values(u64::from(by), candidates);
             }
             Verdict::Refused { code } => {
                 self.refused += 1;
@@ -73,18 +86,40 @@ impl Lines {
                 self.digits(code);
             }
         }
+        self.end_line()
+    }
+
+    /// The line of totals, and the sheet: the kept numbers by rising number, and how many records were read.
+    pub fn end(mut self, records: u64) -> io::Result<()> {
+        let (kept, struck, refused) = (self.kept.len(), self.struck, self.refused);
+        writeln!(self.text, "kept {kept} struck {struck} refused {refused}")?;
+        let mut numbers = std::mem::take(&mut self.kept);
+        numbers.sort_unstable();
+        for number in numbers {
+            let [strikes, spent] = self.tallies[usize::from(number)];
+            self.digits(u64::from(number));
+            self.values(strikes, spent);
+            self.end_line()?;
+        }
+        writeln!(self.text, "{records}")?;
+        self.flush()
+    }
+
+    fn values(&mut self, first: u64, second: u64) {
+        if self.values {
+            self.text.push(b' ');
+            self.digits(first);
+            self.text.push(b' ');
+            self.digits(second);
+        }
+    }
+
+    fn end_line(&mut self) -> io::Result<()> {
         self.text.push(b'\n');
         if self.text.len() >= 1 << 16 {
             self.flush()?;
         }
         Ok(())
-    }
-
-    /// The last line.
-    pub fn end(mut self) -> io::Result<()> {
-        let (kept, struck, refused) = (self.kept, self.struck, self.refused);
-        writeln!(self.text, "kept {kept} struck {struck} refused {refused}")?;
-        self.flush()
     }
 
     fn flush(&mut self) -> io::Result<()> {

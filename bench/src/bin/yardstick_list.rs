@@ -1,5 +1,5 @@
-//! The same decisions with no tree: each kept clause is matched in turn. A strike's line has no values, since the tree's order
-//! decides them. What the tree has room for is counted by the clause book's rule: the different beginnings of the sequences.
+//! The same decisions with no tree: each kept clause is matched in turn. A strike's line and a row of the sheet have no values, since
+//! the tree's order decides them. What the tree has room for is counted by the clause book's rule: the different beginnings of the sequences.
 use std::collections::HashMap;
 use std::io;
 use yardsticks::clause::{is_variable, Clause};
@@ -186,13 +186,15 @@ impl Kept {
 
 fn main() -> io::Result<()> {
     let page = page::input()?;
-    let (mut kept, mut clause, mut lines) = (Kept::default(), Clause::default(), Lines::default());
+    let (mut kept, mut clause, mut lines) = (Kept::default(), Clause::default(), Lines::new(false));
+    let mut records = 0;
     for (number, bytes) in page::records(&page) {
+        records += 1;
         let verdict = match clause.read(bytes) {
             Ok(()) => kept.judge(&clause, number),
             Err(code) => Verdict::Refused { code },
         };
-        lines.put(number, &verdict, false)?;
+        lines.put(number, &verdict)?;
     }
-    lines.end()
+    lines.end(records)
 }

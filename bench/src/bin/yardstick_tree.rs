@@ -1,4 +1,4 @@
-//! The program of document 01 in plain safe Rust: the same tree words, walk and lines. It trusts its own tree: no test of
+//! The program of document 01 in plain safe Rust: the same tree words, walk, lines and sheet. It trusts its own tree: no test of
 //! foreign words on a step, no well-laid test on insertion, no witness.
 use std::io;
 use yardsticks::clause::Clause;
@@ -222,13 +222,15 @@ fn judge(tree: &mut Tree, compiler: &mut Compiler, clause: &Clause, number: u16)
 fn main() -> io::Result<()> {
     let page = page::input()?;
     let (mut tree, mut compiler) = (Tree::new(), Compiler::default());
-    let (mut clause, mut lines) = (Clause::default(), Lines::default());
+    let (mut clause, mut lines) = (Clause::default(), Lines::new(true));
+    let mut records = 0;
     for (number, bytes) in page::records(&page) {
+        records += 1;
         let verdict = match clause.read(bytes) {
             Ok(()) => judge(&mut tree, &mut compiler, &clause, number),
             Err(code) => Verdict::Refused { code },
         };
-        lines.put(number, &verdict, true)?;
+        lines.put(number, &verdict)?;
     }
-    lines.end()
+    lines.end(records)
 }

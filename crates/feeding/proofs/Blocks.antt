@@ -8,6 +8,7 @@ use lib.Seq.{take-add, take-take, take-all}
 use Rattle.record.specs.Text.{Written, putAt}
 use Rattle.record.specs.Line.{longestLine, lineOf}
 use Rattle.record.specs.Output.{fieldOf, counted}
+use Rattle.record.specs.Counters.{tallied}
 use Rattle.record.specs.declared.Outcome.{Outcome}
 use Rattle.record.specs.declared.Outcome.the-variants.{Kept, Struck, Refused}
 use Rattle.record.specs.declared.Totals.{Totals}
@@ -25,18 +26,19 @@ use Rattle.intake.specs.declared.Next.{Next}
 use Rattle.intake.specs.declared.Next.the-variants.{Reads, Ends}
 use Rattle.intake.specs.declared.Portion.{Portion}
 use Rattle.intake.proofs.Bytes.{feed-append}
-use Rattle.feeding.specs.inner.Blocks.{FedInto, fedInto, Took, recordsIn}
+use Rattle.feeding.specs.inner.Blocks.{FedInto, fedInto, Within, Took}
 
 -- a whole record ended
-pub finishes : (n count : ℕ) (t : Totals) (m : Store) (o : List ℕ) (at : ℕ) {r : Outcome} {T K p : List ℕ} {u : Totals} {next : ℕ}
+pub finishes : (n count : ℕ) (t : Totals) (m : Store) (o : List ℕ) (at : ℕ) {r : Outcome} {T K C p : List ℕ} {u : Totals} {next : ℕ}
     → CameOut (finishing n count (m .words) (m .slice)) n (m .marks) r T K
+    → C ≡ tallied r (m .counters)
     → u ≡ counted r t
     → _≡_ {A = Written} (record { next = next; output = p }) (putAt (lineOf n r) o at)
     → next ≤ at + longestLine
-    → Took (recordEnded n count t m) 1 at o (record { half = Even; stage = AtNumber; totals = u }) (record { words = m .words; slice = T; marks = K })
+    → Took (recordEnded n count t m) 1 at o (record { half = Even; stage = AtNumber; totals = u }) (record { words = m .words; slice = T; marks = K; counters = C })
     (record { next = next; output = p })
 unfolding recordEnded
-finishes n count t m o at a e w l = record { placed = rw (← a .answer, a .marking, e, w); steady = a .steady; short = omega arith }
+finishes n count t m o at a d e w l = record { placed = rw (← a .answer, a .marking, d, e, w); steady = a .steady; short = omega arith }
 
 -- what is taken of another input that is fed the same
 pub took-as : {f g : Fed} {k at : ℕ} {o : List ℕ} {s : Session} {m : Store} {w : Written} → f ≡ g → Took g k at o s m w → Took f k at o s m w
@@ -55,21 +57,26 @@ ends x t m e = ap (λ (z : Next). proceeding z t m) e
 
 -- ---- one more outcome, one more record
 
-counted-one : (o : Outcome) (t : Totals) → recordsIn (counted o t) ≡ recordsIn t + 1
-counted-one (Kept used) t = omega arith
-counted-one (Struck n c) t = omega arith
-counted-one (Refused code) t = omega arith
+counted-within : (o : Outcome) (t : Totals) {k l : ℕ} → Within t (1 + k) l → Within (counted o t) k l
+counted-within (Kept used) t w = record { read = omega (arith, w .read); ruled = omega (arith, w .ruled) }
+counted-within (Struck n c) t w = record { read = omega (arith, w .read); ruled = omega (arith, w .ruled) }
+counted-within (Refused code) t w = record { read = omega (arith, w .read); ruled = omega (arith, w .ruled) }
+
+-- fewer stay within it too
+pub within-fewer : {t : Totals} {k n l : ℕ} → k ≤ n → Within t n l → Within t k l
+within-fewer h w = record { read = omega (arith, w .read); ruled = omega (arith, w .ruled) }
 
 -- at most one record is counted at a byte
-few-next : (x : Next) (t : Totals) (m : Store) → recordsIn (proceeding x t m .session .totals) ≤ recordsIn t + 1
+next-within : (x : Next) (t : Totals) (m : Store) {k l : ℕ} → Within t (1 + k) l → Within (proceeding x t m .session .totals) k l
 unfolding recordEnded
-few-next (Reads h g) t m = omega arith
-few-next (Ends x) t m = omega (arith, counted-one (finishing (x .number) (x .count) (m .words) (m .slice) .outcome) t)
+next-within (Reads h g) t m w = within-fewer (omega arith) w
+next-within (Ends x) t m w = counted-within (finishing (x .number) (x .count) (m .words) (m .slice) .outcome) t w
 
-few-records : (h : Half) (g : Stage) (t : Totals) (m : Store) (b : ℕ) → recordsIn (takeAs h g t m b .session .totals) ≤ recordsIn t + 1
+byte-within : (h : Half) (g : Stage) (t : Totals) (m : Store) (b : ℕ) {k l : ℕ} → Within t (1 + k) l → Within (takeAs h g t m b .session .totals) k l
 unfolding takeField
-few-records Even g t m b = few-next (Reads (Odd b) g) t m
-few-records (Odd a) g t m b = few-next (advanced g (fieldOf a b)) t (storeOf (stored g (m .words) (fieldOf a b)) (m .slice) (m .marks))
+byte-within Even g t m b w = next-within (Reads (Odd b) g) t m w
+byte-within (Odd a) g t m b w =
+    next-within (advanced g (fieldOf a b)) t (storeOf (stored g (m .words) (fieldOf a b)) (m .slice) (m .marks) (m .counters)) w
 
 -- ---- some bytes after others
 
@@ -79,10 +86,11 @@ feed-on : (input : List ℕ) (i k : ℕ) (s : Session) (m : Store)
 feed-on input i k s m = rw (take-add i k input) (feed-append (take i input) (take k (drop i input)) s m)
 
 -- at most as many records are counted as bytes are fed
-pub feed-records : (bs : List ℕ) (s : Session) (m : Store) → recordsIn (feed s m bs .session .totals) ≤ recordsIn (s .totals) + length bs
+pub feed-within : (bs : List ℕ) (s : Session) (m : Store) {k l : ℕ} → Within (s .totals) (length bs + k) l → Within (feed s m bs .session .totals) k l
 unfolding feed
-feed-records [] s m = omega arith
-feed-records (b ∷ bs) s m = omega (arith, few-records (s .half) (s .stage) (s .totals) m b, feed-records bs (takeByte s m b .session) (takeByte s m b .store))
+feed-within [] s m w = within-fewer (omega arith) w
+feed-within (b ∷ bs) s m w =
+    feed-within bs (takeByte s m b .session) (takeByte s m b .store) (byte-within (s .half) (s .stage) (s .totals) m b (within-fewer (omega arith) w))
 
 -- what was fed, and then more, put into the output
 pub placed-then : (f : Fed) (k : Session → Store → Fed) (o : List ℕ) (at : ℕ) {s : Session} {m : Store} {w : Written}
@@ -111,7 +119,8 @@ pub record Feeding (s₀ : Session) (m₀ : Store) (input o₀ : List ℕ) (s : 
   pub words : length (m .words) ≡ length (m₀ .words)
   pub slice : length (m .slice) ≡ length (m₀ .slice)
   pub marks : length (m .marks) ≡ length (m₀ .marks)
-  pub records : recordsIn (s .totals) ≤ recordsIn (s₀ .totals) + i
+  pub counters : length (m .counters) ≡ length (m₀ .counters)
+  pub records : (k l : ℕ) → Within (s₀ .totals) (i + k) l → Within (s .totals) k l
 
 pub feeding-none : (s : Session) (m : Store) (input o : List ℕ) → Steady (m .slice) (m .marks) → Feeding s m input o s m o 0 0
 unfolding feed
@@ -123,24 +132,26 @@ feeding-none s m input o h =
       words = refl;
       slice = refl;
       marks = refl;
-      records = omega arith;
+      counters = refl;
+      records = λ k l w. within-fewer (omega arith) w;
     }
 
 module _ (s₀ : Session) (m₀ : Store) (input o₀ : List ℕ) {s : Session} {m : Store} {o : List ℕ} {i at : ℕ} (f : Feeding s₀ m₀ input o₀ s m o i at) where
   -- one step more: some bytes are read, and then the reading goes on or a record is ended
   pub feeding-more : {x : Portion} {ws : List ℕ} {s′ : Session} {m′ : Store} {o′ : List ℕ} {at′ : ℕ}
       → Stepped s (take (length input - i) (drop i input)) (m .words) x ws → i + x .taken ≤ length input
-      → Took (proceeding (x .next) (s .totals) (storeOf ws (m .slice) (m .marks))) 1 at o s′ m′ (record { next = at′; output = o′ })
+      → Took (proceeding (x .next) (s .totals) (storeOf ws (m .slice) (m .marks) (m .counters))) 1 at o s′ m′ (record { next = at′; output = o′ })
       → length o′ ≡ length o → length (m′ .words) ≡ length (m .words) → length (m′ .slice) ≡ length (m .slice) → length (m′ .marks) ≡ length (m .marks)
+      → length (m′ .counters) ≡ length (m .counters)
       → Feeding s₀ m₀ input o₀ s′ m′ o′ (i + x .taken) at′
-  feeding-more {x} {ws} {s′} r h t lo lw ls lm =
+  feeding-more {x} {ws} {s′} r h t lo lw ls lm lc =
       let k : ℕ = x .taken in
       let bs : List ℕ = take k (drop i input) in
       let e : take k (take (length input - i) (drop i input)) ≡ bs = take-take k (length input - i) (drop i input) (omega arith) in
-      let q : proceeding (x .next) (s .totals) (storeOf ws (m .slice) (m .marks)) ≡ feed s m bs = sym (r .feeds (m .slice) (m .marks)) ∙ ap (feed s m) e in
+      let q : proceeding (x .next) (s .totals) (storeOf ws (m .slice) (m .marks) (m .counters)) ≡ feed s m bs =
+      sym (r .feeds (m .slice) (m .marks) (m .counters)) ∙ ap (feed s m) e in
       let u : s′ ≡ feed s m bs .session = ap (λ (p : FedInto). p .session) (t .placed) ∙ ap (λ (y : Fed). y .session) q in
       let l : length bs ≤ k = simp length-take (omega arith) in
-      let n : recordsIn (s′ .totals) ≤ recordsIn (s .totals) + length bs = rw u (feed-records bs s m) in
       record {
         took =
             took-as (feed-on input i k s₀ m₀)
@@ -154,7 +165,8 @@ module _ (s₀ : Session) (m₀ : Store) (input o₀ : List ℕ) {s : Session} {
         words = lw ∙ f .words;
         slice = ls ∙ f .slice;
         marks = lm ∙ f .marks;
-        records = omega (arith, f .records, n);
+        counters = lc ∙ f .counters;
+        records = λ k′ l′ w. rw u (feed-within bs s m (f .records (length bs + k′) l′ (within-fewer (omega arith) w)));
       }
 
   -- nothing is left

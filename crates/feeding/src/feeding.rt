@@ -13,34 +13,39 @@ use lines::put_line;
 use machine::Sequence;
 use record::Outcome;
 use record::Totals;
+use tallying::count_strike;
 use tree::Refusal;
 ghost use mathlib.Core.Path.{_≡_};
-ghost use Prim.Native.Nat.{_+_, _^_, _<_};
 ghost use lib.ListN.{length};
 ghost use Rattle.clause.specs.Clause.{maxWords};
+ghost use Rattle.record.specs.Counters.{mostCounted};
 ghost use Rattle.record.specs.Output.{counted};
 ghost use Rattle.answering.specs.inner.Steady.{Steady, CameOut};
 ghost use Rattle.intake.specs.Feed.{storeOf, finishing, recordEnded, proceeding, WholeInput};
-ghost use Rattle.feeding.specs.inner.Blocks.{recordsIn, Feedable, Took};
+ghost use Rattle.feeding.specs.inner.Blocks.{Within, Feedable, Took};
 ghost use Rattle.intake.specs.Feed.{feed as Feed·feed};
 
-// The totals with one more outcome.
+// The totals with one more record, by its outcome.
 fn count_outcome(totals: Totals, outcome: Outcome) -> Totals
-    requires { ⌜ recordsIn totals + 1 < 2 ^ 64 ⌝ }
+    requires { ⌜ Within totals 1 mostCounted ⌝ }
     ensures { λ r. ⌜ r ≡ counted outcome totals ⌝ }
 {
+    let records = totals.records + 1;
     match outcome {
         Outcome::Kept(_) => Totals {
+            records: records,
             kept: totals.kept + 1,
             struck: totals.struck,
             refused: totals.refused,
         },
         Outcome::Struck(_, _) => Totals {
+            records: records,
             kept: totals.kept,
             struck: totals.struck + 1,
             refused: totals.refused,
         },
         Outcome::Refused(_) => Totals {
+            records: records,
             kept: totals.kept,
             struck: totals.struck,
             refused: totals.refused + 1,
@@ -67,23 +72,26 @@ fn outcome_of(
     answer(tree, marks, keys, &words[..end], heading.number)
 }
 
-// Ends a whole record: what becomes of it, its line, the totals.
+// Ends a whole record: what becomes of it, its line, the totals, the tally.
 fn finish(
     heading: Heading,
     turn: Turn,
     tree: &mut [u64],
     marks: &mut [u8],
+    counters: &mut [u64],
     keys: &mut [u64; Sequence::KEYS],
     words: &[u16],
     output: &mut [u8],
 ) -> Turn
-    requires { ⌜ Feedable (storeOf (now words) (now tree) (now marks)) (turn .session .totals) 1 (turn .next) (now output) ⌝ }
+    requires { ⌜ Feedable (storeOf (now words) (now tree) (now marks) (now counters)) (turn .session .totals) 1 (turn .next) (now output) ⌝ }
     ensures { λ r. ⌜ Took
-        (recordEnded (heading .number) (heading .count) (turn .session .totals) (storeOf (now (words .entry)) (now (tree .entry)) (now (marks .entry)))) 1
-        (turn .next) (now (output .entry)) (r .session) (storeOf (now (words .entry)) (now (tree .exit)) (now (marks .exit)))
+        (recordEnded (heading .number) (heading .count) (turn .session .totals)
+        (storeOf (now (words .entry)) (now (tree .entry)) (now (marks .entry)) (now (counters .entry)))) 1
+        (turn .next) (now (output .entry)) (r .session) (storeOf (now (words .entry)) (now (tree .exit)) (now (marks .exit)) (now (counters .exit)))
         (record { next = r .next; output = now (output .exit) }) ⌝ }
 {
     let outcome = outcome_of(heading, tree, marks, keys, words);
+    count_strike(counters, outcome);
     let next = put_line(output, turn.next, heading.number, outcome);
     let before = turn.session;
     let totals = before.totals;
@@ -104,13 +112,15 @@ fn proceed(
     turn: Turn,
     tree: &mut [u64],
     marks: &mut [u8],
+    counters: &mut [u64],
     keys: &mut [u64; Sequence::KEYS],
     words: &[u16],
     output: &mut [u8],
 ) -> Turn
-    requires { ⌜ Feedable (storeOf (now words) (now tree) (now marks)) (turn .session .totals) 1 (turn .next) (now output) ⌝ }
-    ensures { λ r. ⌜ Took (proceeding next (turn .session .totals) (storeOf (now (words .entry)) (now (tree .entry)) (now (marks .entry)))) 1
-        (turn .next) (now (output .entry)) (r .session) (storeOf (now (words .entry)) (now (tree .exit)) (now (marks .exit)))
+    requires { ⌜ Feedable (storeOf (now words) (now tree) (now marks) (now counters)) (turn .session .totals) 1 (turn .next) (now output) ⌝ }
+    ensures { λ r. ⌜ Took
+        (proceeding next (turn .session .totals) (storeOf (now (words .entry)) (now (tree .entry)) (now (marks .entry)) (now (counters .entry)))) 1
+        (turn .next) (now (output .entry)) (r .session) (storeOf (now (words .entry)) (now (tree .exit)) (now (marks .exit)) (now (counters .exit)))
         (record { next = r .next; output = now (output .exit) }) ⌝ }
 {
     match next {
@@ -126,7 +136,7 @@ fn proceed(
                 next: turn.next,
             }
         }
-        Next::Ends(heading) => finish(heading, turn, tree, marks, keys, words, output),
+        Next::Ends(heading) => finish(heading, turn, tree, marks, counters, keys, words, output),
     }
 }
 
@@ -136,12 +146,15 @@ pub fn feed(
     session: Session,
     tree: &mut [u64],
     marks: &mut [u8],
+    counters: &mut [u64],
     words: &mut [u16],
     output: &mut [u8],
 ) -> Turn
-    requires { ⌜ Feedable (storeOf (now words) (now tree) (now marks)) (session .totals) (length (now input)) 0 (now output) ⌝ }
-    ensures took { λ r. ⌜ Took (Feed·feed session (storeOf (now (words .entry)) (now (tree .entry)) (now (marks .entry))) (now (input .entry)))
-        (length (now (input .entry))) 0 (now (output .entry)) (r .session) (storeOf (now (words .exit)) (now (tree .exit)) (now (marks .exit)))
+    requires { ⌜ Feedable (storeOf (now words) (now tree) (now marks) (now counters)) (session .totals) (length (now input)) 0 (now output) ⌝ }
+    ensures took { λ r. ⌜ Took
+        (Feed·feed session (storeOf (now (words .entry)) (now (tree .entry)) (now (marks .entry)) (now (counters .entry))) (now (input .entry)))
+        (length (now (input .entry))) 0 (now (output .entry)) (r .session)
+        (storeOf (now (words .exit)) (now (tree .exit)) (now (marks .exit)) (now (counters .exit)))
         (record { next = r .next; output = now (output .exit) }) ⌝ }
     ensures whole { λ _. ⌜ WholeInput ⌝ }
 {
@@ -156,7 +169,7 @@ pub fn feed(
         let step = read_some(&input[taken..], here, words);
         taken += step.taken;
         let next = step.next;
-        let after = proceed(next, turn, tree, marks, &mut keys, words, output);
+        let after = proceed(next, turn, tree, marks, counters, &mut keys, words, output);
         turn = after;
     }
     turn

@@ -24,7 +24,7 @@ going g t m = proceeding (Reads Even g) t m
 
 -- the words with one more stored
 abbrev pub storing : Store → (at word : ℕ) → Store
-storing m at w = record { words = set (m .words) at w; slice = m .slice; marks = m .marks }
+storing m at w = record { words = set (m .words) at w; slice = m .slice; marks = m .marks; counters = m .counters }
 
 module _ (t : Totals) (m : Store) (w : ℕ) where
   pub at-count : (n : ℕ) {g : Stage} → g ≡ AtCount n → 0 < w → takeField g t m w ≡ going (AtWord n w 0) t m
@@ -68,6 +68,6 @@ pub first-byte : (s : Session) (m : Store) (b : ℕ) {x : Next} → s .half ≡ 
 first-byte s m b e f = ap (λ (x : Half). takeAs x (s .stage) (s .totals) m b) e ∙ ap (λ (x : Next). proceeding x (s .totals) m) (sym f)
 
 pub second-byte : (s : Session) (m : Store) (b a : ℕ) {w : ℕ} {ws : List ℕ} {x : Next} → s .half ≡ Odd a → w ≡ fieldOf a b → ws ≡ stored (s .stage) (m .words) w
-    → x ≡ advanced (s .stage) w → takeByte s m b ≡ proceeding x (s .totals) (storeOf ws (m .slice) (m .marks))
+    → x ≡ advanced (s .stage) w → takeByte s m b ≡ proceeding x (s .totals) (storeOf ws (m .slice) (m .marks) (m .counters))
 unfolding takeField
 second-byte s m b a e f g h = ap (λ (x : Half). takeAs x (s .stage) (s .totals) m b) e ∙ rw (h, g, f)

@@ -1,5 +1,5 @@
 -- Byte by byte or record by record: what is printed is the same.
-use mathlib.Core.Path.{_≡_, refl, sym, ap, _∙_}
+use mathlib.Core.Path.{_≡_, refl, sym, ap, ap₂, _∙_}
 use mathlib.Core.List.{List, [], _∷_, _++_}
 use mathlib.Core.Bool.{Bool, true, false, cond}
 use Prim.Native.Nat.{ℕ, zero, suc, _+_, _-_, _≤_, _<_}
@@ -26,13 +26,19 @@ use Rattle.walk.specs.declared.QueryAnswer.{QueryAnswer}
 use Rattle.walk.specs.declared.QueryAnswer.the-variants.{Unanswered, Covered, NotCovered}
 use Rattle.walk.specs.Query.{witnessWords, query}
 use Rattle.book.specs.Book.{after}
-use Rattle.record.specs.Line.{lineOf, totalsLine}
+use Rattle.record.specs.Line.{lineOf, totalsLine, recordsLine}
 use Rattle.record.specs.Answer.{treeWords, budget, Record, Answered, answerAs, answerTo}
-use Rattle.record.specs.Output.{fieldOf, fields, recordsFor, recordsOf, rowOn, rowsFrom, freshSlice, rowsOf, rowCalls, linesOf, counted, totalsWith, none, outputOf}
-use Rattle.record.specs.Marks.{marked}
-use Rattle.intake.specs.Feed.{Store, Fed, finishing, recordEnded, takeField, feedThen, feed, firstSession, firstStore, WholeInput}
+use Rattle.record.specs.Output.{fieldOf, fields, recordsFor, recordsOf, rowOn, rowsFrom, freshSlice, rowsOf, rowCalls, linesOf, counted, totalsWith, none, listingOf}
+use Rattle.record.specs.Marks.{numberCount, marked}
+use Rattle.record.specs.Tally.{TallyRow, tallyFrom, tallyOf, rowLines, sheetOf, outputOf}
+use Rattle.record.specs.Counters.{tallied, shownFrom}
+use Rattle.record.specs.Sheet.{Bytes}
+use Rattle.record.specs.Tallies.{mostBytes}
+use Rattle.intake.specs.Feed.{Store, storeOf, Fed, finishing, recordEnded, takeField, feedThen, feed, firstSession, firstStore, sheetAfter, WholeInput}
 use Rattle.record.proofs.Rows.{slice-more}
+use Rattle.record.proofs.Counting.{marksWith, countersWith}
 use Rattle.record.proofs.Sheets.{slice-from, sheets, no-strike-is-wrong}
+use Rattle.record.proofs.Tallies.{shown-input, read-records, tallies}
 use Rattle.intake.proofs.Bytes.{storing, at-count, at-empty, at-word, feed-append}
 use Rattle.intake.proofs.Whole.{feedFields, even-after, filling, collect}
 use Rattle.record.specs.declared.Outcome.the-variants.{Kept}
@@ -44,14 +50,20 @@ use Rattle.intake.specs.declared.Session.{Session}
 
 -- ---- field by field
 
--- what is printed: the text, and the totals and the slice after it
+-- what is printed: the text, and the totals, the slice, the marks and the counters after it
 record Prints : Type 0 where
   text : List ℕ
   totals : Totals
   slice : List ℕ
+  marks : List ℕ
+  counters : List ℕ
 
 abbrev shows : Fed → Prints
-shows f = record { text = f .text; totals = f .session .totals; slice = f .store .slice }
+shows f = record { text = f .text; totals = f .session .totals; slice = f .store .slice; marks = f .store .marks; counters = f .store .counters }
+
+-- some text before it
+abbrev before : List ℕ → Prints → Prints
+before t p = record { text = t ++ p .text; totals = p .totals; slice = p .slice; marks = p .marks; counters = p .counters }
 
 -- the bytes of whole fields; a last single byte prints nothing
 by-fields : (bs : List ℕ) (g : Stage) (t : Totals) (m : Store)
@@ -61,14 +73,14 @@ by-fields [] g t m = refl
 by-fields (a ∷ []) g t m = refl
 by-fields (a ∷ b ∷ bs) g t m =
     let f : Fed = takeField g t m (fieldOf a b) in
-    ap (λ (p : Prints). record { text = f .text ++ p .text; totals = p .totals; slice = p .slice })
+    ap (before (f .text))
     (ap (λ (s : Session). shows (feed s (f .store) bs)) (even-after g t m (fieldOf a b)) ∙ by-fields bs (f .session .stage) (f .session .totals) (f .store))
 
 -- ---- the words of a record, one after another
 
 -- the words of a record that are not all there
 cut : (ws : List ℕ) (n count i : ℕ) (t : Totals) (m : Store) → i + length ws < count
-    → shows (feedFields (AtWord n count i) t m ws) ≡ record { text = []; totals = t; slice = m .slice }
+    → shows (feedFields (AtWord n count i) t m ws) ≡ record { text = []; totals = t; slice = m .slice; marks = m .marks; counters = m .counters }
 unfolding feedFields
 cut [] n count i t m h = refl
 cut (w ∷ ws) n count i t m h = rw (at-word t m w n count i refl (omega arith)) (cut ws n count (i + 1) t (storing m i w) (omega arith))
@@ -137,24 +149,35 @@ answered-length T x = go (query T (x .words) budget (replicate witnessWords 0) .
 -- ---- record by record
 
 -- what some records print, asked on a slice
-abbrev told : Totals → (slice : List ℕ) → List Record → Prints
-told t T xs = let rs = rowsFrom T xs in record { text = linesOf rs; totals = totalsWith t rs; slice = after T (rowCalls rs) }
+abbrev told : Totals → Store → List Record → Prints
+told t m xs =
+    let rs = rowsFrom (m .slice) xs in
+    record {
+      text = linesOf rs;
+      totals = totalsWith t rs;
+      slice = after (m .slice) (rowCalls rs);
+      marks = marksWith (m .marks) rs;
+      counters = countersWith (m .counters) rs;
+    }
+
+-- the same with another slice
+abbrev sliced : Prints → List ℕ → Prints
+sliced p T = record { text = p .text; totals = p .totals; slice = T; marks = p .marks; counters = p .counters }
 
 -- a whole record, and then the others
 one-record : (n count : ℕ) (ws : List ℕ) (t : Totals) (m : Store) (xs : List Record) (fs : List ℕ)
     → length (m .words) ≡ maxWords → length (m .slice) ≡ treeWords → count ≤ length ws → (count ≤ maxWords → take count (m .words) ≡ take count ws)
-    → ((u : Totals) (m′ : Store) → length (m′ .words) ≡ maxWords → length (m′ .slice) ≡ treeWords → shows (feedFields AtNumber u m′ fs) ≡ told u (m′ .slice) xs)
+    → ((u : Totals) (m′ : Store) → length (m′ .words) ≡ maxWords → length (m′ .slice) ≡ treeWords → shows (feedFields AtNumber u m′ fs) ≡ told u m′ xs)
     → shows (feedThen (recordEnded n count t m) (λ s m′. feedFields (s .stage) (s .totals) m′ fs))
-    ≡ told t (m .slice) (record { number = n; words = take count ws } ∷ xs)
+    ≡ told t m (record { number = n; words = take count ws } ∷ xs)
 unfolding recordEnded rowsFrom rowOn
 one-record n count ws t m xs fs w s h same rest =
     let x : Record = record { number = n; words = take count ws } in
     let a : Answered = answerTo (m .slice) x in
+    let m′ : Store = storeOf (m .words) (a .slice) (marked (a .outcome) n (m .marks)) (tallied (a .outcome) (m .counters)) in
     rw (finishing-is n count (m .words) (m .slice) ws s h same)
-    (ap (λ (p : Prints). record { text = lineOf n (a .outcome) ++ p .text; totals = p .totals; slice = p .slice })
-    (rest (counted (a .outcome) t) (record { words = m .words; slice = a .slice; marks = marked (a .outcome) n (m .marks) }) w (answered-length (m .slice) x ∙ s))
-    ∙ ap (λ (T : List ℕ). record { text = told t (m .slice) (x ∷ xs) .text; totals = told t (m .slice) (x ∷ xs) .totals; slice = T })
-    (sym (slice-more (m .slice) x (rowCalls (rowsFrom (a .slice) xs)))))
+    (ap (before (lineOf n (a .outcome))) (rest (counted (a .outcome) t) m′ w (answered-length (m .slice) x ∙ s))
+    ∙ ap (sliced (told t m (x ∷ xs))) (sym (slice-more (m .slice) x (rowCalls (rowsFrom (a .slice) xs)))))
 
 -- the words that were stored are those of the record
 stored : (count : ℕ) (words ws : List ℕ) → length words ≡ maxWords → count ≤ length ws → count ≤ maxWords → take count (sets words 0 (take count ws)) ≡ take count ws
@@ -176,20 +199,20 @@ from-missing f n count ws k =
 
 -- what the rest of the fields prints
 abbrev Rest : (f : ℕ) (fs : List ℕ) → Type 0
-Rest f fs = (u : Totals) (m : Store) → length (m .words) ≡ maxWords → length (m .slice) ≡ treeWords → shows (feedFields AtNumber u m fs) ≡ told u (m .slice) (recordsFor f fs)
+Rest f fs = (u : Totals) (m : Store) → length (m .words) ≡ maxWords → length (m .slice) ≡ treeWords → shows (feedFields AtNumber u m fs) ≡ told u m (recordsFor f fs)
 
 next-record : (f n count : ℕ) (ws : List ℕ) (t : Totals) (m : Store) → length (m .words) ≡ maxWords → length (m .slice) ≡ treeWords → Rest f (drop count ws)
-    → shows (feedThen (takeField (AtCount n) t m count) (λ s m′. feedFields (s .stage) (s .totals) m′ ws)) ≡ told t (m .slice) (recordsFrom f n count ws)
+    → shows (feedThen (takeField (AtCount n) t m count) (λ s m′. feedFields (s .stage) (s .totals) m′ ws)) ≡ told t m (recordsFrom f n count ws)
 unfolding rowsFrom
 next-record f n zero ws t m w s rest =
     ap (λ (x : Fed). shows (feedThen x (λ s m′. feedFields (s .stage) (s .totals) m′ ws))) (at-empty t m 0 n refl (omega arith))
     ∙ one-record n 0 ws t m (recordsFor f ws) ws w s (omega arith) (λ h. refl) rest
-    ∙ ap (λ (xs : List Record). told t (m .slice) xs) (sym (from-there f n 0 ws (omega arith)))
+    ∙ ap (λ (xs : List Record). told t m xs) (sym (from-there f n 0 ws (omega arith)))
 next-record f n (suc k) ws t m w s rest =
     ap (λ (x : Fed). shows (feedThen x (λ s m′. feedFields (s .stage) (s .totals) m′ ws))) (at-count t m (suc k) n refl (omega arith))
     ∙ go (decLe (suc k) (length ws))
   where
-    go : Dec (suc k ≤ length ws) → shows (feedFields (AtWord n (suc k) 0) t m ws) ≡ told t (m .slice) (recordsFrom f n (suc k) ws)
+    go : Dec (suc k ≤ length ws) → shows (feedFields (AtWord n (suc k) 0) t m ws) ≡ told t m (recordsFrom f n (suc k) ws)
     go (yes h) =
         let e : suc k - 0 ≡ suc k = omega arith in
         let xs : List Record = recordsFor f (drop (suc k) ws) in
@@ -197,12 +220,12 @@ next-record f n (suc k) ws t m w s rest =
         ap shows (collect ws n (suc k) 0 t m (omega arith) (omega arith))
         ∙ ap (λ (i : ℕ). shows (feedThen (recordEnded n (suc k) t (filling m 0 (take i ws))) (λ s′ m′. feedFields (s′ .stage) (s′ .totals) m′ (drop i ws)))) e
         ∙ one-record n (suc k) ws t (filling m 0 (take (suc k) ws)) xs (drop (suc k) ws) l s h (stored (suc k) (m .words) ws w h) rest
-        ∙ ap (λ (xs : List Record). told t (m .slice) xs) (sym (from-there f n (suc k) ws h))
+        ∙ ap (λ (xs : List Record). told t m xs) (sym (from-there f n (suc k) ws h))
     go (no h) =
-        cut ws n (suc k) 0 t m (omega arith) ∙ ap (λ (xs : List Record). told t (m .slice) xs) (sym (from-missing f n (suc k) ws (omega arith)))
+        cut ws n (suc k) 0 t m (omega arith) ∙ ap (λ (xs : List Record). told t m xs) (sym (from-missing f n (suc k) ws (omega arith)))
 
 by-records : (f : ℕ) (fs : List ℕ) (t : Totals) (m : Store) → length fs ≤ f → length (m .words) ≡ maxWords → length (m .slice) ≡ treeWords
-    → shows (feedFields AtNumber t m fs) ≡ told t (m .slice) (recordsFor f fs)
+    → shows (feedFields AtNumber t m fs) ≡ told t m (recordsFor f fs)
 unfolding feedFields recordsFor takeField rowsFrom
 by-records zero [] t m h w s = refl
 by-records zero (n ∷ fs) t m h w s = absurd (omega arith)
@@ -213,20 +236,47 @@ by-records (suc f) (n ∷ count ∷ ws) t m h w s =
 
 -- ---- the whole input
 
--- what is printed, and the slice, are those of the rows
-whole : (input : List ℕ) → shows (feed firstSession firstStore input) ≡ told none freshSlice (recordsOf input)
+-- what is printed, and the lent words, are those of the rows
+whole : (input : List ℕ) → shows (feed firstSession firstStore input) ≡ told none firstStore (recordsOf input)
 unfolding firstStore recordsOf
 whole input =
     by-fields input AtNumber none firstStore
     ∙ by-records (length (fields input)) (fields input) none firstStore (omega arith) (length-replicate {A = ℕ} maxWords 0) (length-replicate {A = ℕ} treeWords 0)
 
+-- the tally is shown
+shown : (input : List ℕ) → Bytes input → length input < mostBytes → (n c : ℕ) → n + c ≤ numberCount
+    → let m = feed firstSession firstStore input .store in shownFrom (m .marks) (m .counters) n c ≡ tallyFrom (rowsOf input) n c
+unfolding firstStore rowsOf
+shown input b l n c h = ap (λ (p : Prints). shownFrom (p .marks) (p .counters) n c) (whole input) ∙ shown-input input b l n c h
+
+-- as many records as are read
+read : (input : List ℕ) → feed firstSession firstStore input .session .totals .records ≡ length (recordsOf input)
+unfolding firstStore rowsOf
+read input = ap (λ (p : Prints). p .totals .records) (whole input) ∙ read-records input
+
+-- the sheet
+sheet : (input : List ℕ) → Bytes input → length input < mostBytes → sheetAfter (feed firstSession firstStore input) ≡ sheetOf input
+unfolding sheetAfter sheetOf tallyOf
+sheet input b l =
+    ap₂ (λ (ts : List TallyRow) (n : ℕ). rowLines ts ++ recordsLine n) (shown input b l 0 numberCount (omega arith)) (read input)
+
+-- the listing
+listing : (input : List ℕ) → feed firstSession firstStore input .text ++ totalsLine (feed firstSession firstStore input .session .totals) ≡ listingOf input
+unfolding listingOf rowsOf firstStore
+listing input = ap (λ (p : Prints). p .text ++ totalsLine (p .totals)) (whole input)
+
 pub whole-input : WholeInput
-unfolding outputOf rowsOf
+unfolding rowsOf firstStore outputOf
 whole-input =
     record {
       blocks = λ s m a b. feed-append a b s m;
-      prints = λ input. ap (λ (p : Prints). p .text ++ totalsLine (p .totals)) (whole input);
+      prints = listing;
       leaves = λ input. ap (λ (p : Prints). p .slice) (whole input) ∙ sym (slice-from (rowCalls (rowsOf input)));
       sheets = sheets;
       strikes = no-strike-is-wrong;
+      tallies = tallies;
+      shows = shown;
+      records = read;
+      tally = sheet;
+      output = λ input b l. ap₂ _++_ (listing input) (sheet input b l);
     }

@@ -54,7 +54,7 @@ even-after (AtWord n count i) t m w = go (ltb (i + 1) count)
 
 -- some words stored from a place on
 abbrev pub filling : Store → (at : ℕ) (words : List ℕ) → Store
-filling m i ws = record { words = sets (m .words) i ws; slice = m .slice; marks = m .marks }
+filling m i ws = record { words = sets (m .words) i ws; slice = m .slice; marks = m .marks; counters = m .counters }
 
 -- the words that are still to come are there
 pub collect : (ws : List ℕ) (n count i : ℕ) (t : Totals) (m : Store) → i < count → count ≤ i + length ws
@@ -136,7 +136,7 @@ pub record-read : (s : Session) (input words : List ℕ) (count : ℕ) {n c : �
     → Stepped s input words (record { taken = 4 + count * 2; next = Ends (record { number = n; count = c }) }) ws
 record-read s input words count w en ec ew =
     let e = take-take (count * 2) (length input - 4) (drop 4 input) (omega (arith, w .inside)) in
-    record { some = omega arith; inside = w .inside; feeds = λ T K. whole-record s input count (storeOf words T K) w ∙ rw (en, ec, ew, e) }
+    record { some = omega arith; inside = w .inside; feeds = λ T K C. whole-record s input count (storeOf words T K C) w ∙ rw (en, ec, ew, e) }
 
 -- ---- the words, one after another
 

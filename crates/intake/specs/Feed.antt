@@ -2,17 +2,20 @@
 use mathlib.Core.Bool.{cond}
 use mathlib.Core.Path.{_≡_}
 use mathlib.Core.List.{List, [], _∷_, _++_}
-use Prim.Native.Nat.{ℕ, _+_}
+use Prim.Native.Nat.{ℕ, _+_, _≤_, _<_}
 use lib.Dec.{ltb, eqb}
-use lib.ListN.{take, set, replicate}
+use lib.ListN.{length, take, set, replicate}
 use Rattle.clause.specs.Clause.{maxWords}
 use Rattle.book.specs.Book.{sliceOf}
-use Rattle.record.specs.Line.{lineOf, totalsLine}
+use Rattle.record.specs.Line.{lineOf, totalsLine, recordsLine}
 use Rattle.record.specs.Answer.{treeWords, Answered, answerTo}
 use Rattle.record.specs.Marks.{numberCount, marked}
-use Rattle.record.specs.Output.{fieldOf, counted, freshSlice, rowsOf, rowCalls, outputOf}
+use Rattle.record.specs.Output.{fieldOf, recordsOf, counted, freshSlice, rowsOf, rowCalls, listingOf}
 use Rattle.record.specs.Output as output
-use Rattle.record.specs.Sheet.{Sheets, NoStrikeIsWrong}
+use Rattle.record.specs.Tally.{tallyFrom, rowLines, sheetOf, outputOf}
+use Rattle.record.specs.Counters.{counterWords, tallied, shownFrom}
+use Rattle.record.specs.Sheet.{Bytes, Sheets, NoStrikeIsWrong}
+use Rattle.record.specs.Tallies.{mostBytes, Tallies}
 use Rattle.record.specs.declared.Outcome.the-variants.{Refused}
 use Rattle.record.specs.declared.Totals.{Totals}
 use Rattle.intake.specs.declared.Half.{Half}
@@ -23,15 +26,16 @@ use Rattle.intake.specs.declared.Session.{Session}
 use Rattle.intake.specs.declared.Next.{Next}
 use Rattle.intake.specs.declared.Next.the-variants.{Reads, Ends}
 
--- the lent words: those of the record that is being read, the tree's slice, and a byte for each number, 1 if it is taken
+-- the lent words: those of the record that is being read, the tree's slice, a byte for each number, 1 if it is taken, and two counters for each
 pub record Store : Type 0 where
   pub words : List ℕ
   pub slice : List ℕ
   pub marks : List ℕ
+  pub counters : List ℕ
 
 -- the lent words by name
-abbrev pub storeOf : (words slice marks : List ℕ) → Store
-storeOf ws T m = record { words = ws; slice = T; marks = m }
+abbrev pub storeOf : (words slice marks counters : List ℕ) → Store
+storeOf ws T m c = record { words = ws; slice = T; marks = m; counters = c }
 
 -- how far the reading is after some bytes, the lent words, and what was printed
 pub record Fed : Type 0 where
@@ -39,12 +43,12 @@ pub record Fed : Type 0 where
   pub store : Store
   pub text : List ℕ
 
--- a whole record: what becomes of it, its line, the totals
+-- a whole record: what becomes of it, its line, the totals, the tally
 abbrev pub finishedAs : Answered → (number : ℕ) → Totals → Store → Fed
 finishedAs a n t m =
     record {
       session = record { half = Even; stage = AtNumber; totals = counted (a .outcome) t };
-      store = record { words = m .words; slice = a .slice; marks = marked (a .outcome) n (m .marks) };
+      store = record { words = m .words; slice = a .slice; marks = marked (a .outcome) n (m .marks); counters = tallied (a .outcome) (m .counters) };
       text = lineOf n (a .outcome);
     }
 
@@ -75,7 +79,7 @@ proceeding (Ends x) t m = recordEnded (x .number) (x .count) t m
 
 -- one more field
 unfoldable pub takeField : Stage → Totals → Store → (field : ℕ) → Fed
-takeField g t m w = proceeding (advanced g w) t (storeOf (stored g (m .words) w) (m .slice) (m .marks))
+takeField g t m w = proceeding (advanced g w) t (storeOf (stored g (m .words) w) (m .slice) (m .marks) (m .counters))
 
 -- one more byte: the first or the second of a field
 abbrev pub takeAs : Half → Stage → Totals → Store → (byte : ℕ) → Fed
@@ -101,14 +105,27 @@ firstSession = record { half = Even; stage = AtNumber; totals = output.none }
 
 -- the lent words before the first byte: all zeros
 unfoldable pub firstStore : Store
-firstStore = record { words = replicate maxWords 0; slice = replicate treeWords 0; marks = replicate numberCount 0 }
+firstStore = storeOf (replicate maxWords 0) (replicate treeWords 0) (replicate numberCount 0) (replicate counterWords 0)
+
+-- the sheet that marks, counters and totals show
+unfoldable pub sheetAfter : Fed → List ℕ
+sheetAfter f = rowLines (shownFrom (f .store .marks) (f .store .counters) 0 numberCount) ++ recordsLine (f .session .totals .records)
 
 -- the claims about every input
 pub record WholeInput : Type 0 where
-  -- whatever the blocks, the text of all of them and the last line are the output for the whole input, and the slice is that of its calls
+  -- whatever the blocks, the text of all of them and the totals are the listing of the whole input, and the slice is that of its calls
   pub blocks : (s : Session) (m : Store) (a b : List ℕ) → feed s m (a ++ b) ≡ feedThen (feed s m a) (λ s′ m′. feed s′ m′ b)
-  pub prints : (input : List ℕ) → feed firstSession firstStore input .text ++ totalsLine (feed firstSession firstStore input .session .totals) ≡ outputOf input
+  pub prints : (input : List ℕ) → feed firstSession firstStore input .text ++ totalsLine (feed firstSession firstStore input .session .totals) ≡ listingOf input
   pub leaves : (input : List ℕ) → feed firstSession firstStore input .store .slice ≡ sliceOf freshSlice (rowCalls (rowsOf input))
   -- what becomes of each record, by the clauses that are kept before it; and in one sentence
   pub sheets : Sheets
   pub strikes : NoStrikeIsWrong
+  -- the tally of every input; of one under 4,000,000,000 bytes marks and counters show it, number by number, and the sheet is its text
+  pub tallies : Tallies
+  pub shows : (input : List ℕ) → Bytes input → length input < mostBytes → (n c : ℕ) → n + c ≤ numberCount
+      → let m = feed firstSession firstStore input .store in shownFrom (m .marks) (m .counters) n c ≡ tallyFrom (rowsOf input) n c
+  pub records : (input : List ℕ) → feed firstSession firstStore input .session .totals .records ≡ length (recordsOf input)
+  pub tally : (input : List ℕ) → Bytes input → length input < mostBytes → sheetAfter (feed firstSession firstStore input) ≡ sheetOf input
+  -- so all that is printed of such an input is its output
+  pub output : (input : List ℕ) → Bytes input → length input < mostBytes
+      → let f = feed firstSession firstStore input in (f .text ++ totalsLine (f .session .totals)) ++ sheetAfter f ≡ outputOf input

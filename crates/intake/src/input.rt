@@ -28,6 +28,7 @@ pub fn begin() -> Session
         half: Half::Even,
         stage: Stage::AtNumber,
         totals: Totals {
+            records: 0,
             kept: 0,
             struck: 0,
             refused: 0,
@@ -84,8 +85,8 @@ fn field_of(high: u8, low: u8) -> u16
 
 // Reads one more byte.
 fn read_byte(session: Session, byte: u8, words: &mut [u16]) -> Next
-    ensures { λ r. ⌜ ((T m : List ℕ) → takeByte session (storeOf (now (words .entry)) T m) byte
-        ≡ proceeding r (session .totals) (storeOf (now (words .exit)) T m)) ⌝ }
+    ensures { λ r. ⌜ ((T m c : List ℕ) → takeByte session (storeOf (now (words .entry)) T m c) byte
+        ≡ proceeding r (session .totals) (storeOf (now (words .exit)) T m c)) ⌝ }
 {
     let half = session.half;
     let stage = session.stage;

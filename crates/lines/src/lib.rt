@@ -4,6 +4,9 @@ mod text;
 
 pub use line::put_line;
 pub use line::put_totals;
+pub use text::put_decimal;
+pub use text::put_named;
+pub use text::put_text;
 
 // The most bytes of a line.
 pub struct Longest {}

@@ -1,4 +1,4 @@
-// The line of a record, and the last line.
+// The line of a record, and the line of totals.
 use crate::text::put_decimal;
 use crate::text::put_named;
 use crate::text::put_text;
@@ -8,7 +8,7 @@ ghost use mathlib.Core.Path.{_≡_};
 ghost use Prim.Native.Nat.{_+_, _≤_};
 ghost use lib.ListN.{length};
 ghost use Rattle.record.specs.Text.{putAt};
-ghost use Rattle.record.specs.Line.{longestSaying, longestLine, longestLast, saying, lineOf, totalsLine};
+ghost use Rattle.record.specs.Line.{longestSaying, longestLine, longestTotals, saying, lineOf, totalsLine};
 
 // Puts what became of a record at a place of the output, and gives the place after it. It takes at most `longestSaying` bytes.
 fn put_outcome(output: &mut [u8], at: usize, outcome: Outcome) -> usize
@@ -37,11 +37,11 @@ pub fn put_line(output: &mut [u8], at: usize, number: u16, outcome: Outcome) -> 
     put_text(output, end, b"\n")
 }
 
-// Puts the last line at a place of the output, and gives the place after it. It takes at most `longestLast` bytes.
+// Puts the line of totals at a place of the output, and gives the place after it. It takes at most `longestTotals` bytes.
 pub fn put_totals(output: &mut [u8], at: usize, totals: Totals) -> usize
-    requires { ⌜ at + longestLast ≤ length (now output) ⌝ }
+    requires { ⌜ at + longestTotals ≤ length (now output) ⌝ }
     ensures text { λ r. ⌜ record { next = r; output = now (output .exit) } ≡ putAt (totalsLine totals) (now (output .entry)) at ⌝ }
-    ensures short { λ r. ⌜ r ≤ at + longestLast ⌝ }
+    ensures short { λ r. ⌜ r ≤ at + longestTotals ⌝ }
 {
     let struck = put_named(output, at, b"kept ", totals.kept);
     let refused = put_named(output, struck, b" struck ", totals.struck);

@@ -19,7 +19,7 @@ fn digits(number: u64) -> usize
 }
 
 // Puts the digits of a number in base ten at a place of the output, the last one first, and gives the place after them.
-pub(crate) fn put_decimal(output: &mut [u8], at: usize, number: u64) -> usize
+pub fn put_decimal(output: &mut [u8], at: usize, number: u64) -> usize
     requires { ⌜ at + length (decimal number) ≤ length (now output) ⌝ }
     ensures { λ r. ⌜ record { next = r; output = now (output .exit) } ≡ putAt (decimal number) (now (output .entry)) at ⌝ }
 {
@@ -36,7 +36,7 @@ pub(crate) fn put_decimal(output: &mut [u8], at: usize, number: u64) -> usize
 }
 
 // Puts some text at a place of the output, and gives the place after it.
-pub(crate) fn put_text(output: &mut [u8], at: usize, text: &[u8]) -> usize
+pub fn put_text(output: &mut [u8], at: usize, text: &[u8]) -> usize
     requires { ⌜ at + length (now text) ≤ length (now output) ⌝ }
     ensures { λ r. ⌜ record { next = r; output = now (output .exit) } ≡ putAt (now (text .entry)) (now (output .entry)) at ⌝ }
 {
@@ -49,7 +49,7 @@ pub(crate) fn put_text(output: &mut [u8], at: usize, text: &[u8]) -> usize
 }
 
 // Puts some text and a number after it at a place of the output, and gives the place after both.
-pub(crate) fn put_named(output: &mut [u8], at: usize, text: &[u8], number: u64) -> usize
+pub fn put_named(output: &mut [u8], at: usize, text: &[u8], number: u64) -> usize
     requires { ⌜ at + length (now text ++ decimal number) ≤ length (now output) ⌝ }
     ensures { λ r. ⌜ record { next = r; output = now (output .exit) } ≡ putAt (now (text .entry) ++ decimal number) (now (output .entry)) at ⌝ }
 {

@@ -11,6 +11,7 @@ use Rattle.clause.specs.Lists.{All, none, also}
 use Rattle.clause.specs.Word.{Words}
 use Rattle.book.specs.Book.{insert, Fit}
 use Rattle.record.specs.Answer.{Record}
+use Rattle.record.specs.Marks.{numberCount}
 use Rattle.record.specs.Output.{fields, allThere, recordsFor, recordsOf}
 use Rattle.record.specs.Sheet.{Bytes, fieldsOf, allFields, Complete}
 use Rattle.clause.proofs.Lists.{all-take}
@@ -90,3 +91,39 @@ records-fit (suc f) (n ∷ count ∷ ws) (also p (also q r)) = go (allThere coun
 pub input-fits : (input : List ℕ) → Bytes input → All FitRecord (recordsOf input)
 unfolding recordsOf
 input-fits input h = records-fit (length (fields input)) (fields input) (fields-fit input h)
+
+-- ---- numbers of 16 bits
+
+records-small : (f : ℕ) (fs : List ℕ) → Words fs → All (λ x. x .number < numberCount) (recordsFor f fs)
+unfolding recordsFor
+records-small zero fs h = none
+records-small (suc f) [] h = none
+records-small (suc f) (n ∷ []) h = none
+records-small (suc f) (n ∷ count ∷ ws) (also p (also q r)) = go (allThere count ws) (records-small f (drop count ws) (words-drop count ws r))
+  where
+    go : (b : Bool) → All (λ (x : Record). x .number < numberCount) (recordsFor f (drop count ws))
+        → All (λ (x : Record). x .number < numberCount)
+        (elim b as (λ y. List Record) [ true ↦ record { number = n; words = take count ws } ∷ recordsFor f (drop count ws) | false ↦ [] ])
+    go true ih = also {x = record { number = n; words = take count ws }} (omega arith) ih
+    go false ih = none
+
+pub input-numbers : (input : List ℕ) → Bytes input → All (λ x. x .number < numberCount) (recordsOf input)
+unfolding recordsOf
+input-numbers input h = records-small (length (fields input)) (fields input) (fields-fit input h)
+
+-- ---- how many they are
+
+fields-few : (bs : List ℕ) → length (fields bs) ≤ length bs
+fields-few [] = omega arith
+fields-few (a ∷ []) = omega arith
+fields-few (a ∷ b ∷ bs) = omega (arith, fields-few bs)
+
+records-fewer : (xs : List Record) → length xs ≤ length (allFields xs)
+records-fewer [] = omega arith
+records-fewer (x ∷ xs) = omega (arith, records-fewer xs, length-append (x .words) (allFields xs))
+
+-- at most as many as bytes
+pub records-few : (input : List ℕ) → length (recordsOf input) ≤ length input
+records-few input =
+    let c = complete input in
+    omega (arith, fields-few input, records-fewer (recordsOf input), ap length (c .whole), length-append (allFields (recordsOf input)) (c .rest))

@@ -164,6 +164,15 @@ pub rows-counted : (rs : List Row) (t : Totals) → sum (totalsWith t rs) ≡ su
 rows-counted [] t = omega arith
 rows-counted (r ∷ rs) t = omega (arith, rows-counted rs (counted (r .outcome) t), counted-one (r .outcome) t)
 
+counted-read : (o : Outcome) (t : Totals) → counted o t .records ≡ t .records + 1
+counted-read (Kept used) t = refl
+counted-read (Struck n c) t = refl
+counted-read (Refused code) t = refl
+
+pub rows-read : (rs : List Row) (t : Totals) → totalsWith t rs .records ≡ t .records + length rs
+rows-read [] t = omega arith
+rows-read (r ∷ rs) t = omega (arith, rows-read rs (counted (r .outcome) t), counted-read (r .outcome) t)
+
 -- the pair of a row with a `kept` line
 kept-one : {o : Outcome} {x : Record} → IsKept o → List·Memᴰ (pairOf x) (keptOn o x)
 kept-one (u, e) = rw e (List·Memᴰ·head refl)

@@ -100,7 +100,7 @@ rows-made : (input : List ℕ) → Bytes input → Made freshSlice (rowsOf input
 unfolding rowsOf
 rows-made input b = made freshSlice (recordsOf input) (input-fits input b)
 
-rows-fated : (input : List ℕ) → Bytes input → Fated [] (rowsOf input)
+pub rows-fated : (input : List ℕ) → Bytes input → Fated [] (rowsOf input)
 rows-fated input b = fated [] standing-none (rows-made input b)
 
 covers : (input : List ℕ) → Fated [] (rowsOf input) → Covers input

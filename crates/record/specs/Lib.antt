@@ -3,5 +3,8 @@ pub mod Line
 pub mod Answer
 pub mod Marks
 pub mod Output
+pub mod Tally
+pub mod Counters
 pub mod Ruled
 pub mod Sheet
+pub mod Tallies

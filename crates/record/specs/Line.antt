@@ -48,14 +48,30 @@ longestSaying = 39
 abbrev pub longestLine : ℕ
 longestLine = 45
 
--- the most bytes of the last line: three numbers of 64 bits, `kept `, ` struck `, ` refused `, the line's end
-abbrev pub longestLast : ℕ
-longestLast = 83
+-- the most bytes of the line of totals: three numbers of 64 bits, `kept `, ` struck `, ` refused `, the line's end
+abbrev pub longestTotals : ℕ
+longestTotals = 83
+
+-- the most bytes of a row of the tally sheet: a number of 16 bits, two of 64, two spaces, the line's end
+abbrev pub longestRow : ℕ
+longestRow = 48
+
+-- the most bytes of the sheet's last line: a number of 64 bits, the line's end
+abbrev pub longestRecords : ℕ
+longestRecords = 21
 
 -- the line of a record
 unfoldable pub lineOf : (number : ℕ) → Outcome → List ℕ
 lineOf n o = decimal n ++ (saying o ++ lineEnd)
 
--- the last line: how many were kept, struck and refused
+-- the line of totals: how many were kept, struck and refused
 unfoldable pub totalsLine : Totals → List ℕ
 totalsLine t = named saysFirst (t .kept) ++ (named saysStruck (t .struck) ++ (named saysRefused (t .refused) ++ lineEnd))
+
+-- a row of the tally sheet: a number, the strikes of its clause, and their candidates
+unfoldable pub rowLine : (number strikes candidates : ℕ) → List ℕ
+rowLine n s k = decimal n ++ (named space s ++ (named space k ++ lineEnd))
+
+-- the sheet's last line: how many records were read
+unfoldable pub recordsLine : (records : ℕ) → List ℕ
+recordsLine n = decimal n ++ lineEnd

@@ -1,4 +1,4 @@
--- What the program prints for an input.
+-- What becomes of the records of an input, and the lines that are printed of them. The tally sheet after these is in `Tally`.
 use mathlib.Core.List.{List, [], _∷_, _++_}
 use mathlib.Core.Bool.{Bool, true, false}
 use Prim.Native.Nat.{ℕ, zero, suc, _+_, _*_}
@@ -76,11 +76,11 @@ abbrev pub linesOf : List Row → List ℕ
 linesOf [] = []
 linesOf (r ∷ rs) = lineOf (r .of .number) (r .outcome) ++ linesOf rs
 
--- the totals with one more outcome
+-- the totals with one more record, by its outcome
 abbrev pub counted : Outcome → Totals → Totals
-counted (Kept used) t = record { kept = t .kept + 1; struck = t .struck; refused = t .refused }
-counted (Struck n c) t = record { kept = t .kept; struck = t .struck + 1; refused = t .refused }
-counted (Refused code) t = record { kept = t .kept; struck = t .struck; refused = t .refused + 1 }
+counted (Kept used) t = record { records = t .records + 1; kept = t .kept + 1; struck = t .struck; refused = t .refused }
+counted (Struck n c) t = record { records = t .records + 1; kept = t .kept; struck = t .struck + 1; refused = t .refused }
+counted (Refused code) t = record { records = t .records + 1; kept = t .kept; struck = t .struck; refused = t .refused + 1 }
 
 -- the totals with the outcomes of some rows
 abbrev pub totalsWith : Totals → List Row → Totals
@@ -89,8 +89,8 @@ totalsWith t (r ∷ rs) = totalsWith (counted (r .outcome) t) rs
 
 -- no records yet
 abbrev pub none : Totals
-none = record { kept = 0; struck = 0; refused = 0 }
+none = record { records = 0; kept = 0; struck = 0; refused = 0 }
 
--- the whole output: the lines of the rows, and the last line
-unfoldable pub outputOf : (input : List ℕ) → List ℕ
-outputOf bs = linesOf (rowsOf bs) ++ totalsLine (totalsWith none (rowsOf bs))
+-- the listing: the lines of the rows, and the totals
+unfoldable pub listingOf : (input : List ℕ) → List ℕ
+listingOf bs = linesOf (rowsOf bs) ++ totalsLine (totalsWith none (rowsOf bs))

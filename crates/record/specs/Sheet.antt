@@ -89,13 +89,13 @@ pub record Covers (input : List ℕ) : Type 0 where
   -- one that was struck is so by the clause with the number that its line says
   pub named : (r : Row) → List·Memᴰ r (rowsOf input) → (n k : ℕ) → r .outcome ≡ Struck n k
       → (p : Pair) × List·Memᴰ p (bookAfter (rowsOf input)) × (p .number ≡ n) × Subsumes (p .clause) (r .of .words)
-  -- the pairs of the last book are exactly the records with a `kept` line, as many as the last line says
+  -- the pairs of the last book are exactly the records with a `kept` line, as many as the totals say
   pub pairs : bookAfter (rowsOf input) ≡ keptPairs (rowsOf input)
   pub many : totalsWith none (rowsOf input) .kept ≡ length (bookAfter (rowsOf input))
 
--- what is claimed of an input; `outputOf` is the lines of its rows, and their totals
+-- what is claimed of an input; `listingOf` is the lines of its rows, and their totals
 pub record Sheet (input : List ℕ) : Type 0 where
-  -- a row for each complete record, in order; the last line counts each of them once
+  -- a row for each complete record, in order; the totals count each of them once
   pub reads : Complete (recordsOf input) (fields input)
   pub rows : map (λ r. r .of) (rowsOf input) ≡ recordsOf input
   pub counts : let t = totalsWith none (rowsOf input) in t .kept + t .struck + t .refused ≡ length (recordsOf input)

@@ -7,8 +7,9 @@ pub enum Outcome {
     Refused(u8),
 }
 
-// How many records were kept, struck and refused.
+// How many records were read, and how many of them were kept, struck and refused.
 pub struct Totals {
+    pub records: u64,
     pub kept: u64,
     pub struck: u64,
     pub refused: u64,

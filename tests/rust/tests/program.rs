@@ -1,9 +1,11 @@
 //! The built program on whole pages: every byte that it prints is the model's. SUBSUME_BIN names it, or it is target/bin/subsume.
 mod drawn;
+mod sheet;
 
 use drawn::{Random, STYLES};
 use model::pages::{pages, record, record_counting};
-use model::program::output;
+use model::program::{output, records};
+use sheet::expect_sheet;
 use std::fs::{read, read_dir, read_to_string, remove_file, write, File};
 use std::io::Write;
 use std::os::fd::AsRawFd;
@@ -164,17 +166,18 @@ fn every_kind() -> Vec<u8> {
 
 #[test]
 fn documents_example() {
-    let expected = "1 kept 10\n2 struck 1 1\n3 kept 15\nkept 2 struck 1 refused 0\n";
+    let lines = "1 kept 10\n2 struck 1 1\n3 kept 15\nkept 2 struck 1 refused 0\n";
+    let expected = format!("{lines}1 1 1\n3 0 0\n3\n");
     assert_eq!(output(&example()), expected);
     expect_page(&example(), 65_536, "document 01's example");
     // P-1 to P-3: cut overlong, cut count, taken number of a covered clause
     let rows: [(&[u8], &str); 4] = [
-        (&[0, 1, 0, 0x41, 0, 0], "kept 0 struck 0 refused 0\n"),
-        (&[0, 1, 0], "kept 0 struck 0 refused 0\n"),
-        (&[0, 1, 0, 0], "1 refused 3\nkept 0 struck 0 refused 1\n"),
+        (&[0, 1, 0, 0x41, 0, 0], "kept 0 struck 0 refused 0\n0\n"),
+        (&[0, 1, 0], "kept 0 struck 0 refused 0\n0\n"),
+        (&[0, 1, 0, 0], "1 refused 3\nkept 0 struck 0 refused 1\n1\n"),
         (
             &[0, 1, 0, 1, 0x80, 1, 0, 1, 0, 1, 0x80, 1],
-            "1 kept 3\n1 struck 1 1\nkept 1 struck 1 refused 0\n",
+            "1 kept 3\n1 struck 1 1\nkept 1 struck 1 refused 0\n1 1 1\n2\n",
         ),
     ];
     for (page, expected) in rows {
@@ -326,6 +329,41 @@ fn overlong_records_across_blocks() {
         expect_both(&page, &[4_095], &format!("count of {count}"));
         expect_page(&long[..long.len() - 1], long.len(), "a cut overlong record");
     }
+}
+
+// What is claimed of the sheet, by the printed text and the records of the input alone: the model's tally has no part in it.
+fn expect_claims(page: &[u8], what: &str) {
+    let text = printed([page].into_iter());
+    expect_sheet(&text, records(page).len(), what);
+}
+
+#[test]
+fn sheets_add_up() {
+    for (name, page) in pages() {
+        expect_claims(&page, name);
+    }
+    let mut random = Random(15);
+    for i in 0..100 {
+        let bytes = random.below(400 + 200 * i);
+        let page = any_page(&mut random, bytes);
+        expect_claims(&page, &format!("random page {i} with a sheet"));
+    }
+    for words in [3, 15] {
+        let page = full_page(&mut random, words);
+        expect_claims(&page, &format!("full page {words} with a sheet"));
+    }
+}
+
+// More strikes by one clause than 16 bits count, and three times as many candidates.
+#[test]
+fn very_many_strikes() {
+    let strikes = 66_000;
+    let clause = |i: u32| [vec![0x8001; i as usize % 5], vec![0x8802, 0x0003]].concat();
+    let mut page = record(9, &[0x8802, 0x4000]);
+    page.extend((0..strikes).flat_map(|i| record(i as u16, &clause(i))));
+    let expected = output(&page);
+    assert!(expected.ends_with("\n9 66000 198000\n66001\n"));
+    expect_both(&page, &[page.len()], "very many strikes");
 }
 
 // Many short lines: more bytes out than in, and both over a block.

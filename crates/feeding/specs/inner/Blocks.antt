@@ -1,11 +1,12 @@
 -- What the functions that feed a block ask and promise.
 use mathlib.Core.Path.{_≡_}
 use mathlib.Core.List.{List}
-use Prim.Native.Nat.{ℕ, _+_, _*_, _^_, _≤_, _<_}
+use Prim.Native.Nat.{ℕ, _+_, _*_, _≤_}
 use lib.ListN.{length}
 use Rattle.clause.specs.Clause.{maxWords}
 use Rattle.record.specs.Text.{Written, putAt}
 use Rattle.record.specs.Line.{longestLine}
+use Rattle.record.specs.Counters.{mostCounted}
 use Rattle.record.specs.declared.Totals.{Totals}
 use Rattle.answering.specs.inner.Steady.{Steady}
 use Rattle.intake.specs.declared.Session.{Session}
@@ -21,15 +22,16 @@ pub record FedInto : Type 0 where
 abbrev pub fedInto : Fed → (output : List ℕ) (at : ℕ) → FedInto
 fedInto f o at = record { session = f .session; store = f .store; printed = putAt (f .text) o at }
 
--- how many records were counted
-abbrev pub recordsIn : Totals → ℕ
-recordsIn t = t .kept + t .struck + t .refused
+-- with so many records more the totals stay within a limit
+pub record Within (totals : Totals) (more limit : ℕ) : Type 0 where
+  pub read : totals .records + more ≤ limit
+  pub ruled : totals .kept + totals .struck + totals .refused + more ≤ limit
 
 -- some bytes can be fed: what holds from record to record, the words of a record, a number for each total, room for a line a byte from a place on
 pub record Feedable (store : Store) (totals : Totals) (bytes at : ℕ) (output : List ℕ) : Type 0 where
   pub steady : Steady (store .slice) (store .marks)
   pub words : length (store .words) ≡ maxWords
-  pub counts : recordsIn totals + bytes < 2 ^ 64
+  pub counts : Within totals bytes mostCounted
   pub room : at + bytes * longestLine ≤ length output
 
 -- some bytes were fed as they should be: the session, the lent words and the output; what holds from record to record; at most a line a byte

@@ -11,11 +11,11 @@ use Rattle.intake.specs.declared.Session.{Session}
 use Rattle.intake.specs.declared.Portion.{Portion}
 use Rattle.intake.specs.Feed.{storeOf, proceeding, feed}
 
--- some of the input was read: feeding it, whatever the slice and the marks, is to go on with what it leads to and the words that it leaves
+-- some of the input was read: feeding it, whatever the slice, the marks and the counters, is to go on with what it leads to and the words that it leaves
 pub record Stepped (session : Session) (input words : List ℕ) (step : Portion) (after : List ℕ) : Type 0 where
   pub some : 0 < step .taken
   pub inside : step .taken ≤ length input
-  pub feeds : (T m : List ℕ) → feed session (storeOf words T m) (take (step .taken) input) ≡ proceeding (step .next) (session .totals) (storeOf after T m)
+  pub feeds : (T m c : List ℕ) → feed session (storeOf words T m c) (take (step .taken) input) ≡ proceeding (step .next) (session .totals) (storeOf after T m c)
 
 -- the input begins with a whole record of at most 64 words
 pub record WholeRecord (session : Session) (input : List ℕ) (count : ℕ) : Type 0 where

@@ -3,7 +3,7 @@ use mathlib.Core.Path.{refl, sym}
 use Prim.Native.Nat.{ℕ}
 use native.Mathlib.Omega.{arith}
 use lib.ListN.{length-replicate}
-use Rattle.subsume.proofs.Blocks.{buffers, store-first}
+use Rattle.streaming.proofs.FedBlocks.{buffers, store-first}
 use borrow.Author.Needs.{needs}
 use Rattle.subsume.proofs.main.Statement.{statement}
 use Rattle.subsume.proofs.main.Tie as tie
@@ -18,10 +18,13 @@ slice-aggregate-run-3 : tie.Need-slice-aggregate-run-3
 slice-aggregate-run-3 c = sym (length-replicate {A = ℕ} 65_536 0)
 
 slice-aggregate-run-4 : tie.Need-slice-aggregate-run-4
-slice-aggregate-run-4 c = sym (length-replicate {A = ℕ} 64 0)
+slice-aggregate-run-4 c = sym (length-replicate {A = ℕ} 131_072 0)
 
 slice-aggregate-run-5 : tie.Need-slice-aggregate-run-5
-slice-aggregate-run-5 c = sym (length-replicate {A = ℕ} 737_280 0)
+slice-aggregate-run-5 c = sym (length-replicate {A = ℕ} 64 0)
+
+slice-aggregate-run-6 : tie.Need-slice-aggregate-run-6
+slice-aggregate-run-6 c = sym (length-replicate {A = ℕ} 737_280 0)
 
 run-requires : tie.Need-run-requires
 run-requires c κs = (buffers 16_384 737_280 refl (omega arith), store-first)
@@ -38,5 +41,6 @@ main-spec =
     slice-aggregate-run-3
     slice-aggregate-run-4
     slice-aggregate-run-5
+    slice-aggregate-run-6
     run-requires
     returns)

@@ -48,6 +48,12 @@ pub fn pages() -> Vec<Page> {
         ("refusals", refusals()),
         ("full-list", full_list()),
         ("full-tree", full_tree()),
+        ("only-refused", only_refused()),
+        ("idle-clause", idle_clause()),
+        ("thousands", thousands()),
+        ("first-and-last", first_and_last()),
+        ("all-eighths", all_eighths()),
+        ("cut-strike", cut_strike()),
     ];
     pages.extend(cut_pages());
     pages
@@ -135,4 +141,100 @@ fn full_tree() -> Vec<u8> {
     let mut page: Vec<u8> = (0..900).flat_map(|n| record(n, &clause(n))).collect();
     page.extend(record(5, &[p(1, 2), A]));
     page
+}
+
+// No clause is kept, so a sheet has no rows, but records.
+fn only_refused() -> Vec<u8> {
+    let records = [
+        record(1, &[]),
+        record(1, &[X]),
+        record(0, &[P0; 9]),
+        record(65535, &[P0; 65]),
+        record(2, &[P1]),
+    ];
+    records.concat()
+}
+
+// Clauses that strike nothing beside one that does; what comes under their numbers later is struck by another clause or refused.
+fn idle_clause() -> Vec<u8> {
+    let records = [
+        record(20, &[P1, A]),
+        record(30, &[P2, X, X]),
+        record(10, &[P1, B]),
+        record(10, &[P2, A, A]),
+        record(20, &[P1, X]),
+        record(20, &[P0, P2, F, Y, F, Y]),
+    ];
+    records.concat()
+}
+
+// A clause that is struck by its last literal: so many others stand before it, each a candidate more.
+fn behind(others: u32, literal: &[u16]) -> Vec<u16> {
+    [&vec![P0; others as usize], literal].concat()
+}
+
+// Literals Q of each of these terms, then one of five terms.
+fn ones_and_five(ones: &[u16], five: &[u16; 5]) -> Vec<u16> {
+    let ones = ones.iter().flat_map(|&term| [p(1, 2), term]);
+    ones.chain([p(5, 3)]).chain(*five).collect()
+}
+
+// A clause that strikes thousands of records, and one that strikes three, of more than 65,536 candidates each: only the last choice fits.
+fn thousands() -> Vec<u8> {
+    let variables = [0, 1, 2, 3, 4].map(|i| word(VARIABLE, 0, i));
+    let searching = ones_and_five(&variables, &variables);
+    let constants = [0, 1, 2, 3, 4, 5, 6].map(constant);
+    let searched = ones_and_five(&constants, &[constant(6); 5]);
+    let mut page = [record(500, &[P1, X]), record(400, &searching)].concat();
+    for n in 0..4500 {
+        if n % 1500 == 7 {
+            page.extend(record(n, &searched));
+        }
+        let struck = behind(u32::from(n % 4), &[P1, constant(n % 1000)]);
+        page.extend(record(n, &struck));
+    }
+    page
+}
+
+// The first number and the last one strike, also what comes under the other's number.
+fn first_and_last() -> Vec<u8> {
+    let records = [
+        record(65535, &[P1, X]),
+        record(0, &[P2, X, Y]),
+        record(65535, &[P2, A, B]),
+        record(0, &[P1, A]),
+        record(1, &behind(3, &[P1, B])),
+        record(65534, &behind(5, &[P2, B, B])),
+        record(7, &behind(6, &[P1, F, A])),
+    ];
+    records.concat()
+}
+
+// As many clauses as a list keeps, 128 in each eighth of the numbers from its first to its last number, in an order that is neither
+// that of their numbers nor that of the tree; some strike nothing, others once or twice.
+fn all_eighths() -> Vec<u8> {
+    let number = |i: u32| (i / 128 * 8192 + i % 128 * 8191 / 127) as u16;
+    let literal = |i: u32| [P1, constant((i * 275 % 1024) as u16)];
+    let order = (0..1024).map(|i| i * 397 % 1024);
+    let new = order.clone().map(|i| record(number(i), &literal(i)));
+    let mut page: Vec<u8> = new.flatten().collect();
+    for i in order.rev() {
+        for others in 0..(i + 1) % 3 {
+            let struck = behind(i % 5 + others, &literal(i));
+            page.extend(record(number(1023 - i), &struck));
+        }
+    }
+    page
+}
+
+// The last record would be struck, if it had its last byte.
+fn cut_strike() -> Vec<u8> {
+    let records = [
+        record(2, &[P1, X]),
+        record(1, &[P2, X, Y]),
+        record(3, &[P1, A]),
+        record(4, &[P1, B]),
+    ];
+    let page = records.concat();
+    page[..page.len() - 1].to_vec()
 }

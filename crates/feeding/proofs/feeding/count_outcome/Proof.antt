@@ -3,23 +3,26 @@ use borrow.Author.Needs.{needs}
 use Rattle.feeding.proofs.feeding.count_outcome.Statement.{statement}
 use Rattle.feeding.proofs.feeding.count_outcome.Tie as tie
 
+add-records : tie.Need-add-records
+add-records c = search needs
+
 enum-told : tie.Need-enum-told
 enum-told c = search needs
-
-add-t4 : tie.Need-add-t4
-add-t4 c = search needs
-
-enum-told-2 : tie.Need-enum-told-2
-enum-told-2 c = search needs
 
 add-t5 : tie.Need-add-t5
 add-t5 c = search needs
 
-enum-told-3 : tie.Need-enum-told-3
-enum-told-3 c = search needs
+enum-told-2 : tie.Need-enum-told-2
+enum-told-2 c = search needs
 
 add-t6 : tie.Need-add-t6
 add-t6 c = search needs
+
+enum-told-3 : tie.Need-enum-told-3
+enum-told-3 c = search needs
+
+add-t7 : tie.Need-add-t7
+add-t7 c = search needs
 
 returns : tie.Need-returns
 returns c = rw (c .before .enum-told .given .1)
@@ -33,4 +36,4 @@ returns-3 c = rw (c .before .enum-told3 .given .1)
 pub count-outcome-spec : {M : Type 1} → statement M
 count-outcome-spec =
     tie.close
-    (tie.spec enum-told add-t4 enum-told-2 add-t5 enum-told-3 add-t6 returns returns-2 returns-3)
+    (tie.spec add-records enum-told add-t5 enum-told-2 add-t6 enum-told-3 add-t7 returns returns-2 returns-3)

@@ -17,10 +17,11 @@ finish-requires c κs = search needs
 returns : tie.Need-returns
 returns c =
     let c3 = c .before .before .before in
-    let c9 = c3 .before .before .before .before .before .before in
-    let a = c9 .args in
+    let c10 = c3 .before .before .before .before .before .before .before in
+    let a = c10 .args in
     let n = c3 .next .given in
-    goes (n .0 .0) (n .0 .1 .0) (a .turn .session .totals) (storeOf (a .words .now) (a .tree .now) (a .marks .now)) (a .output .now) (a .turn .next) (n .1) (c9 .pre .steady)
+    let m = storeOf (a .words .now) (a .tree .now) (a .marks .now) (a .counters .now) in
+    goes (n .0 .0) (n .0 .1 .0) (a .turn .session .totals) m (a .output .now) (a .turn .next) (n .1) (c10 .pre .steady)
 
 same-length : tie.Need-same-length
 same-length c = search needs
@@ -31,13 +32,17 @@ same-length-2 c = search needs
 same-length-3 : tie.Need-same-length-3
 same-length-3 c = search needs
 
+same-length-4 : tie.Need-same-length-4
+same-length-4 c = search needs
+
 returns-2 : tie.Need-returns-2
 returns-2 c =
-    let c6 = c .before .before .before .before .before .before in
-    let c12 = c6 .before .before .before .before .before .before in
-    let a = c12 .before .before .before .before .before .before .args in
-    let n = c12 .next2 .given in
-    took-as (ends (n .0 .0) (a .turn .session .totals) (storeOf (a .words .now) (a .tree .now) (a .marks .now)) (n .1)) (c6 .finish .ensures)
+    let c8 = c .before .before .before .before .before .before .before .before in
+    let c15 = c8 .before .before .before .before .before .before .before in
+    let a = c15 .before .before .before .before .before .before .before .args in
+    let n = c15 .next2 .given in
+    let m = storeOf (a .words .now) (a .tree .now) (a .marks .now) (a .counters .now) in
+    took-as (ends (n .0 .0) (a .turn .session .totals) m (n .1)) (c8 .finish .ensures)
 
 pub proceed-spec : {M : Type 1} → statement M
 proceed-spec =
@@ -50,4 +55,5 @@ proceed-spec =
     same-length
     same-length-2
     same-length-3
+    same-length-4
     returns-2)

@@ -1,0 +1,55 @@
+-- The rows are in the output, and handed on.
+use Prim.Native.Nat.{_≤_}
+use lib.ListN.{length}
+use Rattle.record.specs.Tally.{rowLines}
+use Rattle.record.specs.Counters.{shownFrom}
+use Rattle.printing.specs.Blocks.{blockNumbers}
+use mathlib.Core.Path.{_≡_, sym}
+use native.Mathlib.Omega.{arith}
+use lib.Seq.{length-take-le}
+use Rattle.lines.proofs.Writing.{placed, text-there}
+use Rattle.printing.proofs.SheetBlocks.{shows-block}
+use borrow.Author.Needs.{needs}
+use Rattle.printing.proofs.sheet.write_rows.Statement.{statement}
+use Rattle.printing.proofs.sheet.write_rows.Tie as tie
+
+put-rows-requires : tie.Need-put-rows-requires
+put-rows-requires c κs = search needs
+
+slice-reshare-prefix-write-more : tie.Need-slice-reshare-prefix-write-more
+slice-reshare-prefix-write-more c = search needs
+
+slice-aggregate-write-more : tie.Need-slice-aggregate-write-more
+slice-aggregate-write-more c =
+    let c3 = c .before .before .before in
+    let s = c3 .before .before .before .before .before in
+    sym (length-take-le _ _ (omega (arith, c3 .put-rows .ensures .1, s .pre .room, c .before .before .output .given)))
+
+write-more-requires : tie.Need-write-more-requires
+write-more-requires c κs = search needs
+
+same-length : tie.Need-same-length
+same-length c = search needs
+
+returns : tie.Need-returns
+returns c =
+    let c4 = c .before .before .before .before in
+    let s = c4 .before .before .before .before .before in
+    let a = s .args in
+    let p = c4 .put-rows .ensures in
+    let text = rowLines (shownFrom (a .marks .now) (a .counters .now) (a .from) blockNumbers) in
+    let l : length text ≤ length (a .output .now) = omega (arith, p .1, placed text (a .output .now) 0 (p .0), s .pre .room) in
+    let t = text-there text (a .output .now) l (p .0) in
+    let w = placed text (a .output .now) 0 (p .0) in
+    (record { text = t; bytes = omega (arith, w); short = p .1 }, shows-block (a .marks .now) (a .counters .now) (a .from) (s .pre .numbers) t)
+
+pub write-rows-spec : {M : Type 1} → statement M
+write-rows-spec =
+    tie.close
+    (tie.spec
+    put-rows-requires
+    slice-reshare-prefix-write-more
+    slice-aggregate-write-more
+    write-more-requires
+    same-length
+    returns)

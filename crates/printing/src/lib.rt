@@ -1,0 +1,21 @@
+// What is written to standard output: text, and the tally sheet in blocks (docs/REFERENCE.md, "The program").
+mod sheet;
+mod writing;
+
+pub use sheet::write_sheet;
+pub use writing::write_more;
+pub use writing::write_text;
+
+// The sheet that was put into the output, block after block: its bytes in all, and the place after its last line, which the output then begins with.
+pub struct Printed {
+    pub bytes: usize,
+    pub next: usize,
+}
+
+// A block of the sheet.
+struct Block {}
+
+impl Block {
+    // The numbers whose rows it has.
+    const NUMBERS: usize = 0x2000;
+}

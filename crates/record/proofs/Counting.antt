@@ -1,0 +1,222 @@
+-- The marks and the counters after some records show the tally of these records.
+use mathlib.Core.Path.{_≡_, refl, sym, ap, ap₂, _∙_}
+use mathlib.Core.Bool.{Bool, true, false, _&&_, _||_}
+use mathlib.Core.List.{List, [], _∷_, map}
+use Prim.Native.Nat.{ℕ, _+_, _*_, _≤_, _<_, min}
+use native.Mathlib.Omega.{arith}
+use native.Mathlib.Decide.{ℕ-discrete}
+use native.Mathlib.Nat.{min-eq-left}
+use lib.Dec.{ltb, eqb}
+use lib.ListN.{length, getD, set, replicate, length-set, length-replicate, getD-replicate}
+use lib.Seq.{getD-set-same, getD-set-other}
+use borrow.Author.Tests.{eq-eqb, ne-eqb}
+use Rattle.clause.specs.Lists.{All, none, also}
+use Rattle.clause.proofs.Apart.{apart}
+use Rattle.tree.specs.Entries.{Pair}
+use Rattle.record.specs.Answer.{budget, Record}
+use Rattle.record.specs.Marks.{numberCount, marked}
+use Rattle.record.specs.Output.{Row}
+use Rattle.record.specs.Tally.{isKept, spentOn, everKept, struckBy, spent, TallyRow, tallyRow, passing, tallyFrom}
+use Rattle.record.specs.Counters.{counterWords, mostCounted, strikesAt, candidatesAt, raised, tallied, rowShown, shownFrom}
+use Rattle.record.specs.Tallies.{mostBytes}
+use Rattle.record.specs.declared.Outcome.{Outcome}
+use Rattle.record.specs.declared.Outcome.the-variants.{Kept, Struck, Refused}
+use Rattle.record.proofs.Ruling.{Fate, refuses, strikes, keeps}
+use Rattle.record.proofs.Rows.{Fated, fated-none, fated-more}
+use Rattle.record.proofs.Passing.{passing-same}
+use Rattle.record.proofs.Striking.{Strike, struck, other, strike, struck-more, struck-same}
+
+-- the marks and the counters after some rows
+abbrev pub marksWith : List ℕ → List Row → List ℕ
+marksWith m [] = m
+marksWith m (r ∷ rs) = marksWith (marked (r .outcome) (r .of .number) m) rs
+
+abbrev pub countersWith : List ℕ → List Row → List ℕ
+countersWith c [] = c
+countersWith c (r ∷ rs) = countersWith (tallied (r .outcome) c) rs
+
+-- ---- one counter
+
+raise-same : (c : List ℕ) (i k : ℕ) → i < length c → getD c i 0 + k ≤ mostCounted → getD (raised c i k) i 0 ≡ getD c i 0 + k
+unfolding raised
+raise-same c i k h l = getD-set-same c i _ 0 h ∙ min-eq-left l
+
+raise-other : (c : List ℕ) (i j k : ℕ) → (j ≡ i → ⊥) → getD (raised c i k) j 0 ≡ getD c j 0
+unfolding raised
+raise-other c i j k h = getD-set-other c i j _ 0 h
+
+pub length-raised : (c : List ℕ) (i k : ℕ) → length (raised c i k) ≡ length c
+unfolding raised
+length-raised c i k = length-set c i _
+
+-- ---- one record
+
+length-tallied : (o : Outcome) (c : List ℕ) → length (tallied o c) ≡ length c
+length-tallied (Kept used) c = refl
+length-tallied (Struck n k) c = length-raised (raised c (strikesAt n) 1) (candidatesAt n) k ∙ length-raised c (strikesAt n) 1
+length-tallied (Refused code) c = refl
+
+-- a strike of this number
+one-strike : (n k : ℕ) (c : List ℕ) {o : Outcome} → o ≡ Struck n k → strikesAt n < length c → getD c (strikesAt n) 0 + 1 ≤ mostCounted
+    → getD (tallied o c) (strikesAt n) 0 ≡ getD c (strikesAt n) 0 + 1
+one-strike n k c e h l =
+    rw e (raise-other (raised c (strikesAt n) 1) (candidatesAt n) (strikesAt n) k (λ i. omega arith) ∙ raise-same c (strikesAt n) 1 h l)
+
+its-candidates : (n k : ℕ) (c : List ℕ) {o : Outcome} → o ≡ Struck n k → candidatesAt n < length c → getD c (candidatesAt n) 0 + k ≤ mostCounted
+    → getD (tallied o c) (candidatesAt n) 0 ≡ getD c (candidatesAt n) 0 + k
+its-candidates n k c e h l =
+    let s = raise-other c (strikesAt n) (candidatesAt n) 1 (λ i. omega arith) in
+    let m : candidatesAt n < length (raised c (strikesAt n) 1) = omega (arith, length-raised c (strikesAt n) 1) in
+    rw e (raise-same (raised c (strikesAt n) 1) (candidatesAt n) k m (omega (arith, s)) ∙ ap (λ (x : ℕ). x + k) s)
+
+-- anything else
+untouched : (n : ℕ) (o : Outcome) (c : List ℕ) (i : ℕ) → ((k : ℕ) → o ≡ Struck n k → ⊥)
+    → ((m : ℕ) → (m ≡ n → ⊥) → (i ≡ strikesAt m → ⊥) × (i ≡ candidatesAt m → ⊥)) → getD (tallied o c) i 0 ≡ getD c i 0
+untouched n (Kept used) c i h a = refl
+untouched n (Struck m k) c i h a =
+    let b = a m (λ e. h k (ap (λ (j : ℕ). Struck j k) e)) in
+    raise-other (raised c (strikesAt m) 1) (candidatesAt m) i k (b .1) ∙ raise-other c (strikesAt m) i 1 (b .0)
+untouched n (Refused code) c i h a = refl
+
+or-none : (b : Bool) → b ≡ (b || false)
+or-none true = refl
+or-none false = refl
+
+-- a mark
+one-mark : (n x : ℕ) (o : Outcome) (m : List ℕ) → n < length m → ltb 0 (getD (marked o x m) n 0) ≡ (ltb 0 (getD m n 0) || (isKept o && eqb x n))
+one-mark n x (Struck i k) m h = or-none (ltb 0 (getD m n 0))
+one-mark n x (Refused code) m h = or-none (ltb 0 (getD m n 0))
+one-mark n x (Kept used) m h = go (ℕ-discrete x n)
+  where
+    or-all : (b : Bool) → true ≡ (b || true)
+    or-all true = refl
+    or-all false = refl
+
+    go : Dec (x ≡ n) → ltb 0 (getD (set m x 1) n 0) ≡ (ltb 0 (getD m n 0) || eqb x n)
+    go (yes e) = rw (eq-eqb x n e, e, getD-set-same m n 1 0 h) (or-all (ltb 0 (getD m n 0)))
+    go (no e) = rw (ne-eqb x n e, getD-set-other m x n 1 0 (λ i. e (sym i))) (or-none (ltb 0 (getD m n 0)))
+
+length-marked : (o : Outcome) (x : ℕ) (m : List ℕ) → length (marked o x m) ≡ length m
+length-marked (Kept used) x m = length-set m x 1
+length-marked (Struck n k) x m = refl
+length-marked (Refused code) x m = refl
+
+-- ---- some records
+
+-- the strikes of a number
+strikes-counted : (n : ℕ) (rs : List Row) (c : List ℕ) → strikesAt n < length c → getD c (strikesAt n) 0 + length (struckBy n rs) ≤ mostCounted
+    → getD (countersWith c rs) (strikesAt n) 0 ≡ getD c (strikesAt n) 0 + length (struckBy n rs)
+strikes-counted n [] c h l = omega arith
+strikes-counted n (r ∷ rs) c h l = go (strike n (r .outcome)) (strikes-counted n rs (tallied (r .outcome) c))
+  where
+    here : strikesAt n < length (tallied (r .outcome) c)
+    here = omega (arith, length-tallied (r .outcome) c)
+
+    go : Strike n (r .outcome)
+        → (strikesAt n < length (tallied (r .outcome) c) → getD (tallied (r .outcome) c) (strikesAt n) 0 + length (struckBy n rs) ≤ mostCounted
+        → getD (countersWith c (r ∷ rs)) (strikesAt n) 0 ≡ getD (tallied (r .outcome) c) (strikesAt n) 0 + length (struckBy n rs))
+        → getD (countersWith c (r ∷ rs)) (strikesAt n) 0 ≡ getD c (strikesAt n) 0 + length (struckBy n (r ∷ rs))
+    go (struck k e) ih =
+        let q = ap length (struck-more n k r rs e) in
+        let s = one-strike n k c e h (omega (arith, l, q)) in
+        omega (arith, ih here (omega (arith, l, q, s)), q, s)
+    go (other d) ih =
+        let q = ap length (struck-same n r rs d) in
+        let s = untouched n (r .outcome) c (strikesAt n) d (λ m i. (λ e. i (omega arith), λ e. omega arith)) in
+        omega (arith, ih here (omega (arith, l, q, s)), q, s)
+
+-- the candidates of these
+candidates-counted : (n : ℕ) (rs : List Row) (c : List ℕ) → candidatesAt n < length c → getD c (candidatesAt n) 0 + spent (struckBy n rs) ≤ mostCounted
+    → getD (countersWith c rs) (candidatesAt n) 0 ≡ getD c (candidatesAt n) 0 + spent (struckBy n rs)
+candidates-counted n [] c h l = omega arith
+candidates-counted n (r ∷ rs) c h l = go (strike n (r .outcome)) (candidates-counted n rs (tallied (r .outcome) c))
+  where
+    here : candidatesAt n < length (tallied (r .outcome) c)
+    here = omega (arith, length-tallied (r .outcome) c)
+
+    go : Strike n (r .outcome)
+        → (candidatesAt n < length (tallied (r .outcome) c) → getD (tallied (r .outcome) c) (candidatesAt n) 0 + spent (struckBy n rs) ≤ mostCounted
+        → getD (countersWith c (r ∷ rs)) (candidatesAt n) 0 ≡ getD (tallied (r .outcome) c) (candidatesAt n) 0 + spent (struckBy n rs))
+        → getD (countersWith c (r ∷ rs)) (candidatesAt n) 0 ≡ getD c (candidatesAt n) 0 + spent (struckBy n (r ∷ rs))
+    go (struck k e) ih =
+        let p : spentOn (r .outcome) ≡ k = rw e in
+        let q = ap spent (struck-more n k r rs e) in
+        let s = its-candidates n k c e h (omega (arith, l, p, q)) in
+        omega (arith, ih here (omega (arith, l, p, q, s)), p, q, s)
+    go (other d) ih =
+        let q = ap spent (struck-same n r rs d) in
+        let s = untouched n (r .outcome) c (candidatesAt n) d (λ m i. (λ e. omega arith, λ e. i (omega arith))) in
+        omega (arith, ih here (omega (arith, l, q, s)), q, s)
+
+-- a number is marked exactly if it was before, or was kept since
+marks-kept : (n : ℕ) (rs : List Row) (m : List ℕ) → n < length m → ltb 0 (getD (marksWith m rs) n 0) ≡ (ltb 0 (getD m n 0) || everKept n rs)
+marks-kept n [] m h = or-none (ltb 0 (getD m n 0))
+marks-kept n (r ∷ rs) m h =
+    marks-kept n rs (marked (r .outcome) (r .of .number) m) (omega (arith, length-marked (r .outcome) (r .of .number) m))
+    ∙ ap (λ (b : Bool). b || everKept n rs) (one-mark n (r .of .number) (r .outcome) m h)
+    ∙ or-assoc (ltb 0 (getD m n 0)) (isKept (r .outcome) && eqb (r .of .number) n) (everKept n rs)
+  where
+    or-assoc : (a b c : Bool) → ((a || b) || c) ≡ (a || (b || c))
+    or-assoc true b c = refl
+    or-assoc false b c = refl
+
+-- ---- no counter reaches its end
+
+-- a strike takes no more candidates than the budget
+fate-spent : {K L : List Pair} {x : Record} {o : Outcome} → Fate K x o L → spentOn o ≤ budget
+fate-spent (refuses r) = omega arith
+fate-spent (strikes s) = omega (arith, s .count, s .decided .fits)
+fate-spent (keeps t) = omega arith
+
+pub fated-spent : {K : List Pair} {rs : List Row} → Fated K rs → All (λ r. spentOn (r .outcome) ≤ budget) rs
+fated-spent fated-none = none
+fated-spent (fated-more {r = r} e f) = also {x = r} (fate-spent e) (fated-spent f)
+
+struck-few : (n : ℕ) (rs : List Row) → length (struckBy n rs) ≤ length rs
+struck-few n [] = omega arith
+struck-few n (r ∷ rs) = go (strike n (r .outcome)) (struck-few n rs)
+  where
+    go : Strike n (r .outcome) → length (struckBy n rs) ≤ length rs → length (struckBy n (r ∷ rs)) ≤ length (r ∷ rs)
+    go (struck k e) ih = omega (arith, ap length (struck-more n k r rs e))
+    go (other d) ih = omega (arith, ap length (struck-same n r rs d))
+
+spent-few : (n : ℕ) {rs : List Row} → All (λ r. spentOn (r .outcome) ≤ budget) rs → spent (struckBy n rs) ≤ length rs * budget
+spent-few n none = omega arith
+spent-few n (also {x = r} {xs = rs} h a) = go (strike n (r .outcome)) (spent-few n a)
+  where
+    go : Strike n (r .outcome) → spent (struckBy n rs) ≤ length rs * budget → spent (struckBy n (r ∷ rs)) ≤ length (r ∷ rs) * budget
+    go (struck k e) ih = omega (arith, ap spent (struck-more n k r rs e), h)
+    go (other d) ih = omega (arith, ap spent (struck-same n r rs d))
+
+-- ---- what is shown
+
+-- the row of a number, where its counters were 0
+row-counted : (k : ℕ) (c : List ℕ) (rs : List Row) → getD c (strikesAt k) 0 ≡ 0 → getD c (candidatesAt k) 0 ≡ 0 → candidatesAt k < length c
+    → length (struckBy k rs) ≤ mostCounted → spent (struckBy k rs) ≤ mostCounted → rowShown (countersWith c rs) k ≡ tallyRow rs k
+row-counted k c rs z y l few less =
+    let s = strikes-counted k rs c (omega arith) (omega (arith, z)) in
+    let t = candidates-counted k rs c l (omega (arith, y)) in
+    let s0 : getD (countersWith c rs) (strikesAt k) 0 ≡ length (struckBy k rs) = omega (arith, s, z) in
+    let t0 : getD (countersWith c rs) (candidatesAt k) 0 ≡ spent (struckBy k rs) = omega (arith, t, y) in
+    ap₂ (λ (x w : ℕ). record { number = k; strikes = x; candidates = w }) s0 t0
+
+zero-row : (rs : List Row) → All (λ r. spentOn (r .outcome) ≤ budget) rs → length rs < mostBytes → (k : ℕ) → k < numberCount
+    → rowShown (countersWith (replicate counterWords 0) rs) k ≡ tallyRow rs k
+zero-row rs a few k l =
+    row-counted k (replicate counterWords 0) rs (getD-replicate {A = ℕ} counterWords (strikesAt k) 0 0 (omega arith))
+    (getD-replicate {A = ℕ} counterWords (candidatesAt k) 0 0 (omega arith)) (rw (length-replicate {A = ℕ} counterWords 0) (omega arith))
+    (omega (arith, struck-few k rs)) (omega (arith, spent-few k a))
+
+zero-mark : (rs : List Row) (k : ℕ) → k < numberCount → ltb 0 (getD (marksWith (replicate numberCount 0) rs) k 0) ≡ everKept k rs
+zero-mark rs k l =
+    marks-kept k rs (replicate numberCount 0) (rw (length-replicate {A = ℕ} numberCount 0) l)
+    ∙ ap (λ (x : ℕ). ltb 0 x || everKept k rs) (getD-replicate {A = ℕ} numberCount k 0 0 l)
+
+-- from zeros on, the marks and the counters show the tally
+pub shown-tally : (rs : List Row) → All (λ r. spentOn (r .outcome) ≤ budget) rs → length rs < mostBytes → (n c : ℕ) → n + c ≤ numberCount
+    → shownFrom (marksWith (replicate numberCount 0) rs) (countersWith (replicate counterWords 0) rs) n c ≡ tallyFrom rs n c
+unfolding shownFrom tallyFrom
+shown-tally rs a few n c h =
+    passing-same (λ i. ltb 0 (getD (marksWith (replicate numberCount 0) rs) i 0)) (λ i. everKept i rs)
+    (rowShown (countersWith (replicate counterWords 0) rs)) (tallyRow rs) c n
+    (λ k i j. (zero-mark rs k (omega arith), λ t. zero-row rs a few k (omega arith)))

@@ -1,0 +1,57 @@
+// The whole run: the listing of the input, line by line with its totals, and then the tally sheet (docs/REFERENCE.md, "The program").
+// A record's line is made by `feeding::feed`, the totals by `lines::put_totals`, the sheet by `tallying`; what is here moves the bytes.
+use lines::put_totals;
+use printing::Printed;
+use printing::write_more;
+use printing::write_sheet;
+use streaming::FedBlock;
+use streaming::feed_all;
+ghost use mathlib.Core.Path.{_≡_};
+ghost use lib.ListN.{take};
+ghost use Rattle.intake.specs.Feed.{storeOf, firstStore};
+ghost use Rattle.streaming.specs.Fed.{Buffers};
+ghost use Rattle.running.specs.Run.{Listed, SheetEnds};
+
+// Feeds the whole input, and then puts the totals into the output and writes them, unless a write has failed.
+fn write_listing(
+    input: &mut [u8],
+    tree: &mut [u64],
+    marks: &mut [u8],
+    counters: &mut [u64],
+    words: &mut [u16],
+    output: &mut [u8],
+) -> FedBlock
+    requires { ⌜ Buffers (now input) (now output) × (storeOf (now words) (now tree) (now marks) (now counters) ≡ firstStore) ⌝ }
+    ensures { λ r. ⌜ Listed (r .session) (storeOf (now (words .exit)) (now (tree .exit)) (now (marks .exit)) (now (counters .exit)))
+        (now (output .exit)) (r .next) ⌝ }
+{
+    let all = feed_all(input, tree, marks, counters, words, output);
+    let session = all.session;
+    let totals = session.totals;
+    let end = put_totals(output, 0, totals);
+    let good = write_more(&output[..end], all.good);
+    FedBlock {
+        session: session,
+        next: end,
+        good: good,
+    }
+}
+
+// The whole run. Gives how much text the sheet has, and the place after its last line, which the output then begins with.
+pub fn run(
+    input: &mut [u8],
+    tree: &mut [u64],
+    marks: &mut [u8],
+    counters: &mut [u64],
+    words: &mut [u16],
+    output: &mut [u8],
+) -> Printed
+    requires { ⌜ Buffers (now input) (now output) × (storeOf (now words) (now tree) (now marks) (now counters) ≡ firstStore) ⌝ }
+    ensures { λ r. ⌜ SheetEnds (storeOf (now (words .exit)) (now (tree .exit)) (now (marks .exit)) (now (counters .exit)))
+        (r .bytes) (take (r .next) (now (output .exit))) ⌝ }
+{
+    let listed = write_listing(input, tree, marks, counters, words, output);
+    let session = listed.session;
+    let totals = session.totals;
+    write_sheet(totals.records, marks, counters, output, listed.good)
+}

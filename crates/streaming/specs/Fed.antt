@@ -1,0 +1,25 @@
+-- What a run has fed. Nothing says which bytes a read gives, so this speaks of some bytes.
+use mathlib.Core.Path.{_≡_}
+use mathlib.Core.List.{List}
+use Prim.Native.Nat.{ℕ, _*_, _≤_}
+use lib.ListN.{length}
+use Rattle.record.specs.Line.{longestLine}
+use Rattle.record.specs.Sheet.{Bytes}
+use Rattle.intake.specs.Feed.{Store, feed, firstSession, firstStore}
+use Rattle.intake.specs.declared.Session.{Session}
+
+-- the most bytes of a block
+abbrev pub blockBytes : ℕ
+blockBytes = 16_384
+
+-- the buffers: a block, and an output in which the lines of any block fit
+pub record Buffers (input output : List ℕ) : Type 0 where
+  pub block : length input ≡ blockBytes
+  pub room : blockBytes * longestLine ≤ length output
+
+-- some bytes were fed from the start on, and left the session and the lent words; `Sheets`, `NoStrikeIsWrong` and `Tallies` speak of them
+pub record FedSoFar (session : Session) (store : Store) : Type 0 where
+  pub bytes : List ℕ
+  pub small : Bytes bytes
+  pub read : session ≡ feed firstSession firstStore bytes .session
+  pub lent : store ≡ feed firstSession firstStore bytes .store

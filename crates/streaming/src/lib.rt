@@ -1,0 +1,15 @@
+// The input as it streams in: block after block is read from standard input and fed, and its lines are written (docs/REFERENCE.md, "The program").
+mod blocks;
+
+pub use blocks::FedBlock;
+pub use blocks::feed_all;
+
+// The limits of a run.
+pub struct Limit {}
+
+impl Limit {
+    // The most bytes of a block.
+    pub const BLOCK: usize = 0x4000;
+    // The most blocks. A proved loop has to end, and nothing says that the input does: no run uses them up.
+    const BLOCKS: u64 = 0x8000_0000_0000;
+}
