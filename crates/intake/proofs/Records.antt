@@ -28,7 +28,7 @@ use Rattle.walk.specs.Query.{witnessWords, query}
 use Rattle.book.specs.Book.{after}
 use Rattle.record.specs.Line.{lineOf, totalsLine, recordsLine}
 use Rattle.record.specs.Answer.{treeWords, budget, Record, Answered, answerAs, answerTo}
-use Rattle.record.specs.Output.{fieldOf, fields, recordsFor, recordsOf, rowOn, rowsFrom, freshSlice, rowsOf, rowCalls, linesOf, counted, totalsWith, none, listingOf}
+use Rattle.record.specs.Output.{fieldOf, fields, recordsFor, recordsOf, rowOn, rowsFrom, rowsOf, rowCalls, linesOf, counted, totalsWith, none, listingOf}
 use Rattle.record.specs.Marks.{numberCount, marked}
 use Rattle.record.specs.Tally.{TallyRow, tallyFrom, tallyOf, rowLines, sheetOf, outputOf}
 use Rattle.record.specs.Counters.{tallied, shownFrom}

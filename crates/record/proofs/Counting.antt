@@ -2,21 +2,20 @@
 use mathlib.Core.Path.{_≡_, refl, sym, ap, ap₂, _∙_}
 use mathlib.Core.Bool.{Bool, true, false, _&&_, _||_}
 use mathlib.Core.List.{List, [], _∷_, map}
-use Prim.Native.Nat.{ℕ, _+_, _*_, _≤_, _<_, min}
+use Prim.Native.Nat.{ℕ, suc, _+_, _*_, _≤_, _<_}
 use native.Mathlib.Omega.{arith}
 use native.Mathlib.Decide.{ℕ-discrete}
-use native.Mathlib.Nat.{min-eq-left}
+use native.Mathlib.Nat.{min-eq-left, suc-mul}
 use lib.Dec.{ltb, eqb}
 use lib.ListN.{length, getD, set, replicate, length-set, length-replicate, getD-replicate}
 use lib.Seq.{getD-set-same, getD-set-other}
 use borrow.Author.Tests.{eq-eqb, ne-eqb}
 use Rattle.clause.specs.Lists.{All, none, also}
-use Rattle.clause.proofs.Apart.{apart}
 use Rattle.tree.specs.Entries.{Pair}
 use Rattle.record.specs.Answer.{budget, Record}
 use Rattle.record.specs.Marks.{numberCount, marked}
 use Rattle.record.specs.Output.{Row}
-use Rattle.record.specs.Tally.{isKept, spentOn, everKept, struckBy, spent, TallyRow, tallyRow, passing, tallyFrom}
+use Rattle.record.specs.Tally.{isKept, spentOn, everKept, struckBy, total, spent, tallyRow, tallyFrom}
 use Rattle.record.specs.Counters.{counterWords, mostCounted, strikesAt, candidatesAt, raised, tallied, rowShown, shownFrom}
 use Rattle.record.specs.Tallies.{mostBytes}
 use Rattle.record.specs.declared.Outcome.{Outcome}
@@ -24,7 +23,7 @@ use Rattle.record.specs.declared.Outcome.the-variants.{Kept, Struck, Ref
 use Rattle.record.proofs.Ruling.{Fate, refuses, strikes, keeps}
 use Rattle.record.proofs.Rows.{Fated, fated-none, fated-more}
 use Rattle.record.proofs.Passing.{passing-same}
-use Rattle.record.proofs.Striking.{Strike, struck, other, strike, struck-more, struck-same}
+use Rattle.record.proofs.Striking.{Strike, struck, other, strike, struck-more, struck-same, weightBy, weigh-one}
 
 -- the marks and the counters after some rows
 abbrev pub marksWith : List ℕ → List Row → List ℕ
@@ -103,50 +102,51 @@ length-marked (Refused code) x m = refl
 
 -- ---- some records
 
--- the strikes of a number
-strikes-counted : (n : ℕ) (rs : List Row) (c : List ℕ) → strikesAt n < length c → getD c (strikesAt n) 0 + length (struckBy n rs) ≤ mostCounted
-    → getD (countersWith c rs) (strikesAt n) 0 ≡ getD c (strikesAt n) 0 + length (struckBy n rs)
-strikes-counted n [] c h l = omega arith
-strikes-counted n (r ∷ rs) c h l = go (strike n (r .outcome)) (strikes-counted n rs (tallied (r .outcome) c))
+-- a counter of a number, which a strike of it raises by some weight and nothing else touches
+record Weighs (n i : ℕ) (w : Row → ℕ) : Type 0 where
+  strikes : (r : Row) (k : ℕ) (c : List ℕ) → r .outcome ≡ Struck n k → i < length c → getD c i 0 + w r ≤ mostCounted
+      → getD (tallied (r .outcome) c) i 0 ≡ getD c i 0 + w r
+  others : (r : Row) (c : List ℕ) → ((k : ℕ) → r .outcome ≡ Struck n k → ⊥) → getD (tallied (r .outcome) c) i 0 ≡ getD c i 0
+
+-- it counts what all strikes of the number weigh, as long as it is not full
+weight-counted : {n i : ℕ} {w : Row → ℕ} → Weighs n i w → (rs : List Row) (c : List ℕ) → i < length c → getD c i 0 + weightBy w rs n ≤ mostCounted
+    → getD (countersWith c rs) i 0 ≡ getD c i 0 + weightBy w rs n
+weight-counted g [] c h l = omega arith
+weight-counted {n} {i} {w} g (r ∷ rs) c h l = go (strike n (r .outcome)) (weight-counted g rs (tallied (r .outcome) c))
   where
-    here : strikesAt n < length (tallied (r .outcome) c)
+    here : i < length (tallied (r .outcome) c)
     here = omega (arith, length-tallied (r .outcome) c)
 
-    go : Strike n (r .outcome)
-        → (strikesAt n < length (tallied (r .outcome) c) → getD (tallied (r .outcome) c) (strikesAt n) 0 + length (struckBy n rs) ≤ mostCounted
-        → getD (countersWith c (r ∷ rs)) (strikesAt n) 0 ≡ getD (tallied (r .outcome) c) (strikesAt n) 0 + length (struckBy n rs))
-        → getD (countersWith c (r ∷ rs)) (strikesAt n) 0 ≡ getD c (strikesAt n) 0 + length (struckBy n (r ∷ rs))
-    go (struck k e) ih =
-        let q = ap length (struck-more n k r rs e) in
-        let s = one-strike n k c e h (omega (arith, l, q)) in
-        omega (arith, ih here (omega (arith, l, q, s)), q, s)
-    go (other d) ih =
-        let q = ap length (struck-same n r rs d) in
-        let s = untouched n (r .outcome) c (strikesAt n) d (λ m i. (λ e. i (omega arith), λ e. omega arith)) in
-        omega (arith, ih here (omega (arith, l, q, s)), q, s)
-
--- the candidates of these
-candidates-counted : (n : ℕ) (rs : List Row) (c : List ℕ) → candidatesAt n < length c → getD c (candidatesAt n) 0 + spent (struckBy n rs) ≤ mostCounted
-    → getD (countersWith c rs) (candidatesAt n) 0 ≡ getD c (candidatesAt n) 0 + spent (struckBy n rs)
-candidates-counted n [] c h l = omega arith
-candidates-counted n (r ∷ rs) c h l = go (strike n (r .outcome)) (candidates-counted n rs (tallied (r .outcome) c))
-  where
-    here : candidatesAt n < length (tallied (r .outcome) c)
-    here = omega (arith, length-tallied (r .outcome) c)
+    weigh : List Row → ℕ
+    weigh ss = total (map w ss)
 
     go : Strike n (r .outcome)
-        → (candidatesAt n < length (tallied (r .outcome) c) → getD (tallied (r .outcome) c) (candidatesAt n) 0 + spent (struckBy n rs) ≤ mostCounted
-        → getD (countersWith c (r ∷ rs)) (candidatesAt n) 0 ≡ getD (tallied (r .outcome) c) (candidatesAt n) 0 + spent (struckBy n rs))
-        → getD (countersWith c (r ∷ rs)) (candidatesAt n) 0 ≡ getD c (candidatesAt n) 0 + spent (struckBy n (r ∷ rs))
+        → (i < length (tallied (r .outcome) c) → getD (tallied (r .outcome) c) i 0 + weightBy w rs n ≤ mostCounted
+        → getD (countersWith c (r ∷ rs)) i 0 ≡ getD (tallied (r .outcome) c) i 0 + weightBy w rs n)
+        → getD (countersWith c (r ∷ rs)) i 0 ≡ getD c i 0 + weightBy w (r ∷ rs) n
     go (struck k e) ih =
-        let p : spentOn (r .outcome) ≡ k = rw e in
-        let q = ap spent (struck-more n k r rs e) in
-        let s = its-candidates n k c e h (omega (arith, l, p, q)) in
-        omega (arith, ih here (omega (arith, l, p, q, s)), p, q, s)
-    go (other d) ih =
-        let q = ap spent (struck-same n r rs d) in
-        let s = untouched n (r .outcome) c (candidatesAt n) d (λ m i. (λ e. omega arith, λ e. i (omega arith))) in
+        let q : weightBy w (r ∷ rs) n ≡ w r + weightBy w rs n = ap weigh (struck-more n k r rs e) in
+        let s = g .strikes r k c e h (omega (arith, l, q)) in
         omega (arith, ih here (omega (arith, l, q, s)), q, s)
+    go (other d) ih =
+        let q : weightBy w (r ∷ rs) n ≡ weightBy w rs n = ap weigh (struck-same n r rs d) in
+        let s = g .others r c d in
+        omega (arith, ih here (omega (arith, l, q, s)), q, s)
+
+-- the two counters of a number
+strikes-weigh : (n : ℕ) → Weighs n (strikesAt n) (λ r. 1)
+strikes-weigh n =
+    record {
+      strikes = λ r k c e h l. one-strike n k c e h l;
+      others = λ r c d. untouched n (r .outcome) c (strikesAt n) d (λ m i. (λ e. i (omega arith), λ e. omega arith));
+    }
+
+candidates-weigh : (n : ℕ) → Weighs n (candidatesAt n) (λ r. spentOn (r .outcome))
+candidates-weigh n =
+    record {
+      strikes = λ r k c e h l. let p : spentOn (r .outcome) ≡ k = rw e in rw p (its-candidates n k c e h (omega (arith, l, p)));
+      others = λ r c d. untouched n (r .outcome) c (candidatesAt n) d (λ m i. (λ e. omega arith, λ e. i (omega arith)));
+    }
 
 -- a number is marked exactly if it was before, or was kept since
 marks-kept : (n : ℕ) (rs : List Row) (m : List ℕ) → n < length m → ltb 0 (getD (marksWith m rs) n 0) ≡ (ltb 0 (getD m n 0) || everKept n rs)
@@ -172,21 +172,21 @@ pub fated-spent : {K : List Pair} {rs : List Row} → Fated K rs → All (λ r. 
 fated-spent fated-none = none
 fated-spent (fated-more {r = r} e f) = also {x = r} (fate-spent e) (fated-spent f)
 
-struck-few : (n : ℕ) (rs : List Row) → length (struckBy n rs) ≤ length rs
-struck-few n [] = omega arith
-struck-few n (r ∷ rs) = go (strike n (r .outcome)) (struck-few n rs)
+-- the strikes of a number weigh no more than as many of the heaviest as there are records
+weight-few : (n b : ℕ) (w : Row → ℕ) {rs : List Row} → All (λ r. w r ≤ b) rs → weightBy w rs n ≤ length rs * b
+weight-few n b w none = omega arith
+weight-few n b w (also {x = r} {xs = rs} h a) = go (strike n (r .outcome)) (weight-few n b w a)
   where
-    go : Strike n (r .outcome) → length (struckBy n rs) ≤ length rs → length (struckBy n (r ∷ rs)) ≤ length (r ∷ rs)
-    go (struck k e) ih = omega (arith, ap length (struck-more n k r rs e))
-    go (other d) ih = omega (arith, ap length (struck-same n r rs d))
+    more : suc (length rs) * b ≡ length rs * b + b
+    more = suc-mul (length rs) b
 
-spent-few : (n : ℕ) {rs : List Row} → All (λ r. spentOn (r .outcome) ≤ budget) rs → spent (struckBy n rs) ≤ length rs * budget
-spent-few n none = omega arith
-spent-few n (also {x = r} {xs = rs} h a) = go (strike n (r .outcome)) (spent-few n a)
-  where
-    go : Strike n (r .outcome) → spent (struckBy n rs) ≤ length rs * budget → spent (struckBy n (r ∷ rs)) ≤ length (r ∷ rs) * budget
-    go (struck k e) ih = omega (arith, ap spent (struck-more n k r rs e), h)
-    go (other d) ih = omega (arith, ap spent (struck-same n r rs d))
+    go : Strike n (r .outcome) → weightBy w rs n ≤ length rs * b → weightBy w (r ∷ rs) n ≤ suc (length rs) * b
+    go (struck k e) ih = omega (arith, ap (λ (ss : List Row). total (map w ss)) (struck-more n k r rs e), h, more)
+    go (other d) ih = omega (arith, ap (λ (ss : List Row). total (map w ss)) (struck-same n r rs d), more)
+
+ones : (rs : List Row) → All (λ r. 1 ≤ 1) rs
+ones [] = none
+ones (r ∷ rs) = also {x = r} (omega arith) (ones rs)
 
 -- ---- what is shown
 
@@ -194,9 +194,10 @@ spent-few n (also {x = r} {xs = rs} h a) = go (strike n (r .outcome)) (spent-few
 row-counted : (k : ℕ) (c : List ℕ) (rs : List Row) → getD c (strikesAt k) 0 ≡ 0 → getD c (candidatesAt k) 0 ≡ 0 → candidatesAt k < length c
     → length (struckBy k rs) ≤ mostCounted → spent (struckBy k rs) ≤ mostCounted → rowShown (countersWith c rs) k ≡ tallyRow rs k
 row-counted k c rs z y l few less =
-    let s = strikes-counted k rs c (omega arith) (omega (arith, z)) in
-    let t = candidates-counted k rs c l (omega (arith, y)) in
-    let s0 : getD (countersWith c rs) (strikesAt k) 0 ≡ length (struckBy k rs) = omega (arith, s, z) in
+    let n = weigh-one (struckBy k rs) in
+    let s = weight-counted (strikes-weigh k) rs c (omega arith) (omega (arith, z, n)) in
+    let t = weight-counted (candidates-weigh k) rs c l (omega (arith, y)) in
+    let s0 : getD (countersWith c rs) (strikesAt k) 0 ≡ length (struckBy k rs) = omega (arith, s, z, n) in
     let t0 : getD (countersWith c rs) (candidatesAt k) 0 ≡ spent (struckBy k rs) = omega (arith, t, y) in
     ap₂ (λ (x w : ℕ). record { number = k; strikes = x; candidates = w }) s0 t0
 
@@ -205,7 +206,7 @@ zero-row : (rs : List Row) → All (λ r. spentOn (r .outcome) ≤ budget) rs �
 zero-row rs a few k l =
     row-counted k (replicate counterWords 0) rs (getD-replicate {A = ℕ} counterWords (strikesAt k) 0 0 (omega arith))
     (getD-replicate {A = ℕ} counterWords (candidatesAt k) 0 0 (omega arith)) (rw (length-replicate {A = ℕ} counterWords 0) (omega arith))
-    (omega (arith, struck-few k rs)) (omega (arith, spent-few k a))
+    (omega (arith, weight-few k 1 (λ r. 1) (ones rs), weigh-one (struckBy k rs))) (omega (arith, weight-few k budget (λ r. spentOn (r .outcome)) a))
 
 zero-mark : (rs : List Row) (k : ℕ) → k < numberCount → ltb 0 (getD (marksWith (replicate numberCount 0) rs) k 0) ≡ everKept k rs
 zero-mark rs k l =

@@ -60,9 +60,13 @@ pub complete : (input : List ℕ) → Complete (recordsOf input) (fields input)
 unfolding recordsOf
 complete input = complete-from (length (fields input)) (fields input) (omega arith)
 
--- ---- words of 16 bits
+-- ---- numbers and words of 16 bits
 
--- the words of a record have 16 bits, and its number 32
+-- a record's number and words have 16 bits
+abbrev pub Narrow : Record → Type 0
+Narrow x = (x .number < numberCount) × Words (x .words)
+
+-- so that its insertion fits
 abbrev pub FitRecord : Record → Type 0
 FitRecord x = Fit (insert (x .words) (x .number))
 
@@ -76,40 +80,28 @@ words-drop zero ws h = h
 words-drop (suc n) [] h = none
 words-drop (suc n) (w ∷ ws) (also p h) = words-drop n ws h
 
-records-fit : (f : ℕ) (fs : List ℕ) → Words fs → All FitRecord (recordsFor f fs)
+records-narrow : (f : ℕ) (fs : List ℕ) → Words fs → All Narrow (recordsFor f fs)
 unfolding recordsFor
-records-fit zero fs h = none
-records-fit (suc f) [] h = none
-records-fit (suc f) (n ∷ []) h = none
-records-fit (suc f) (n ∷ count ∷ ws) (also p (also q r)) = go (allThere count ws) (records-fit f (drop count ws) (words-drop count ws r))
+records-narrow zero fs h = none
+records-narrow (suc f) [] h = none
+records-narrow (suc f) (n ∷ []) h = none
+records-narrow (suc f) (n ∷ count ∷ ws) (also p (also q r)) = go (allThere count ws) (records-narrow f (drop count ws) (words-drop count ws r))
   where
-    go : (b : Bool) → All FitRecord (recordsFor f (drop count ws))
-        → All FitRecord (elim b as (λ y. List Record) [ true ↦ record { number = n; words = take count ws } ∷ recordsFor f (drop count ws) | false ↦ [] ])
-    go true ih = also {x = record { number = n; words = take count ws }} (all-take count r, omega arith) ih
+    go : (b : Bool) → All Narrow (recordsFor f (drop count ws))
+        → All Narrow (elim b as (λ y. List Record) [ true ↦ record { number = n; words = take count ws } ∷ recordsFor f (drop count ws) | false ↦ [] ])
+    go true ih = also {x = record { number = n; words = take count ws }} (p, all-take count r) ih
     go false ih = none
+
+pub input-narrow : (input : List ℕ) → Bytes input → All Narrow (recordsOf input)
+unfolding recordsOf
+input-narrow input h = records-narrow (length (fields input)) (fields input) (fields-fit input h)
+
+narrow-fit : {xs : List Record} → All Narrow xs → All FitRecord xs
+narrow-fit none = none
+narrow-fit (also {x = x} h a) = also {x = x} (h .1, omega (arith, h .0)) (narrow-fit a)
 
 pub input-fits : (input : List ℕ) → Bytes input → All FitRecord (recordsOf input)
-unfolding recordsOf
-input-fits input h = records-fit (length (fields input)) (fields input) (fields-fit input h)
-
--- ---- numbers of 16 bits
-
-records-small : (f : ℕ) (fs : List ℕ) → Words fs → All (λ x. x .number < numberCount) (recordsFor f fs)
-unfolding recordsFor
-records-small zero fs h = none
-records-small (suc f) [] h = none
-records-small (suc f) (n ∷ []) h = none
-records-small (suc f) (n ∷ count ∷ ws) (also p (also q r)) = go (allThere count ws) (records-small f (drop count ws) (words-drop count ws r))
-  where
-    go : (b : Bool) → All (λ (x : Record). x .number < numberCount) (recordsFor f (drop count ws))
-        → All (λ (x : Record). x .number < numberCount)
-        (elim b as (λ y. List Record) [ true ↦ record { number = n; words = take count ws } ∷ recordsFor f (drop count ws) | false ↦ [] ])
-    go true ih = also {x = record { number = n; words = take count ws }} (omega arith) ih
-    go false ih = none
-
-pub input-numbers : (input : List ℕ) → Bytes input → All (λ x. x .number < numberCount) (recordsOf input)
-unfolding recordsOf
-input-numbers input h = records-small (length (fields input)) (fields input) (fields-fit input h)
+input-fits input h = narrow-fit (input-narrow input h)
 
 -- ---- how many they are
 

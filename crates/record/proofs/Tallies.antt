@@ -1,30 +1,27 @@
 -- The claims about the tally sheet of an input.
 use mathlib.Core.Path.{_≡_, refl, sym, ap, subst, _∙_}
 use mathlib.Core.List.{List, [], _∷_, _++_, map, flatMap, map-append, append-assoc, List·Memᴰ, List·Memᴰ·head, List·Memᴰ·tail, Memᴰ·map, Memᴰ·of-map}
-use Prim.Native.Nat.{ℕ, zero, suc, _+_, _≤_, _<_}
+use Prim.Native.Nat.{ℕ, _+_, _≤_, _<_}
 use native.Mathlib.Omega.{arith}
 use mathlib.Core.Logic.{_≢_}
 use lib.ListN.{length, replicate, length-map}
-use Rattle.clause.specs.Lists.{All, none, also, Each, besides}
+use Rattle.clause.specs.Lists.{none, Each, besides}
 use Rattle.clause.specs.Clause.{Subsumes}
 use Rattle.clause.proofs.Lists.{all-mem}
 use Rattle.tree.specs.Entries.{Pair}
-use Rattle.record.specs.Answer.{Record}
 use Rattle.record.specs.Marks.{numberCount}
 use Rattle.record.specs.Output.{recordsOf, Row, freshSlice, rowsOf, totalsWith}
 use Rattle.record.specs.Output as output
-use Rattle.record.specs.Ruled.{pairOf, Numbered, IsKept}
-use Rattle.record.specs.Sheet.{Bytes, bookAfter, keptPairs, Sheet}
-use Rattle.record.specs.Tally.{spentOn, everKept, struckBy, total, spent, TallyRow, tallyRow, passing, tallyFrom, tallyOf, rowLines}
+use Rattle.record.specs.Ruled.{pairOf, Numbered}
+use Rattle.record.specs.Sheet.{Bytes, bookAfter, Sheet}
+use Rattle.record.specs.Tally.{spentOn, everKept, struckBy, total, TallyRow, tallyRow, passing, tallyFrom, tallyOf, rowLines}
 use Rattle.record.specs.Counters.{counterWords, shownFrom}
 use Rattle.record.specs.Tallies.{mostBytes, KeptLine, numbersOf, RowStands, Tallied, Tallies}
-use Rattle.record.specs.declared.Totals.{Totals}
-use Rattle.record.specs.declared.Outcome.{Outcome}
-use Rattle.record.specs.declared.Outcome.the-variants.{Kept, Struck, Refused}
-use Rattle.record.proofs.Reading.{input-numbers, records-few}
+use Rattle.record.specs.declared.Outcome.the-variants.{Struck}
+use Rattle.record.proofs.Reading.{input-narrow, records-few}
 use Rattle.record.proofs.Rows.{rows-records, kept-mem, mem-kept, rows-read}
 use Rattle.record.proofs.Sheets.{rows-fated, sheets}
-use Rattle.record.proofs.Passing.{Passes, passing-has, passing-all, passing-rises, passing-append}
+use Rattle.record.proofs.Passing.{passing-has, passing-all, passing-rises, passing-append}
 use Rattle.record.proofs.Striking.{struck-among, among-struck, ever-line, line-ever, weightBy, weights, weigh-one, weight-struck, weight-spent}
 use Rattle.record.proofs.Counting.{marksWith, countersWith, fated-spent, shown-tally}
 
@@ -75,7 +72,7 @@ module _ (input : List ℕ) (b : Bytes input) where
 
   -- a number of 16 bits
   small : (r : Row) → List·Memᴰ r rs → r .of .number < numberCount
-  small r m = all-mem (input-numbers input b) (subst (List·Memᴰ (r .of)) (sheet .rows) (Memᴰ·map (λ (y : Row). y .of) m))
+  small r m = all-mem (input-narrow input b) (subst (List·Memᴰ (r .of)) (sheet .rows) (Memᴰ·map (λ (y : Row). y .of) m)) .0
 
   line-kept : (n : ℕ) → KeptLine rs n → List·Memᴰ n kept
   line-kept n l = let (r, m, k, e) = l in passing-has (λ k. everKept k rs) numberCount 0 n (omega arith) (omega (arith, small r m, e)) (line-ever n rs l)

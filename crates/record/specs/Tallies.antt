@@ -11,7 +11,6 @@ use Rattle.record.specs.Output.{recordsOf, Row, rowsOf, totalsWith, none
 use Rattle.record.specs.Ruled.{Numbered, IsKept}
 use Rattle.record.specs.Sheet.{Bytes, bookAfter}
 use Rattle.record.specs.Tally.{struckBy, total, spent, TallyRow, tallyOf}
-use Rattle.record.specs.declared.Totals.{Totals}
 use Rattle.record.specs.declared.Outcome.the-variants.{Struck}
 
 -- the sheet is for inputs of fewer bytes than this; with so many no counter reaches its end

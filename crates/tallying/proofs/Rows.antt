@@ -1,14 +1,13 @@
 -- The rows of some numbers, one after another.
 use mathlib.Core.Path.{_≡_, refl, ap, _∙_}
-use mathlib.Core.Bool.{cond}
-use mathlib.Core.List.{List, [], _∷_, _++_, map, flatMap, map-append, append-nil}
+use mathlib.Core.List.{List, [], _++_, map, flatMap, map-append, append-nil}
 use Prim.Native.Nat.{ℕ, _+_, _≤_, _<_}
 use lib.Dec.{ltb}
 use lib.ListN.{getD}
 use borrow.Author.Tests.{lt-ltb, le-ltb}
 use Rattle.record.specs.Line.{rowLine}
 use Rattle.record.specs.Tally.{passing, rowLines}
-use Rattle.record.specs.Counters.{strikesAt, candidatesAt, raised, tallied, rowShown, shownFrom}
+use Rattle.record.specs.Counters.{strikesAt, candidatesAt, tallied, rowShown, shownFrom}
 use Rattle.record.specs.declared.Outcome.{Outcome}
 use Rattle.record.specs.declared.Outcome.the-variants.{Kept, Struck, Refused}
 use Rattle.record.proofs.Passing.{passing-append}

@@ -10,7 +10,7 @@ ghost use Rattle.record.specs.Text.{putAt};
 ghost use Rattle.record.specs.Line.{longestRow, longestRecords, rowLine, recordsLine};
 ghost use Rattle.record.specs.Marks.{numberCount};
 ghost use Rattle.record.specs.Tally.{rowLines};
-ghost use Rattle.record.specs.Counters.{counterWords, shownFrom};
+ghost use Rattle.record.specs.Counters.{shownFrom};
 ghost use Rattle.tallying.specs.inner.Rows.{Showable};
 
 // Puts the row of a number at a place of the output, and gives the place after it. It takes at most `longestRow` bytes.

@@ -4,7 +4,7 @@ use lib.ListN.{length}
 use Rattle.record.specs.Tally.{rowLines}
 use Rattle.record.specs.Counters.{shownFrom}
 use Rattle.printing.specs.Blocks.{blockNumbers}
-use mathlib.Core.Path.{_≡_, sym}
+use mathlib.Core.Path.{sym}
 use native.Mathlib.Omega.{arith}
 use lib.Seq.{length-take-le}
 use Rattle.lines.proofs.Writing.{placed, text-there}
