@@ -8,7 +8,7 @@ use lib.Seq.{take-add, take-take, take-all}
 use Rattle.record.specs.Text.{Written, putAt}
 use Rattle.record.specs.Line.{longestLine, lineOf}
 use Rattle.record.specs.Output.{fieldOf, counted}
-use Rattle.record.specs.Counters.{tallied}
+use Rattle.record.specs.Counters.{countersAfter}
 use Rattle.record.specs.declared.Outcome.{Outcome}
 use Rattle.record.specs.declared.Outcome.the-variants.{Kept, Struck, Refused}
 use Rattle.record.specs.declared.Totals.{Totals}
@@ -31,7 +31,7 @@ use Rattle.feeding.specs.inner.Blocks.{FedInto, fedInto, Within, Took}
 -- a whole record ended
 pub finishes : (n count : ℕ) (t : Totals) (m : Store) (o : List ℕ) (at : ℕ) {r : Outcome} {T K C p : List ℕ} {u : Totals} {next : ℕ}
     → CameOut (finishing n count (m .words) (m .slice)) n (m .marks) r T K
-    → C ≡ tallied r (m .counters)
+    → C ≡ countersAfter r (m .counters)
     → u ≡ counted r t
     → _≡_ {A = Written} (record { next = next; output = p }) (putAt (lineOf n r) o at)
     → next ≤ at + longestLine

@@ -30,11 +30,11 @@ use Rattle.record.specs.Line.{lineOf, totalsLine, recordsLine}
 use Rattle.record.specs.Answer.{treeWords, budget, Record, Answered, answerAs, answerTo}
 use Rattle.record.specs.Output.{fieldOf, fields, recordsFor, recordsOf, rowOn, rowsFrom, rowsOf, rowCalls, linesOf, counted, totalsWith, none, listingOf}
 use Rattle.record.specs.Marks.{numberCount, marked}
-use Rattle.record.specs.Tally.{TallyRow, tallyFrom, tallyOf, rowLines, sheetOf, outputOf}
-use Rattle.record.specs.Counters.{tallied, shownFrom}
+use Rattle.record.specs.Tally.{TallyRow, tallyFrom, tallyOf, tallyLines, tallySheetOf, outputOf}
+use Rattle.record.specs.Counters.{countersAfter, shownFrom, shownSheet}
 use Rattle.record.specs.Sheet.{Bytes}
 use Rattle.record.specs.Tallies.{mostBytes}
-use Rattle.intake.specs.Feed.{Store, storeOf, Fed, finishing, recordEnded, takeField, feedThen, feed, firstSession, firstStore, sheetAfter, WholeInput}
+use Rattle.intake.specs.Feed.{Store, storeOf, Fed, finishing, recordEnded, takeField, feedThen, feed, firstSession, firstStore, WholeInput}
 use Rattle.record.proofs.Rows.{slice-more}
 use Rattle.record.proofs.Counting.{marksWith, countersWith}
 use Rattle.record.proofs.Sheets.{slice-from, sheets, no-strike-is-wrong}
@@ -174,7 +174,7 @@ unfolding recordEnded rowsFrom rowOn
 one-record n count ws t m xs fs w s h same rest =
     let x : Record = record { number = n; words = take count ws } in
     let a : Answered = answerTo (m .slice) x in
-    let m′ : Store = storeOf (m .words) (a .slice) (marked (a .outcome) n (m .marks)) (tallied (a .outcome) (m .counters)) in
+    let m′ : Store = storeOf (m .words) (a .slice) (marked (a .outcome) n (m .marks)) (countersAfter (a .outcome) (m .counters)) in
     rw (finishing-is n count (m .words) (m .slice) ws s h same)
     (ap (before (lineOf n (a .outcome))) (rest (counted (a .outcome) t) m′ w (answered-length (m .slice) x ∙ s))
     ∙ ap (sliced (told t m (x ∷ xs))) (sym (slice-more (m .slice) x (rowCalls (rowsFrom (a .slice) xs)))))
@@ -254,11 +254,12 @@ read : (input : List ℕ) → feed firstSession firstStore input .session .total
 unfolding firstStore rowsOf
 read input = ap (λ (p : Prints). p .totals .records) (whole input) ∙ read-records input
 
--- the sheet
-sheet : (input : List ℕ) → Bytes input → length input < mostBytes → sheetAfter (feed firstSession firstStore input) ≡ sheetOf input
-unfolding sheetAfter sheetOf tallyOf
+-- the tally sheet
+sheet : (input : List ℕ) → Bytes input → length input < mostBytes
+    → let f = feed firstSession firstStore input in shownSheet (f .store .marks) (f .store .counters) (f .session .totals .records) ≡ tallySheetOf input
+unfolding shownSheet tallySheetOf tallyOf
 sheet input b l =
-    ap₂ (λ (ts : List TallyRow) (n : ℕ). rowLines ts ++ recordsLine n) (shown input b l 0 numberCount (omega arith)) (read input)
+    ap₂ (λ (ts : List TallyRow) (n : ℕ). tallyLines ts ++ recordsLine n) (shown input b l 0 numberCount (omega arith)) (read input)
 
 -- the listing
 listing : (input : List ℕ) → feed firstSession firstStore input .text ++ totalsLine (feed firstSession firstStore input .session .totals) ≡ listingOf input

@@ -7,13 +7,13 @@ use lib.Dec.{ltb, eqb}
 use lib.ListN.{length, take, set, replicate}
 use Rattle.clause.specs.Clause.{maxWords}
 use Rattle.book.specs.Book.{sliceOf}
-use Rattle.record.specs.Line.{lineOf, totalsLine, recordsLine}
+use Rattle.record.specs.Line.{lineOf, totalsLine}
 use Rattle.record.specs.Answer.{treeWords, Answered, answerTo}
 use Rattle.record.specs.Marks.{numberCount, marked}
 use Rattle.record.specs.Output.{fieldOf, recordsOf, counted, freshSlice, rowsOf, rowCalls, listingOf}
 use Rattle.record.specs.Output as output
-use Rattle.record.specs.Tally.{tallyFrom, rowLines, sheetOf, outputOf}
-use Rattle.record.specs.Counters.{counterWords, tallied, shownFrom}
+use Rattle.record.specs.Tally.{tallyFrom, tallySheetOf, outputOf}
+use Rattle.record.specs.Counters.{counterWords, countersAfter, shownFrom, shownSheet}
 use Rattle.record.specs.Sheet.{Bytes, Sheets, NoStrikeIsWrong}
 use Rattle.record.specs.Tallies.{mostBytes, Tallies}
 use Rattle.record.specs.declared.Outcome.the-variants.{Refused}
@@ -48,7 +48,7 @@ abbrev pub finishedAs : Answered → (number : ℕ) → Totals → Store → Fed
 finishedAs a n t m =
     record {
       session = record { half = Even; stage = AtNumber; totals = counted (a .outcome) t };
-      store = record { words = m .words; slice = a .slice; marks = marked (a .outcome) n (m .marks); counters = tallied (a .outcome) (m .counters) };
+      store = record { words = m .words; slice = a .slice; marks = marked (a .outcome) n (m .marks); counters = countersAfter (a .outcome) (m .counters) };
       text = lineOf n (a .outcome);
     }
 
@@ -107,10 +107,6 @@ firstSession = record { half = Even; stage = AtNumber; totals = output.none }
 unfoldable pub firstStore : Store
 firstStore = storeOf (replicate maxWords 0) (replicate treeWords 0) (replicate numberCount 0) (replicate counterWords 0)
 
--- the sheet that marks, counters and totals show
-unfoldable pub sheetAfter : Fed → List ℕ
-sheetAfter f = rowLines (shownFrom (f .store .marks) (f .store .counters) 0 numberCount) ++ recordsLine (f .session .totals .records)
-
 -- the claims about every input
 pub record WholeInput : Type 0 where
   -- whatever the blocks, the text of all of them and the totals are the listing of the whole input, and the slice is that of its calls
@@ -120,12 +116,13 @@ pub record WholeInput : Type 0 where
   -- what becomes of each record, by the clauses that are kept before it; and in one sentence
   pub sheets : Sheets
   pub strikes : NoStrikeIsWrong
-  -- the tally of every input; of one under 4,000,000,000 bytes marks and counters show it, number by number, and the sheet is its text
+  -- the tally of every input; of one under `mostBytes` marks and counters show it, number by number, and with the records they show its tally sheet
   pub tallies : Tallies
   pub shows : (input : List ℕ) → Bytes input → length input < mostBytes → (n c : ℕ) → n + c ≤ numberCount
       → let m = feed firstSession firstStore input .store in shownFrom (m .marks) (m .counters) n c ≡ tallyFrom (rowsOf input) n c
   pub records : (input : List ℕ) → feed firstSession firstStore input .session .totals .records ≡ length (recordsOf input)
-  pub tally : (input : List ℕ) → Bytes input → length input < mostBytes → sheetAfter (feed firstSession firstStore input) ≡ sheetOf input
+  pub tally : (input : List ℕ) → Bytes input → length input < mostBytes
+      → let f = feed firstSession firstStore input in shownSheet (f .store .marks) (f .store .counters) (f .session .totals .records) ≡ tallySheetOf input
   -- so all that is printed of such an input is its output
-  pub output : (input : List ℕ) → Bytes input → length input < mostBytes
-      → let f = feed firstSession firstStore input in (f .text ++ totalsLine (f .session .totals)) ++ sheetAfter f ≡ outputOf input
+  pub output : (input : List ℕ) → Bytes input → length input < mostBytes → let f = feed firstSession firstStore input in
+      (f .text ++ totalsLine (f .session .totals)) ++ shownSheet (f .store .marks) (f .store .counters) (f .session .totals .records) ≡ outputOf input

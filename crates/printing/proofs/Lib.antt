@@ -1,1 +1,1 @@
-pub mod SheetBlocks
+pub mod TallyBlocks

@@ -1,33 +1,33 @@
--- The sheet as it is written, in blocks of numbers.
+-- The tally sheet as it is written, in blocks of numbers.
 use mathlib.Core.Path.{_≡_}
 use mathlib.Core.List.{List, [], _++_}
 use Prim.Native.Nat.{ℕ, zero, suc, _+_, _<_}
 use lib.ListN.{length}
 use Rattle.record.specs.Line.{recordsLine}
 use Rattle.record.specs.Output.{recordsOf, Row, rowsOf}
-use Rattle.record.specs.Tally.{tallyFrom, rowLines, sheetOf}
+use Rattle.record.specs.Tally.{tallyFrom, tallyLines, tallySheetOf}
 use Rattle.record.specs.Sheet.{Bytes}
 use Rattle.record.specs.Tallies.{mostBytes}
 use Rattle.intake.specs.Feed.{feed, firstSession, firstStore}
 
--- the numbers whose rows are a block of the sheet, and how many blocks there are
+-- the numbers whose rows are a block of the tally sheet, and how many blocks there are
 abbrev pub blockNumbers : ℕ
 blockNumbers = 8_192
 
-abbrev pub sheetBlocks : ℕ
-sheetBlocks = 8
+abbrev pub tallyBlocks : ℕ
+tallyBlocks = 8
 
 -- the rows of some blocks, from a number on
 unfoldable pub blockLines : List Row → (from blocks : ℕ) → List ℕ
 blockLines rs n zero = []
-blockLines rs n (suc k) = rowLines (tallyFrom rs n blockNumbers) ++ blockLines rs (n + blockNumbers) k
+blockLines rs n (suc k) = tallyLines (tallyFrom rs n blockNumbers) ++ blockLines rs (n + blockNumbers) k
 
--- some text is the block from a number on of the sheet of every input, under 4,000,000,000 bytes, that leaves such marks and counters
+-- some text is the block from a number on of the tally sheet of every input, under 4,000,000,000 bytes, that leaves such marks and counters
 abbrev pub ShowsBlock : (marks counters : List ℕ) (from : ℕ) (text : List ℕ) → Type 0
 ShowsBlock m c n t = (input : List ℕ) → Bytes input → length input < mostBytes
     → feed firstSession firstStore input .store .marks ≡ m → feed firstSession firstStore input .store .counters ≡ c
-    → t ≡ rowLines (tallyFrom (rowsOf input) n blockNumbers)
+    → t ≡ tallyLines (tallyFrom (rowsOf input) n blockNumbers)
 
--- the blocks one after another, and the last line, are the sheet
+-- the blocks one after another, and the last line, are the tally sheet
 abbrev pub InBlocks : Type 0
-InBlocks = (input : List ℕ) → sheetOf input ≡ blockLines (rowsOf input) 0 sheetBlocks ++ recordsLine (length (recordsOf input))
+InBlocks = (input : List ℕ) → tallySheetOf input ≡ blockLines (rowsOf input) 0 tallyBlocks ++ recordsLine (length (recordsOf input))

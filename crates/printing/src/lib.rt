@@ -1,18 +1,18 @@
 // What is written to standard output: text, and the tally sheet in blocks (docs/REFERENCE.md, "The program").
-mod sheet;
+mod tally;
 mod writing;
 
-pub use sheet::write_sheet;
+pub use tally::write_tally;
 pub use writing::write_more;
 pub use writing::write_text;
 
-// The sheet that was put into the output, block after block: its bytes in all, and the place after its last line, which the output then begins with.
+// The tally sheet that was put into the output, block after block: its bytes in all, and the place after its last line, which the output then begins with.
 pub struct Printed {
     pub bytes: usize,
     pub next: usize,
 }
 
-// A block of the sheet.
+// A block of the tally sheet.
 struct Block {}
 
 impl Block {

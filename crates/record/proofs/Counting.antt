@@ -15,8 +15,8 @@ use Rattle.tree.specs.Entries.{Pair}
 use Rattle.record.specs.Answer.{budget, Record}
 use Rattle.record.specs.Marks.{numberCount, marked}
 use Rattle.record.specs.Output.{Row}
-use Rattle.record.specs.Tally.{isKept, spentOn, everKept, struckBy, total, spent, tallyRow, tallyFrom}
-use Rattle.record.specs.Counters.{counterWords, mostCounted, strikesAt, candidatesAt, raised, tallied, rowShown, shownFrom}
+use Rattle.record.specs.Tally.{wasKept, spentOn, everKept, struckBy, total, spent, tallyRow, tallyFrom}
+use Rattle.record.specs.Counters.{counterWords, mostCounted, strikesAt, candidatesAt, raised, countersAfter, rowShown, shownFrom}
 use Rattle.record.specs.Tallies.{mostBytes}
 use Rattle.record.specs.declared.Outcome.{Outcome}
 use Rattle.record.specs.declared.Outcome.the-variants.{Kept, Struck, Refused}
@@ -32,7 +32,7 @@ marksWith m (r ∷ rs) = marksWith (marked (r .outcome) (r .of .number) m) rs
 
 abbrev pub countersWith : List ℕ → List Row → List ℕ
 countersWith c [] = c
-countersWith c (r ∷ rs) = countersWith (tallied (r .outcome) c) rs
+countersWith c (r ∷ rs) = countersWith (countersAfter (r .outcome) c) rs
 
 -- ---- one counter
 
@@ -44,25 +44,20 @@ raise-other : (c : List ℕ) (i j k : ℕ) → (j ≡ i → ⊥) → getD (raise
 unfolding raised
 raise-other c i j k h = getD-set-other c i j _ 0 h
 
-pub length-raised : (c : List ℕ) (i k : ℕ) → length (raised c i k) ≡ length c
+length-raised : (c : List ℕ) (i k : ℕ) → length (raised c i k) ≡ length c
 unfolding raised
 length-raised c i k = length-set c i _
 
 -- ---- one record
 
-length-tallied : (o : Outcome) (c : List ℕ) → length (tallied o c) ≡ length c
-length-tallied (Kept used) c = refl
-length-tallied (Struck n k) c = length-raised (raised c (strikesAt n) 1) (candidatesAt n) k ∙ length-raised c (strikesAt n) 1
-length-tallied (Refused code) c = refl
-
 -- a strike of this number
 one-strike : (n k : ℕ) (c : List ℕ) {o : Outcome} → o ≡ Struck n k → strikesAt n < length c → getD c (strikesAt n) 0 + 1 ≤ mostCounted
-    → getD (tallied o c) (strikesAt n) 0 ≡ getD c (strikesAt n) 0 + 1
+    → getD (countersAfter o c) (strikesAt n) 0 ≡ getD c (strikesAt n) 0 + 1
 one-strike n k c e h l =
     rw e (raise-other (raised c (strikesAt n) 1) (candidatesAt n) (strikesAt n) k (λ i. omega arith) ∙ raise-same c (strikesAt n) 1 h l)
 
 its-candidates : (n k : ℕ) (c : List ℕ) {o : Outcome} → o ≡ Struck n k → candidatesAt n < length c → getD c (candidatesAt n) 0 + k ≤ mostCounted
-    → getD (tallied o c) (candidatesAt n) 0 ≡ getD c (candidatesAt n) 0 + k
+    → getD (countersAfter o c) (candidatesAt n) 0 ≡ getD c (candidatesAt n) 0 + k
 its-candidates n k c e h l =
     let s = raise-other c (strikesAt n) (candidatesAt n) 1 (λ i. omega arith) in
     let m : candidatesAt n < length (raised c (strikesAt n) 1) = omega (arith, length-raised c (strikesAt n) 1) in
@@ -70,19 +65,24 @@ its-candidates n k c e h l =
 
 -- anything else
 untouched : (n : ℕ) (o : Outcome) (c : List ℕ) (i : ℕ) → ((k : ℕ) → o ≡ Struck n k → ⊥)
-    → ((m : ℕ) → (m ≡ n → ⊥) → (i ≡ strikesAt m → ⊥) × (i ≡ candidatesAt m → ⊥)) → getD (tallied o c) i 0 ≡ getD c i 0
+    → ((m : ℕ) → (m ≡ n → ⊥) → (i ≡ strikesAt m → ⊥) × (i ≡ candidatesAt m → ⊥)) → getD (countersAfter o c) i 0 ≡ getD c i 0
 untouched n (Kept used) c i h a = refl
 untouched n (Struck m k) c i h a =
     let b = a m (λ e. h k (ap (λ (j : ℕ). Struck j k) e)) in
     raise-other (raised c (strikesAt m) 1) (candidatesAt m) i k (b .1) ∙ raise-other c (strikesAt m) i 1 (b .0)
 untouched n (Refused code) c i h a = refl
 
+length-after : (o : Outcome) (c : List ℕ) → length (countersAfter o c) ≡ length c
+length-after (Kept used) c = refl
+length-after (Struck n k) c = length-raised (raised c (strikesAt n) 1) (candidatesAt n) k ∙ length-raised c (strikesAt n) 1
+length-after (Refused code) c = refl
+
 or-none : (b : Bool) → b ≡ (b || false)
 or-none true = refl
 or-none false = refl
 
 -- a mark
-one-mark : (n x : ℕ) (o : Outcome) (m : List ℕ) → n < length m → ltb 0 (getD (marked o x m) n 0) ≡ (ltb 0 (getD m n 0) || (isKept o && eqb x n))
+one-mark : (n x : ℕ) (o : Outcome) (m : List ℕ) → n < length m → ltb 0 (getD (marked o x m) n 0) ≡ (ltb 0 (getD m n 0) || (wasKept o && eqb x n))
 one-mark n x (Struck i k) m h = or-none (ltb 0 (getD m n 0))
 one-mark n x (Refused code) m h = or-none (ltb 0 (getD m n 0))
 one-mark n x (Kept used) m h = go (ℕ-discrete x n)
@@ -105,24 +105,24 @@ length-marked (Refused code) x m = refl
 -- a counter of a number, which a strike of it raises by some weight and nothing else touches
 record Weighs (n i : ℕ) (w : Row → ℕ) : Type 0 where
   strikes : (r : Row) (k : ℕ) (c : List ℕ) → r .outcome ≡ Struck n k → i < length c → getD c i 0 + w r ≤ mostCounted
-      → getD (tallied (r .outcome) c) i 0 ≡ getD c i 0 + w r
-  others : (r : Row) (c : List ℕ) → ((k : ℕ) → r .outcome ≡ Struck n k → ⊥) → getD (tallied (r .outcome) c) i 0 ≡ getD c i 0
+      → getD (countersAfter (r .outcome) c) i 0 ≡ getD c i 0 + w r
+  others : (r : Row) (c : List ℕ) → ((k : ℕ) → r .outcome ≡ Struck n k → ⊥) → getD (countersAfter (r .outcome) c) i 0 ≡ getD c i 0
 
 -- it counts what all strikes of the number weigh, as long as it is not full
 weight-counted : {n i : ℕ} {w : Row → ℕ} → Weighs n i w → (rs : List Row) (c : List ℕ) → i < length c → getD c i 0 + weightBy w rs n ≤ mostCounted
     → getD (countersWith c rs) i 0 ≡ getD c i 0 + weightBy w rs n
 weight-counted g [] c h l = omega arith
-weight-counted {n} {i} {w} g (r ∷ rs) c h l = go (strike n (r .outcome)) (weight-counted g rs (tallied (r .outcome) c))
+weight-counted {n} {i} {w} g (r ∷ rs) c h l = go (strike n (r .outcome)) (weight-counted g rs (countersAfter (r .outcome) c))
   where
-    here : i < length (tallied (r .outcome) c)
-    here = omega (arith, length-tallied (r .outcome) c)
+    here : i < length (countersAfter (r .outcome) c)
+    here = omega (arith, length-after (r .outcome) c)
 
     weigh : List Row → ℕ
     weigh ss = total (map w ss)
 
     go : Strike n (r .outcome)
-        → (i < length (tallied (r .outcome) c) → getD (tallied (r .outcome) c) i 0 + weightBy w rs n ≤ mostCounted
-        → getD (countersWith c (r ∷ rs)) i 0 ≡ getD (tallied (r .outcome) c) i 0 + weightBy w rs n)
+        → (i < length (countersAfter (r .outcome) c) → getD (countersAfter (r .outcome) c) i 0 + weightBy w rs n ≤ mostCounted
+        → getD (countersWith c (r ∷ rs)) i 0 ≡ getD (countersAfter (r .outcome) c) i 0 + weightBy w rs n)
         → getD (countersWith c (r ∷ rs)) i 0 ≡ getD c i 0 + weightBy w (r ∷ rs) n
     go (struck k e) ih =
         let q : weightBy w (r ∷ rs) n ≡ w r + weightBy w rs n = ap weigh (struck-more n k r rs e) in
@@ -154,7 +154,7 @@ marks-kept n [] m h = or-none (ltb 0 (getD m n 0))
 marks-kept n (r ∷ rs) m h =
     marks-kept n rs (marked (r .outcome) (r .of .number) m) (omega (arith, length-marked (r .outcome) (r .of .number) m))
     ∙ ap (λ (b : Bool). b || everKept n rs) (one-mark n (r .of .number) (r .outcome) m h)
-    ∙ or-assoc (ltb 0 (getD m n 0)) (isKept (r .outcome) && eqb (r .of .number) n) (everKept n rs)
+    ∙ or-assoc (ltb 0 (getD m n 0)) (wasKept (r .outcome) && eqb (r .of .number) n) (everKept n rs)
   where
     or-assoc : (a b c : Bool) → ((a || b) || c) ≡ (a || (b || c))
     or-assoc true b c = refl

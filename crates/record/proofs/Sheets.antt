@@ -1,19 +1,18 @@
 -- The claims about a whole input.
 use mathlib.Core.Path.{_≡_, refl, sym, ap, _∙_}
 use mathlib.Core.Logic.{⊎-elim}
-use mathlib.Core.List.{List, [], _∷_, _++_, append-assoc, append-nil, List·Memᴰ}
+use mathlib.Core.List.{List, [], _∷_, _++_, append-assoc, append-nil}
 use Prim.Native.Nat.{ℕ, _≤_}
 use native.Mathlib.Omega.{arith}
 use lib.ListN.{length, replicate, length-map, length-replicate}
 use borrow.Author.Tests.{le-leb}
-use Rattle.clause.specs.Clause.{Subsumes}
 use Rattle.tree.specs.Entries.{Pair}
 use Rattle.tree.specs.Calls.{fresh}
 use Rattle.book.specs.Book.{Call, after, sliceOf, bookFrom, treeOf}
 use Rattle.record.specs.Answer.{treeWords, Record}
 use Rattle.record.specs.Output.{recordsOf, Row, rowOn, freshSlice, rowsOf, rowCalls, none}
-use Rattle.record.specs.Ruled.{pairOf, IsKept}
-use Rattle.record.specs.Sheet.{Bytes, bookAfter, keptPairs, BookStands, RowAt, RowClaims, Covers, Sheets, NoStrikeIsWrong}
+use Rattle.record.specs.Ruled.{pairOf}
+use Rattle.record.specs.Sheet.{Bytes, bookAfter, keptPairs, BookStands, KeptAbove, RowAt, RowClaims, Covers, Sheets, NoStrikeIsWrong}
 use Rattle.tree.specs.declared.CallAnswer.the-variants.{Ready}
 use Rattle.clause.proofs.Order.{subsumes-refl}
 use Rattle.book.proofs.Holds.{holds-empty, fresh-layout, holds-numbers, holds-clauses}
@@ -68,7 +67,7 @@ book-more rs r = ap (bookFrom treeWords []) (calls-more rs r) ∙ book-append []
 
 -- a clause of the book has a row with a `kept` line
 earlier-row : (rs : List Row) → Fated [] rs → (x : Record) (n : ℕ) → StruckBy (bookAfter rs) x n
-    → (r : Row) × List·Memᴰ r rs × IsKept (r .outcome) × (r .of .number ≡ n) × Subsumes (r .of .words) (x .words)
+    → KeptAbove rs n x
 earlier-row rs f x n (p, m, i, s) =
     let k = mem-kept rs p (rw (book-kept f) at m) in
     (k .row, k .among, k .kept, sym (ap (λ (q : Pair). q .number) (k .pair)) ∙ i, rw (ap (λ (q : Pair). q .clause) (k .pair)) at s)

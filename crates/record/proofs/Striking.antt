@@ -12,8 +12,8 @@ use Rattle.clause.specs.Lists.{Each}
 use Rattle.clause.proofs.Apart.{apart}
 use Rattle.record.specs.Output.{Row, counted, totalsWith}
 use Rattle.record.specs.Ruled.{IsKept}
-use Rattle.record.specs.Tally.{isKept, isStruckBy, spentOn, everKept, struckBy, total, spent}
-use Rattle.record.specs.Tallies.{KeptLine}
+use Rattle.record.specs.Tally.{wasKept, wasStruckBy, spentOn, everKept, struckBy, total, spent}
+use Rattle.record.specs.Sheet.{KeptLine}
 use Rattle.record.specs.declared.Outcome.{Outcome}
 use Rattle.record.specs.declared.Outcome.the-variants.{Kept, Struck, Refused}
 use Rattle.record.specs.declared.Totals.{Totals}
@@ -28,7 +28,7 @@ struck-more n k r rs e = rw (e, eq-eqb n n refl)
 pub struck-same : (n : ℕ) (r : Row) (rs : List Row) → ((k : ℕ) → r .outcome ≡ Struck n k → ⊥) → struckBy n (r ∷ rs) ≡ struckBy n rs
 struck-same n r rs h = go (r .outcome) refl
   where
-    go : (o : Outcome) → r .outcome ≡ o → cond (isStruckBy n o) (r ∷ struckBy n rs) (struckBy n rs) ≡ struckBy n rs
+    go : (o : Outcome) → r .outcome ≡ o → cond (wasStruckBy n o) (r ∷ struckBy n rs) (struckBy n rs) ≡ struckBy n rs
     go (Kept used) e = refl
     go (Refused code) e = refl
     go (Struck m k) e = rw (ne-eqb m n (λ i. h k (rw i at e)))
@@ -79,19 +79,19 @@ among-struck n (s ∷ rs) r k (List·Memᴰ·tail m) e = go (strike n (s .outcom
 -- ---- ever kept
 
 -- a record that was kept under a number
-kept-here : (n : ℕ) (r : Row) → (isKept (r .outcome) && eqb (r .of .number) n) ≡ true → IsKept (r .outcome) × (r .of .number ≡ n)
-kept-here n r e = let (p, q) = and-eq-true-iff (isKept (r .outcome)) (eqb (r .of .number) n) .0 e in (go (r .outcome) p, eqb-true (r .of .number) n q)
+kept-here : (n : ℕ) (r : Row) → (wasKept (r .outcome) && eqb (r .of .number) n) ≡ true → IsKept (r .outcome) × (r .of .number ≡ n)
+kept-here n r e = let (p, q) = and-eq-true-iff (wasKept (r .outcome)) (eqb (r .of .number) n) .0 e in (go (r .outcome) p, eqb-true (r .of .number) n q)
   where
-    go : (o : Outcome) → isKept o ≡ true → IsKept o
+    go : (o : Outcome) → wasKept o ≡ true → IsKept o
     go (Kept used) h = (used, refl)
     go (Struck m k) h = absurd (false≢true h)
     go (Refused code) h = absurd (false≢true h)
 
 pub ever-line : (n : ℕ) (rs : List Row) → everKept n rs ≡ true → KeptLine rs n
 ever-line n [] e = absurd (false≢true e)
-ever-line n (r ∷ rs) e = go (isKept (r .outcome) && eqb (r .of .number) n) refl (ever-line n rs) e
+ever-line n (r ∷ rs) e = go (wasKept (r .outcome) && eqb (r .of .number) n) refl (ever-line n rs) e
   where
-    go : (b : Bool) → (isKept (r .outcome) && eqb (r .of .number) n) ≡ b → (everKept n rs ≡ true → KeptLine rs n) → (b || everKept n rs) ≡ true → KeptLine (r ∷ rs) n
+    go : (b : Bool) → (wasKept (r .outcome) && eqb (r .of .number) n) ≡ b → (everKept n rs ≡ true → KeptLine rs n) → (b || everKept n rs) ≡ true → KeptLine (r ∷ rs) n
     go true i ih h = let (k, j) = kept-here n r i in (r, List·Memᴰ·head refl, k, j)
     go false i ih h = let (s, m, k, j) = ih h in (s, List·Memᴰ·tail m, k, j)
 
@@ -101,7 +101,7 @@ line-ever n (s ∷ rs) (r, List·Memᴰ·head i, (u, e), j) =
     let o : s .outcome ≡ Kept u = ap (λ (y : Row). y .outcome) (sym i) ∙ e in
     let l : s .of .number ≡ n = ap (λ (y : Row). y .of .number) (sym i) ∙ j in
     rw (o, eq-eqb (s .of .number) n l)
-line-ever n (s ∷ rs) (r, List·Memᴰ·tail m, k, j) = go (isKept (s .outcome) && eqb (s .of .number) n) (line-ever n rs (r, m, k, j))
+line-ever n (s ∷ rs) (r, List·Memᴰ·tail m, k, j) = go (wasKept (s .outcome) && eqb (s .of .number) n) (line-ever n rs (r, m, k, j))
   where
     go : (b : Bool) → everKept n rs ≡ true → (b || everKept n rs) ≡ true
     go true h = refl
@@ -110,12 +110,12 @@ line-ever n (s ∷ rs) (r, List·Memᴰ·tail m, k, j) = go (isKept (s .outcome)
 -- ---- sums
 
 -- what the strikes of some rows weigh
-abbrev pub weighed : (Row → ℕ) → Row → Outcome → ℕ
+abbrev weighed : (Row → ℕ) → Row → Outcome → ℕ
 weighed w r (Kept used) = 0
 weighed w r (Struck n k) = w r
 weighed w r (Refused code) = 0
 
-abbrev pub weight : (Row → ℕ) → List Row → ℕ
+abbrev weight : (Row → ℕ) → List Row → ℕ
 weight w [] = 0
 weight w (r ∷ rs) = weighed w r (r .outcome) + weight w rs
 

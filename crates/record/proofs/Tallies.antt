@@ -1,6 +1,7 @@
 -- The claims about the tally sheet of an input.
+use mathlib.Core.Bool.{Bool}
 use mathlib.Core.Path.{_≡_, refl, sym, ap, subst, _∙_}
-use mathlib.Core.List.{List, [], _∷_, _++_, map, flatMap, map-append, append-assoc, List·Memᴰ, List·Memᴰ·head, List·Memᴰ·tail, Memᴰ·map, Memᴰ·of-map}
+use mathlib.Core.List.{List, [], _∷_, _++_, map, flatMap, map-append, append-assoc, List·Memᴰ, List·Memᴰ·head, List·Memᴰ·tail, Memᴰ·append-left, Memᴰ·map, Memᴰ·of-map}
 use Prim.Native.Nat.{ℕ, _+_, _≤_, _<_}
 use native.Mathlib.Omega.{arith}
 use mathlib.Core.Logic.{_≢_}
@@ -13,10 +14,10 @@ use Rattle.record.specs.Marks.{numberCount}
 use Rattle.record.specs.Output.{recordsOf, Row, freshSlice, rowsOf, totalsWith}
 use Rattle.record.specs.Output as output
 use Rattle.record.specs.Ruled.{pairOf, Numbered}
-use Rattle.record.specs.Sheet.{Bytes, bookAfter, Sheet}
-use Rattle.record.specs.Tally.{spentOn, everKept, struckBy, total, TallyRow, tallyRow, passing, tallyFrom, tallyOf, rowLines}
+use Rattle.record.specs.Sheet.{Bytes, bookAfter, KeptLine, KeptAbove, RowAt, Sheet}
+use Rattle.record.specs.Tally.{spentOn, everKept, struckBy, total, TallyRow, tallyRow, passing, tallyFrom, tallyOf, tallyLines}
 use Rattle.record.specs.Counters.{counterWords, shownFrom}
-use Rattle.record.specs.Tallies.{mostBytes, KeptLine, numbersOf, RowStands, Tallied, Tallies}
+use Rattle.record.specs.Tallies.{mostBytes, numbersOf, RowStands, Tallied, Tallies}
 use Rattle.record.specs.declared.Outcome.the-variants.{Struck}
 use Rattle.record.proofs.Reading.{input-narrow, records-few}
 use Rattle.record.proofs.Rows.{rows-records, kept-mem, mem-kept, rows-read}
@@ -51,6 +52,13 @@ unfolding rowsOf
 read-records input =
     let rs : List Row = rowsOf input in
     omega (arith, rows-read rs output.none, length-map rs (λ (r : Row). r .of), ap length (rows-records freshSlice (recordsOf input)))
+
+-- a row in its place
+row-at : (r : Row) (rs : List Row) → List·Memᴰ r rs → (a : RowAt rs) × (a .this ≡ r)
+row-at r (s ∷ rs) (List·Memᴰ·head e) = (record { before = []; this = s; after = rs; whole = refl }, sym e)
+row-at r (s ∷ rs) (List·Memᴰ·tail m) =
+    let (a, e) = row-at r rs m in
+    (record { before = s ∷ a .before; this = a .this; after = a .after; whole = ap (λ (l : List Row). s ∷ l) (a .whole) }, e)
 
 module _ (input : List ℕ) (b : Bytes input) where
   abbrev rs : List Row
@@ -90,24 +98,25 @@ module _ (input : List ℕ) (b : Bytes input) where
       let k = mem-kept rs p (subst (List·Memᴰ p) (sheet .covers .pairs) m) in
       (k .row, k .among, k .kept, sym (ap (λ (q : Pair). q .number) (k .pair)) ∙ e)
 
-  -- a striking number was kept
-  striking : (r : Row) → List·Memᴰ r rs → (n k : ℕ) → r .outcome ≡ Struck n k → List·Memᴰ n kept
-  striking r m n k e = let (p, i, j, s) = sheet .covers .named r m n k e in line-kept n (book-line n (p, i, j))
+  -- a record that was struck has an earlier line that kept the number
+  struck-line : (r : Row) → List·Memᴰ r rs → (n k : ℕ) → r .outcome ≡ Struck n k → KeptAbove rs n (r .of)
+  struck-line r m n k e =
+      let (a, i) = row-at r rs m in
+      let (s, l, x, y, z) = sheet .placed a .earlier n k (ap (λ (y : Row). y .outcome) i ∙ e) in
+      (s, subst (List·Memᴰ s) (sym (a .whole)) (Memᴰ·append-left (a .this ∷ a .after) l), x, y, subst (λ (q : Row). Subsumes (s .of .words) (q .of .words)) i z)
 
-  row-stands : (n : ℕ) → List·Memᴰ n kept → RowStands rs (tallyRow rs n)
-  row-stands n m =
-      let (p, i, e) = line-book n (kept-line n m) in
-      record {
-        clause = p;
-        kept = i;
-        number = e;
-        strikes = refl;
-        candidates = refl;
-        subsumes = λ r l.
-            let (a, (k, o)) = struck-among n rs r l in
-            let (q, j, f, s) = sheet .covers .named r a n k o in
-            subst (λ (x : Pair). Subsumes (x .clause) (r .of .words)) (same-pair (sheet .stands .numbers) j i (f ∙ sym e)) s;
-      }
+  striking : (r : Row) → List·Memᴰ r rs → (n k : ℕ) → r .outcome ≡ Struck n k → List·Memᴰ n kept
+  striking r m n k e = let (s, l, x, y, z) = struck-line r m n k e in line-kept n (s, l, x, y)
+
+  row-stands : (n : ℕ) → RowStands rs (tallyRow rs n)
+  row-stands n = record { strikes = refl; candidates = refl; struck = λ r l. let (m, (k, e)) = struck-among n rs r l in struck-line r m n k e }
+
+  -- the clause of the last book with a number subsumes all that the number struck
+  last-clause : (p : Pair) → List·Memᴰ p (bookAfter rs) → (r : Row) → List·Memᴰ r (struckBy (p .number) rs) → Subsumes (p .clause) (r .of .words)
+  last-clause p i r l =
+      let (m, (k, e)) = struck-among (p .number) rs r l in
+      let (q, j, f, s) = sheet .covers .named r m (p .number) k e in
+      subst (λ (x : Pair). Subsumes (x .clause) (r .of .words)) (same-pair (sheet .stands .numbers) j i f) s
 
   tallied : Tallied input
   tallied =
@@ -118,7 +127,6 @@ module _ (input : List ℕ) (b : Bytes input) where
         candidates =
             ap (λ (l : List TallyRow). total (map (λ t. t .candidates) l)) rows-are ∙ candidates-map rs kept
             ∙ weights (λ r. spentOn (r .outcome)) kept (passing-rises (λ k. everKept k rs) numberCount 0) rs striking ∙ weight-spent rs;
-        balance = sheet .counts;
         records = read-records input;
         numbers = λ n. (λ m. kept-line n (subst (List·Memᴰ n) numbers-are m), λ l. subst (List·Memᴰ n) (sym numbers-are) (line-kept n l));
         book = λ n. (
@@ -128,7 +136,8 @@ module _ (input : List ℕ) (b : Bytes input) where
         rising = subst (Each _<_) (sym numbers-are) (passing-rises (λ k. everKept k rs) numberCount 0);
         rows = λ t m.
             let (n, i, e) = Memᴰ·of-map (tallyRow rs) kept (subst (List·Memᴰ t) rows-are m) in
-            subst (RowStands rs) e (row-stands n i);
+            subst (RowStands rs) e (row-stands n);
+        clauses = last-clause;
         exactly = λ n r. (struck-among n rs r, λ x. among-struck n rs r (x .1 .0) (x .0) (x .1 .1));
       }
 
@@ -144,20 +153,21 @@ shown-input input b l n c h =
 
 -- ---- in pieces
 
-pub tally-append : (rs : List Row) (n a b : ℕ) → tallyFrom rs n (a + b) ≡ tallyFrom rs n a ++ tallyFrom rs (n + a) b
-unfolding tallyFrom
-tally-append rs n a b =
-    ap (map (tallyRow rs)) (passing-append (λ k. everKept k rs) a b n)
-    ∙ map-append (tallyRow rs) (passing (λ k. everKept k rs) n a) (passing (λ k. everKept k rs) (n + a) b)
-
-pub tally-none : (rs : List Row) (n : ℕ) → rowLines (tallyFrom rs n 0) ≡ []
-unfolding tallyFrom passing rowLines flatMap
-tally-none rs n = refl
-
-pub lines-append : (a b : List TallyRow) → rowLines (a ++ b) ≡ rowLines a ++ rowLines b
-unfolding rowLines flatMap
+lines-append : (a b : List TallyRow) → tallyLines (a ++ b) ≡ tallyLines a ++ tallyLines b
+unfolding tallyLines flatMap
 lines-append [] b = refl
 lines-append (t ∷ a) b = rw (lines-append a b, append-assoc)
+
+-- the lines of a row for each number that passes a test: of none, and of some numbers after others
+module _ (row : ℕ → TallyRow) (p : ℕ → Bool) where
+  pub rows-none : (n : ℕ) → tallyLines (map row (passing p n 0)) ≡ []
+  unfolding passing tallyLines flatMap
+  rows-none n = refl
+
+  pub rows-append : (n a b : ℕ) → tallyLines (map row (passing p n (a + b))) ≡ tallyLines (map row (passing p n a)) ++ tallyLines (map row (passing p (n + a) b))
+  rows-append n a b =
+      ap (λ (l : List ℕ). tallyLines (map row l)) (passing-append p a b n) ∙ ap tallyLines (map-append row (passing p n a) (passing p (n + a) b))
+      ∙ lines-append (map row (passing p n a)) (map row (passing p (n + a) b))
 
 pub tallies : Tallies
 tallies input b = tallied input b

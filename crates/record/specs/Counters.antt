@@ -1,10 +1,11 @@
 -- The counters: two words for each number that a record can have, the strikes of its clause and their candidates.
-use mathlib.Core.List.{List, map}
+use mathlib.Core.List.{List, _++_, map}
 use Prim.Native.Nat.{ℕ, _+_, _*_, min}
 use lib.Dec.{ltb}
 use lib.ListN.{getD, set}
+use Rattle.record.specs.Line.{recordsLine}
 use Rattle.record.specs.Marks.{numberCount}
-use Rattle.record.specs.Tally.{TallyRow, passing}
+use Rattle.record.specs.Tally.{TallyRow, passing, tallyLines}
 use Rattle.record.specs.declared.Outcome.{Outcome}
 use Rattle.record.specs.declared.Outcome.the-variants.{Kept, Struck, Refused}
 
@@ -12,7 +13,7 @@ use Rattle.record.specs.declared.Outcome.the-variants.{Kept, Struck, Ref
 abbrev pub counterWords : ℕ
 counterWords = numberCount * 2
 
--- the most that a counter counts, 2^64 − 1: it stops there
+-- the most that 64 bits count, 2^64 − 1: a counter stops there
 abbrev pub mostCounted : ℕ
 mostCounted = 18_446_744_073_709_551_615
 
@@ -28,10 +29,10 @@ unfoldable pub raised : (counters : List ℕ) (at more : ℕ) → List ℕ
 raised c i k = set c i (min (getD c i 0 + k) mostCounted)
 
 -- the counters after an outcome: a strike raises those of the covering number
-abbrev pub tallied : Outcome → (counters : List ℕ) → List ℕ
-tallied (Kept used) c = c
-tallied (Struck n k) c = raised (raised c (strikesAt n) 1) (candidatesAt n) k
-tallied (Refused code) c = c
+abbrev pub countersAfter : Outcome → (counters : List ℕ) → List ℕ
+countersAfter (Kept used) c = c
+countersAfter (Struck n k) c = raised (raised c (strikesAt n) 1) (candidatesAt n) k
+countersAfter (Refused code) c = c
 
 -- the row of a number, by its counters
 abbrev pub rowShown : (counters : List ℕ) (number : ℕ) → TallyRow
@@ -40,3 +41,7 @@ rowShown c n = record { number = n; strikes = getD c (strikesAt n) 0; candidates
 -- the rows that marks and counters show of so many numbers from one on: one for each that is marked
 unfoldable pub shownFrom : (marks counters : List ℕ) (from count : ℕ) → List TallyRow
 shownFrom m c n k = map (rowShown c) (passing (λ i. ltb 0 (getD m i 0)) n k)
+
+-- the tally sheet that marks and counters show, of so many records
+unfoldable pub shownSheet : (marks counters : List ℕ) (records : ℕ) → List ℕ
+shownSheet m c k = tallyLines (shownFrom m c 0 numberCount) ++ recordsLine k

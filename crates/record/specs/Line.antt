@@ -53,10 +53,10 @@ abbrev pub longestTotals : ℕ
 longestTotals = 83
 
 -- the most bytes of a row of the tally sheet: a number of 16 bits, two of 64, two spaces, the line's end
-abbrev pub longestRow : ℕ
-longestRow = 48
+abbrev pub longestTally : ℕ
+longestTally = 48
 
--- the most bytes of the sheet's last line: a number of 64 bits, the line's end
+-- the most bytes of the tally sheet's last line: a number of 64 bits, the line's end
 abbrev pub longestRecords : ℕ
 longestRecords = 21
 
@@ -69,9 +69,9 @@ unfoldable pub totalsLine : Totals → List ℕ
 totalsLine t = named saysFirst (t .kept) ++ (named saysStruck (t .struck) ++ (named saysRefused (t .refused) ++ lineEnd))
 
 -- a row of the tally sheet: a number, the strikes of its clause, and their candidates
-unfoldable pub rowLine : (number strikes candidates : ℕ) → List ℕ
-rowLine n s k = decimal n ++ (named space s ++ (named space k ++ lineEnd))
+unfoldable pub tallyLine : (number strikes candidates : ℕ) → List ℕ
+tallyLine n s k = decimal n ++ (named space s ++ (named space k ++ lineEnd))
 
--- the sheet's last line: how many records were read
+-- the tally sheet's last line: how many records were read
 unfoldable pub recordsLine : (records : ℕ) → List ℕ
 recordsLine n = decimal n ++ lineEnd

@@ -41,7 +41,7 @@ recordsOf bs = recordsFor (length (fields bs)) (fields bs)
 
 -- ---- one record after another
 
--- a row of the sheet: a record, what becomes of it, and the calls that are made for it
+-- a row: a record, what becomes of it, and the calls that are made for it
 pub record Row : Type 0 where
   pub of : Record
   pub outcome : Outcome

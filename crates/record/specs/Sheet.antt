@@ -44,6 +44,14 @@ pub record BookStands (rs : List Row) : Type 0 where
   pub numbers : Each (λ p q. p .number ≢ q .number) (bookAfter rs)
   pub clauses : Each (λ p q. Variants (p .clause) (q .clause) → ⊥) (bookAfter rs)
 
+-- a number has a `kept` line among them
+abbrev pub KeptLine : List Row → (number : ℕ) → Type 0
+KeptLine rs n = (r : Row) × List·Memᴰ r rs × IsKept (r .outcome) × (r .of .number ≡ n)
+
+-- and the clause of that line subsumes a record's
+abbrev pub KeptAbove : List Row → (number : ℕ) → Record → Type 0
+KeptAbove rs n x = (r : Row) × List·Memᴰ r rs × IsKept (r .outcome) × (r .of .number ≡ n) × Subsumes (r .of .words) (x .words)
+
 -- ---- one row
 
 -- one row of some, with those before it and those after it
@@ -61,8 +69,7 @@ pub record RowClaims {rs : List Row} (a : RowAt rs) : Type 0 where
   -- the book before it rules it
   pub ruled : Ruled (bookAfter (a .before)) (a .this .of) (a .this .outcome) (bookAfter (a .before ++ (a .this ∷ [])))
   -- where it is struck, an earlier row says that the number was kept, and the clause of that row subsumes this one's
-  pub earlier : (n k : ℕ) → a .this .outcome ≡ Struck n k
-      → (r : Row) × List·Memᴰ r (a .before) × IsKept (r .outcome) × (r .of .number ≡ n) × Subsumes (r .of .words) (a .this .of .words)
+  pub earlier : (n k : ℕ) → a .this .outcome ≡ Struck n k → KeptAbove (a .before) n (a .this .of)
 
 -- ---- the whole input
 

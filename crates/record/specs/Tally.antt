@@ -4,7 +4,7 @@ use mathlib.Core.List.{List, [], _∷_, _++_, map, flatMap}
 use Prim.Native.Nat.{ℕ, zero, suc, _+_}
 use lib.Dec.{eqb}
 use lib.ListN.{length}
-use Rattle.record.specs.Line.{rowLine, recordsLine}
+use Rattle.record.specs.Line.{tallyLine, recordsLine}
 use Rattle.record.specs.Marks.{numberCount}
 use Rattle.record.specs.Output.{recordsOf, Row, rowsOf, listingOf}
 use Rattle.record.specs.declared.Outcome.{Outcome}
@@ -13,16 +13,16 @@ use Rattle.record.specs.declared.Outcome.the-variants.{Kept, Struck, Ref
 -- ---- what a number has to show for some records, each with what became of it
 
 -- whether a record was kept
-abbrev pub isKept : Outcome → Bool
-isKept (Kept used) = true
-isKept (Struck m k) = false
-isKept (Refused code) = false
+abbrev pub wasKept : Outcome → Bool
+wasKept (Kept used) = true
+wasKept (Struck m k) = false
+wasKept (Refused code) = false
 
 -- whether the clause of a number struck it
-abbrev pub isStruckBy : (number : ℕ) → Outcome → Bool
-isStruckBy n (Kept used) = false
-isStruckBy n (Struck m k) = eqb m n
-isStruckBy n (Refused code) = false
+abbrev pub wasStruckBy : (number : ℕ) → Outcome → Bool
+wasStruckBy n (Kept used) = false
+wasStruckBy n (Struck m k) = eqb m n
+wasStruckBy n (Refused code) = false
 
 -- the candidates of a strike
 abbrev pub spentOn : Outcome → ℕ
@@ -33,12 +33,12 @@ spentOn (Refused code) = 0
 -- whether a number was ever kept
 abbrev pub everKept : (number : ℕ) → List Row → Bool
 everKept n [] = false
-everKept n (r ∷ rs) = (isKept (r .outcome) && eqb (r .of .number) n) || everKept n rs
+everKept n (r ∷ rs) = (wasKept (r .outcome) && eqb (r .of .number) n) || everKept n rs
 
 -- the records that the clause of a number struck
 abbrev pub struckBy : (number : ℕ) → List Row → List Row
 struckBy n [] = []
-struckBy n (r ∷ rs) = cond (isStruckBy n (r .outcome)) (r ∷ struckBy n rs) (struckBy n rs)
+struckBy n (r ∷ rs) = cond (wasStruckBy n (r .outcome)) (r ∷ struckBy n rs) (struckBy n rs)
 
 -- the sum of some numbers
 abbrev pub total : List ℕ → ℕ
@@ -49,9 +49,9 @@ total (x ∷ xs) = x + total xs
 abbrev pub spent : List Row → ℕ
 spent rs = total (map (λ r. spentOn (r .outcome)) rs)
 
--- ---- the rows of the sheet
+-- ---- the rows of the tally sheet
 
--- a row: a number, how many records its clause struck, and the candidates of the queries that ended so
+-- a row of the tally: a number, how many records its clause struck, and the candidates of the queries that ended so
 pub record TallyRow : Type 0 where
   pub number : ℕ
   pub strikes : ℕ
@@ -76,14 +76,14 @@ tallyOf rs = tallyFrom rs 0 numberCount
 
 -- ---- what is printed
 
--- the lines of some rows
-unfoldable pub rowLines : List TallyRow → List ℕ
-rowLines ts = flatMap (λ t. rowLine (t .number) (t .strikes) (t .candidates)) ts
+-- the lines of some rows of a tally
+unfoldable pub tallyLines : List TallyRow → List ℕ
+tallyLines ts = flatMap (λ t. tallyLine (t .number) (t .strikes) (t .candidates)) ts
 
--- the sheet of an input: the rows of its tally, and how many complete records it has
-unfoldable pub sheetOf : (input : List ℕ) → List ℕ
-sheetOf bs = rowLines (tallyOf (rowsOf bs)) ++ recordsLine (length (recordsOf bs))
+-- the tally sheet of an input: the rows of its tally, and how many complete records it has
+unfoldable pub tallySheetOf : (input : List ℕ) → List ℕ
+tallySheetOf bs = tallyLines (tallyOf (rowsOf bs)) ++ recordsLine (length (recordsOf bs))
 
--- the whole output: the listing, and after it the sheet
+-- the whole output: the listing, and after it the tally sheet
 unfoldable pub outputOf : (input : List ℕ) → List ℕ
-outputOf bs = listingOf bs ++ sheetOf bs
+outputOf bs = listingOf bs ++ tallySheetOf bs

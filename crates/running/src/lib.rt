@@ -1,16 +1,23 @@
 // The whole run: the listing of the input, line by line with its totals, and then the tally sheet (docs/REFERENCE.md, "The program").
-// A record's line is made by `feeding::feed`, the totals by `lines::put_totals`, the sheet by `tallying`; what is here moves the bytes.
+// A record's line is made by `feeding::feed`, the totals by `lines::put_totals`, the tally sheet by `tallying`; what is here moves the bytes.
+use intake::Session;
 use lines::put_totals;
-use printing::Printed;
 use printing::write_more;
-use printing::write_sheet;
+use printing::write_tally;
 use streaming::FedBlock;
 use streaming::feed_all;
 ghost use mathlib.Core.Path.{_≡_};
 ghost use lib.ListN.{take};
 ghost use Rattle.intake.specs.Feed.{storeOf, firstStore};
 ghost use Rattle.streaming.specs.Fed.{Buffers};
-ghost use Rattle.running.specs.Run.{Listed, SheetEnds};
+ghost use Rattle.running.specs.Run.{Listed, RunEnds};
+
+// What a run came to: the session after the input, the bytes put after the records' lines, and the place in the output after the last line.
+pub struct Ran {
+    pub session: Session,
+    pub bytes: usize,
+    pub next: usize,
+}
 
 // Feeds the whole input, and then puts the totals into the output and writes them, unless a write has failed.
 fn write_listing(
@@ -37,7 +44,7 @@ fn write_listing(
     }
 }
 
-// The whole run. Gives how much text the sheet has, and the place after its last line, which the output then begins with.
+// The whole run. The output then begins with its last line.
 pub fn run(
     input: &mut [u8],
     tree: &mut [u64],
@@ -45,13 +52,18 @@ pub fn run(
     counters: &mut [u64],
     words: &mut [u16],
     output: &mut [u8],
-) -> Printed
+) -> Ran
     requires { ⌜ Buffers (now input) (now output) × (storeOf (now words) (now tree) (now marks) (now counters) ≡ firstStore) ⌝ }
-    ensures { λ r. ⌜ SheetEnds (storeOf (now (words .exit)) (now (tree .exit)) (now (marks .exit)) (now (counters .exit)))
+    ensures { λ r. ⌜ RunEnds (r .session) (storeOf (now (words .exit)) (now (tree .exit)) (now (marks .exit)) (now (counters .exit)))
         (r .bytes) (take (r .next) (now (output .exit))) ⌝ }
 {
     let listed = write_listing(input, tree, marks, counters, words, output);
     let session = listed.session;
     let totals = session.totals;
-    write_sheet(totals.records, marks, counters, output, listed.good)
+    let tally = write_tally(totals.records, marks, counters, output, listed.good);
+    Ran {
+        session: session,
+        bytes: listed.next + tally.bytes,
+        next: tally.next,
+    }
 }

@@ -1,9 +1,9 @@
-// The counters of the sheet.
+// The counters of the tally sheet.
 use crate::Counters;
 use record::Outcome;
 ghost use mathlib.Core.Path.{_≡_};
 ghost use Prim.Native.Nat.{_+_, min};
-ghost use Rattle.record.specs.Counters.{mostCounted, raised, tallied};
+ghost use Rattle.record.specs.Counters.{mostCounted, raised, countersAfter};
 
 // A count and some more; it stops at the most that a counter counts.
 fn sum(count: u64, more: u64) -> u64
@@ -26,7 +26,7 @@ fn raise(counters: &mut [u64], at: usize, more: u64)
 
 // Counts a strike, if the outcome is one: the counters of the covering number are raised by it and by its candidates.
 pub fn count_strike(counters: &mut [u64], outcome: Outcome)
-    ensures { λ _. ⌜ now (counters .exit) ≡ tallied outcome (now (counters .entry)) ⌝ }
+    ensures { λ _. ⌜ now (counters .exit) ≡ countersAfter outcome (now (counters .entry)) ⌝ }
 {
     let Outcome::Struck(covering, candidates) = outcome else {
         return;

@@ -1,4 +1,4 @@
-// The lines of the sheet.
+// The lines of the tally sheet.
 use crate::Counters;
 use lines::put_decimal;
 use lines::put_named;
@@ -7,17 +7,17 @@ ghost use mathlib.Core.Path.{_≡_};
 ghost use Prim.Native.Nat.{_+_, _*_, _≤_, _<_};
 ghost use lib.ListN.{length};
 ghost use Rattle.record.specs.Text.{putAt};
-ghost use Rattle.record.specs.Line.{longestRow, longestRecords, rowLine, recordsLine};
+ghost use Rattle.record.specs.Line.{longestTally, longestRecords, tallyLine, recordsLine};
 ghost use Rattle.record.specs.Marks.{numberCount};
-ghost use Rattle.record.specs.Tally.{rowLines};
+ghost use Rattle.record.specs.Tally.{tallyLines};
 ghost use Rattle.record.specs.Counters.{shownFrom};
 ghost use Rattle.tallying.specs.inner.Rows.{Showable};
 
-// Puts the row of a number at a place of the output, and gives the place after it. It takes at most `longestRow` bytes.
+// Puts the row of a number at a place of the output, and gives the place after it. It takes at most `longestTally` bytes.
 fn put_row(output: &mut [u8], at: usize, number: usize, strikes: u64, candidates: u64) -> usize
-    requires { ⌜ (at + longestRow ≤ length (now output)) × (number < numberCount) ⌝ }
-    ensures text { λ r. ⌜ record { next = r; output = now (output .exit) } ≡ putAt (rowLine number strikes candidates) (now (output .entry)) at ⌝ }
-    ensures short { λ r. ⌜ r ≤ at + longestRow ⌝ }
+    requires { ⌜ (at + longestTally ≤ length (now output)) × (number < numberCount) ⌝ }
+    ensures text { λ r. ⌜ record { next = r; output = now (output .exit) } ≡ putAt (tallyLine number strikes candidates) (now (output .entry)) at ⌝ }
+    ensures short { λ r. ⌜ r ≤ at + longestTally ⌝ }
 {
     let first = put_decimal(output, at, number as u64);
     let second = put_named(output, first, b" ", strikes);
@@ -29,8 +29,8 @@ fn put_row(output: &mut [u8], at: usize, number: usize, strikes: u64, candidates
 fn put_marked(output: &mut [u8], at: usize, marks: &[u8], counters: &[u64], number: usize) -> usize
     requires { ⌜ Showable (now marks) (now counters) number 1 at (now output) ⌝ }
     ensures text { λ r. ⌜ record { next = r; output = now (output .exit) }
-        ≡ putAt (rowLines (shownFrom (now (marks .entry)) (now (counters .entry)) number 1)) (now (output .entry)) at ⌝ }
-    ensures short { λ r. ⌜ r ≤ at + longestRow ⌝ }
+        ≡ putAt (tallyLines (shownFrom (now (marks .entry)) (now (counters .entry)) number 1)) (now (output .entry)) at ⌝ }
+    ensures short { λ r. ⌜ r ≤ at + longestTally ⌝ }
 {
     if marks[number] > 0 {
         let place = number * Counters::EACH;
@@ -50,8 +50,8 @@ pub fn put_rows(
 ) -> usize
     requires { ⌜ Showable (now marks) (now counters) from count 0 (now output) ⌝ }
     ensures text { λ r. ⌜ record { next = r; output = now (output .exit) }
-        ≡ putAt (rowLines (shownFrom (now (marks .entry)) (now (counters .entry)) from count)) (now (output .entry)) 0 ⌝ }
-    ensures short { λ r. ⌜ r ≤ count * longestRow ⌝ }
+        ≡ putAt (tallyLines (shownFrom (now (marks .entry)) (now (counters .entry)) from count)) (now (output .entry)) 0 ⌝ }
+    ensures short { λ r. ⌜ r ≤ count * longestTally ⌝ }
 {
     let mut i: usize = 0;
     let mut at: usize = 0;
@@ -62,12 +62,12 @@ pub fn put_rows(
     at
 }
 
-// Puts the sheet's last line at the beginning of the output, and gives the place after it. It takes at most `longestRecords` bytes.
+// Puts the tally sheet's last line at the beginning of the output, and gives the place after it. It takes at most `longestRecords` bytes.
 pub fn put_records(output: &mut [u8], records: u64) -> usize
     requires { ⌜ longestRecords ≤ length (now output) ⌝ }
     ensures text { λ r. ⌜ record { next = r; output = now (output .exit) } ≡ putAt (recordsLine records) (now (output .entry)) 0 ⌝ }
     ensures short { λ r. ⌜ r ≤ longestRecords ⌝ }
 {
-    let end = put_decimal(output, 0, records);
-    put_text(output, end, b"\n")
+    let next = put_decimal(output, 0, records);
+    put_text(output, next, b"\n")
 }

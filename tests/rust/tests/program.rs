@@ -331,10 +331,11 @@ fn overlong_records_across_blocks() {
     }
 }
 
-// What is claimed of the sheet, by the printed text and the records of the input alone: the model's tally has no part in it.
+// What is claimed of the sheet, by the printed text and the records of the input alone: the model's tally has no part in it. Then every byte.
 fn expect_claims(page: &[u8], what: &str) {
     let text = printed([page].into_iter());
     expect_sheet(&text, records(page).len(), what);
+    expect_same(&text, &output(page), what);
 }
 
 #[test]

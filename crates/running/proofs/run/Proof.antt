@@ -1,7 +1,7 @@
--- The listing, and then the sheet.
+-- The listing, and then the tally sheet.
 use mathlib.Core.Path.{_∙_}
 use native.Mathlib.Omega.{arith}
-use Rattle.running.proofs.Ends.{first-lengths, sheet-ends}
+use Rattle.running.proofs.Ends.{first-lengths, run-ends}
 use borrow.Author.Needs.{needs}
 use Rattle.running.proofs.run.Statement.{statement}
 use Rattle.running.proofs.run.Tie as tie
@@ -9,14 +9,26 @@ use Rattle.running.proofs.run.Tie as tie
 write-listing-requires : tie.Need-write-listing-requires
 write-listing-requires c κs = search needs
 
-write-sheet-requires : tie.Need-write-sheet-requires
-write-sheet-requires c κs =
+write-tally-requires : tie.Need-write-tally-requires
+write-tally-requires c κs =
     let c6 = c .before .before .before .before .before .before in
     let c10 = c6 .before .before .before .before in
     let c12 = c10 .before .before in
     let c30 = c12 .before .before .before .before .before .before .before .before .before .before .before .before .before .before .before .before .before .before in
     let f = first-lengths (c30 .pre .1) in
-    record { marked = c12 .marks .given ∙ f .0; counted = c10 .counters .given ∙ f .1; room = omega (arith, c6 .output .given, c30 .pre .0 .room) }
+    record {
+      all-marks = c12 .marks .given ∙ f .0;
+      all-counters = c10 .counters .given ∙ f .1;
+      numbers = omega arith;
+      room = omega (arith, c6 .output .given, c30 .pre .0 .room);
+    }
+
+add-t29 : tie.Need-add-t29
+add-t29 c =
+    let c4 = c .before .before .before .before in
+    let c13 = c4 .before .before .before .before .before .before .before .before .before in
+    let c22 = c13 .before .before .before .before .before .before .before .before .before in
+    record { fits = omega (arith, c22 .write-listing .ensures .short, c4 .write-tally .ensures .1 .0) }
 
 same-length : tie.Need-same-length
 same-length c = search needs
@@ -38,17 +50,19 @@ same-length-6 c = search needs
 
 returns : tie.Need-returns
 returns c =
-    let c2 = c .before .before in
-    let c11 = c2 .before .before .before .before .before .before .before .before .before in
-    let c20 = c11 .before .before .before .before .before .before .before .before .before in
-    sheet-ends (c20 .write-listing .ensures) (c2 .write-sheet .ensures .0)
+    let c4 = c .before .before .before .before in
+    let c13 = c4 .before .before .before .before .before .before .before .before .before in
+    let c22 = c13 .before .before .before .before .before .before .before .before .before in
+    let t = c4 .write-tally .ensures in
+    run-ends (c22 .write-listing .ensures) (t .0) (t .1 .1 .0)
 
 pub run-spec : {M : Type 1} → statement M
 run-spec =
     tie.close
     (tie.spec
     write-listing-requires
-    write-sheet-requires
+    write-tally-requires
+    add-t29
     same-length
     same-length-2
     same-length-3

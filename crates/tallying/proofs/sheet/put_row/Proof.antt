@@ -2,7 +2,7 @@
 use native.Mathlib.Omega.{arith}
 use mathlib.Core.List.{_++_}
 use Rattle.record.specs.Text.{decimal}
-use Rattle.record.specs.Line.{space, lineEnd, named, rowLine}
+use Rattle.record.specs.Line.{space, lineEnd, named, tallyLine}
 use Rattle.lines.proofs.Writing.{placed, joined, decimal-length, named-put}
 use borrow.Author.Needs.{needs}
 use Rattle.tallying.proofs.sheet.put_row.Statement.{statement}
@@ -59,7 +59,7 @@ same-length : tie.Need-same-length
 same-length c = search needs
 
 returns : tie.Need-returns
-unfolding rowLine
+unfolding tallyLine
 returns c =
     let c2 = c .before .before in
     let c7 = c2 .before .before .before .before .before in

@@ -5,8 +5,8 @@ use native.Mathlib.Omega.{arith}
 use lib.ListN.{length}
 use borrow.Author.Needs.{needs}
 use Rattle.record.specs.Text.{Written, putAt}
-use Rattle.record.specs.Line.{longestRow}
-use Rattle.record.specs.Tally.{rowLines}
+use Rattle.record.specs.Line.{longestTally}
+use Rattle.record.specs.Tally.{tallyLines}
 use Rattle.record.specs.Counters.{shownFrom}
 use Rattle.lines.proofs.Writing.{joined}
 use Rattle.tallying.proofs.Rows.{shown-zero, shown-append}
@@ -15,8 +15,8 @@ use Rattle.tallying.proofs.sheet.put_rows.Tie as tie
 
 abbrev Inv-loop : tie.InvT-loop
 Inv-loop output₀ marks counters from count i₀ at₀ output i at =
-    (length output ≡ length output₀) × (i ≤ count) × (at ≤ i * longestRow)
-    × (_≡_ {A = Written} (record { next = at; output = output }) (putAt (rowLines (shownFrom marks counters from i)) output₀ 0))
+    (length output ≡ length output₀) × (i ≤ count) × (at ≤ i * longestTally)
+    × (_≡_ {A = Written} (record { next = at; output = output }) (putAt (tallyLines (shownFrom marks counters from i)) output₀ 0))
 
 abbrev μ-loop : tie.MeasureT-loop
 μ-loop output₀ marks counters from count i₀ at₀ output i at = count - i
@@ -35,8 +35,8 @@ put-marked-requires c κs =
     let l = c .before .before .loop .inv in
     let p = s .pre in
     record {
-      marked = p .marked;
-      counted = p .counted;
+      all-marks = p .all-marks;
+      all-counters = p .all-counters;
       numbers = omega (arith, p .numbers, c .before .loop-test .taken);
       room = omega (arith, p .room, c .before .loop-test .taken, l .0, l .2);
     }
@@ -59,7 +59,7 @@ loop-again c =
       c .before .output .given ∙ l .inv .0,
       omega (arith, c2 .before .before .loop-test .taken),
       omega (arith, p .1, l .inv .2),
-      rw e (joined (rowLines (shownFrom (a .marks .now) (a .counters .now) (a .from) (l .i))) _ (a .output .now) 0 (l .inv .3) (p .0)),
+      rw e (joined (tallyLines (shownFrom (a .marks .now) (a .counters .now) (a .from) (l .i))) _ (a .output .now) 0 (l .inv .3) (p .0)),
     )
 
 same-length : tie.Need-same-length Inv-loop μ-loop

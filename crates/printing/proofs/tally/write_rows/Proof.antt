@@ -1,17 +1,17 @@
 -- The rows are in the output, and handed on.
 use Prim.Native.Nat.{_≤_}
 use lib.ListN.{length}
-use Rattle.record.specs.Tally.{rowLines}
+use Rattle.record.specs.Tally.{tallyLines}
 use Rattle.record.specs.Counters.{shownFrom}
 use Rattle.printing.specs.Blocks.{blockNumbers}
 use mathlib.Core.Path.{sym}
 use native.Mathlib.Omega.{arith}
 use lib.Seq.{length-take-le}
 use Rattle.lines.proofs.Writing.{placed, text-there}
-use Rattle.printing.proofs.SheetBlocks.{shows-block}
+use Rattle.printing.proofs.TallyBlocks.{shows-block}
 use borrow.Author.Needs.{needs}
-use Rattle.printing.proofs.sheet.write_rows.Statement.{statement}
-use Rattle.printing.proofs.sheet.write_rows.Tie as tie
+use Rattle.printing.proofs.tally.write_rows.Statement.{statement}
+use Rattle.printing.proofs.tally.write_rows.Tie as tie
 
 put-rows-requires : tie.Need-put-rows-requires
 put-rows-requires c κs = search needs
@@ -37,11 +37,9 @@ returns c =
     let s = c4 .before .before .before .before .before in
     let a = s .args in
     let p = c4 .put-rows .ensures in
-    let text = rowLines (shownFrom (a .marks .now) (a .counters .now) (a .from) blockNumbers) in
+    let text = tallyLines (shownFrom (a .marks .now) (a .counters .now) (a .from) blockNumbers) in
     let l : length text ≤ length (a .output .now) = omega (arith, p .1, placed text (a .output .now) 0 (p .0), s .pre .room) in
-    let t = text-there text (a .output .now) l (p .0) in
-    let w = placed text (a .output .now) 0 (p .0) in
-    (record { text = t; bytes = omega (arith, w); short = p .1 }, shows-block (a .marks .now) (a .counters .now) (a .from) (s .pre .numbers) t)
+    (p .0, (p .1, shows-block (a .marks .now) (a .counters .now) (a .from) (s .pre .numbers) (text-there text (a .output .now) l (p .0))))
 
 pub write-rows-spec : {M : Type 1} → statement M
 write-rows-spec =

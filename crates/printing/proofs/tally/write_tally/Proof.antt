@@ -8,9 +8,9 @@ use borrow.Author.Needs.{needs}
 use Rattle.record.specs.Line.{recordsLine}
 use Rattle.record.specs.Marks.{numberCount}
 use Rattle.lines.proofs.Writing.{placed, text-there}
-use Rattle.printing.proofs.SheetBlocks.{in-blocks, Printing, printing-none, printing-more, printing-done}
-use Rattle.printing.proofs.sheet.write_sheet.Statement.{statement}
-use Rattle.printing.proofs.sheet.write_sheet.Tie as tie
+use Rattle.printing.proofs.TallyBlocks.{in-blocks, Printing, printing-none, printing-more, printing-done}
+use Rattle.printing.proofs.tally.write_tally.Statement.{statement}
+use Rattle.printing.proofs.tally.write_tally.Tie as tie
 
 abbrev Inv-loop : tie.InvT-loop
 Inv-loop records marks counters output₀ good from₀ bytes₀ still₀ output from bytes still = Printing marks counters output₀ output from bytes
@@ -29,9 +29,9 @@ write-rows-requires c κs =
     let l = c .before .before .loop .inv in
     let p = s .pre in
     record {
-      marked = p .marked;
-      counted = p .counted;
-      numbers = omega (arith, l .whole, l .inside, c .before .loop-test .taken, p .marked);
+      all-marks = p .all-marks;
+      all-counters = p .all-counters;
+      numbers = omega (arith, l .whole, l .inside, c .before .loop-test .taken, p .all-marks);
       room = omega (arith, p .room, l .output);
     }
 
@@ -39,7 +39,7 @@ add-bytes : tie.Need-add-bytes Inv-loop μ-loop
 add-bytes c =
     let c3 = c .before .before .before in
     let l = c3 .before .before .before .loop .inv in
-    record { fits = omega (arith, l .short, l .inside, c3 .write-rows .ensures .0 .short) }
+    record { fits = omega (arith, l .short, l .inside, c3 .write-rows .ensures .1 .0) }
 
 add-from : tie.Need-add-from Inv-loop μ-loop
 add-from c = record { fits = omega (arith, c .before .before .before .before .before .before .loop .inv .inside) }
@@ -53,8 +53,8 @@ loop-again c =
     let c6 = c3 .before .before .before in
     let s = c6 .before .before .before .before in
     let a = s .args in
-    let more : c6 .loop .from < numberCount = omega (arith, c3 .before .before .loop-test .taken, s .pre .marked) in
-    printing-more (a .marks .now) (a .counters .now) (c6 .loop .inv) more (c3 .write-rows .ensures .0) (c .before .before .output .given)
+    let more : c6 .loop .from < numberCount = omega (arith, c3 .before .before .loop-test .taken, s .pre .all-marks) in
+    printing-more (a .marks .now) (a .counters .now) (c6 .loop .inv) more (c3 .write-rows .ensures .0) (c3 .write-rows .ensures .1 .0)
 
 put-records-requires : tie.Need-put-records-requires Inv-loop μ-loop
 put-records-requires c κs = omega (arith, c .before .before .loop .inv .output, c .before .before .before .before .before .before .pre .room)
@@ -102,15 +102,12 @@ returns c =
     let w = placed text (l .output) 0 (p .0) in
     let h : length text ≤ length (l .output) = omega (arith, w, p .1, l .inv .output, s .pre .room) in
     let done : length (a .marks .now) ≤ l .from = c4 .before .before .loop-test .left in (
-      record {
-        all = printing-done (a .marks .now) (a .counters .now) (a .records) (l .inv) (omega (arith, done, s .pre .marked)) (omega (arith, w));
-        last = text-there text (l .output) h (p .0);
-      },
-      in-blocks,
+      printing-done (a .marks .now) (a .counters .now) (a .records) (l .inv) (omega (arith, done, s .pre .all-marks)) (omega (arith, w)),
+      (omega (arith, l .inv .short, l .inv .inside, p .1), (text-there text (l .output) h (p .0), in-blocks)),
     )
 
-pub write-sheet-spec : {M : Type 1} → statement M
-write-sheet-spec =
+pub write-tally-spec : {M : Type 1} → statement M
+write-tally-spec =
     tie.close
     (tie.spec
     Inv-loop
