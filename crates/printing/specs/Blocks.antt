@@ -22,7 +22,7 @@ unfoldable pub blockLines : List Row → (from blocks : ℕ) → List ℕ
 blockLines rs n zero = []
 blockLines rs n (suc k) = tallyLines (tallyFrom rs n blockNumbers) ++ blockLines rs (n + blockNumbers) k
 
--- some text is the block from a number on of the tally sheet of every input, under 4,000,000,000 bytes, that leaves such marks and counters
+-- some text is the block from a number on of the tally sheet of every input, under `mostBytes`, that leaves such marks and counters
 abbrev pub ShowsBlock : (marks counters : List ℕ) (from : ℕ) (text : List ℕ) → Type 0
 ShowsBlock m c n t = (input : List ℕ) → Bytes input → length input < mostBytes
     → feed firstSession firstStore input .store .marks ≡ m → feed firstSession firstStore input .store .counters ≡ c

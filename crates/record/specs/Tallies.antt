@@ -25,7 +25,7 @@ numbersOf ts = map (λ t. t .number) ts
 pub record RowStands (rs : List Row) (t : TallyRow) : Type 0 where
   pub strikes : t .strikes ≡ length (struckBy (t .number) rs)
   pub candidates : t .candidates ≡ spent (struckBy (t .number) rs)
-  -- each of them has a line that names the row's number, and an earlier one kept a clause under it that subsumes the record's
+  -- and a `kept` line of the row's number has a clause that subsumes each of them; it is an earlier one by `earlier` of `RowClaims`
   pub struck : (r : Row) → List·Memᴰ r (struckBy (t .number) rs) → KeptAbove rs (t .number) (r .of)
 
 -- what is claimed of an input's tally; that kept, struck and refused add up to its complete records is `counts` of `Sheet`
