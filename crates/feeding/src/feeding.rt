@@ -72,7 +72,7 @@ fn outcome_of(
     answer(tree, marks, keys, &words[..end], heading.number)
 }
 
-// Ends a whole record: what becomes of it, its line, the totals, the tally.
+// Ends a whole record: what becomes of it, the tally, its line, the totals.
 fn finish(
     heading: Heading,
     turn: Turn,

@@ -30,24 +30,23 @@ passing-has p (suc c) n k h l e = go (p n) refl (λ i. passing-has p c (n + 1) k
         other (yes i) = absurd (false≢true (sym q ∙ ap p (sym i) ∙ e))
         other (no i) = omega arith
 
--- one of them
-pub record Passes (p : ℕ → Bool) (n c k : ℕ) : Type 0 where
+-- one of them is not below the first, and passes
+pub record Passes (p : ℕ → Bool) (n k : ℕ) : Type 0 where
   pub from : n ≤ k
-  pub below : k < n + c
   pub test : p k ≡ true
 
--- each of them passes
-pub passing-all : (p : ℕ → Bool) (c n : ℕ) → All (Passes p n c) (passing p n c)
+-- each of them does
+pub passing-all : (p : ℕ → Bool) (c n : ℕ) → All (Passes p n) (passing p n c)
 unfolding passing
 passing-all p zero n = none
 passing-all p (suc c) n = go (p n) refl (later (passing-all p c (n + 1)))
   where
-    later : {l : List ℕ} → All (Passes p (n + 1) c) l → All (Passes p n (suc c)) l
+    later : {l : List ℕ} → All (Passes p (n + 1)) l → All (Passes p n) l
     later none = none
-    later (also {x = x} h a) = also {x = x} (record { from = omega (arith, h .from); below = omega (arith, h .below); test = h .test }) (later a)
+    later (also {x = x} h a) = also {x = x} (record { from = omega (arith, h .from); test = h .test }) (later a)
 
-    go : (b : Bool) → p n ≡ b → All (Passes p n (suc c)) (passing p (n + 1) c) → All (Passes p n (suc c)) (cond b (n ∷ passing p (n + 1) c) (passing p (n + 1) c))
-    go true q ih = also {x = n} (record { from = omega arith; below = omega arith; test = q }) ih
+    go : (b : Bool) → p n ≡ b → All (Passes p n) (passing p (n + 1) c) → All (Passes p n) (cond b (n ∷ passing p (n + 1) c) (passing p (n + 1) c))
+    go true q ih = also {x = n} (record { from = omega arith; test = q }) ih
     go false q ih = ih
 
 -- they rise
@@ -56,7 +55,7 @@ unfolding passing
 passing-rises p zero n = nobody
 passing-rises p (suc c) n = go (p n) (after (passing-all p c (n + 1))) (passing-rises p c (n + 1))
   where
-    after : {l : List ℕ} → All (Passes p (n + 1) c) l → All (λ k. n < k) l
+    after : {l : List ℕ} → All (Passes p (n + 1)) l → All (λ k. n < k) l
     after none = none
     after (also {x = x} h a) = also {x = x} (omega (arith, h .from)) (after a)
 

@@ -151,27 +151,23 @@ pub kept-count : {K : List Pair} {rs : List Row} (t : Totals) → Fated K rs →
 kept-count t fated-none h = h
 kept-count {K} t (fated-more {r = r} {rs = rs} e f) h = rw (book-append K (r .calls) (rowCalls rs)) (kept-count (counted (r .outcome) t) f (fate-count t e h))
 
--- each row is counted once
-abbrev sum : Totals → ℕ
-sum t = t .kept + t .struck + t .refused
+-- each row is counted once, by the three totals together and by the records
+abbrev pub threeOf : Totals → ℕ
+threeOf t = t .kept + t .struck + t .refused
 
-counted-one : (o : Outcome) (t : Totals) → sum (counted o t) ≡ sum t + 1
-counted-one (Kept used) t = omega arith
-counted-one (Struck n c) t = omega arith
-counted-one (Refused code) t = omega arith
+pub counted-three : (o : Outcome) (t : Totals) → threeOf (counted o t) ≡ threeOf t + 1
+counted-three (Kept used) t = omega arith
+counted-three (Struck n c) t = omega arith
+counted-three (Refused code) t = omega arith
 
-pub rows-counted : (rs : List Row) (t : Totals) → sum (totalsWith t rs) ≡ sum t + length rs
-rows-counted [] t = omega arith
-rows-counted (r ∷ rs) t = omega (arith, rows-counted rs (counted (r .outcome) t), counted-one (r .outcome) t)
-
-counted-read : (o : Outcome) (t : Totals) → counted o t .records ≡ t .records + 1
+pub counted-read : (o : Outcome) (t : Totals) → counted o t .records ≡ t .records + 1
 counted-read (Kept used) t = refl
 counted-read (Struck n c) t = refl
 counted-read (Refused code) t = refl
 
-pub rows-read : (rs : List Row) (t : Totals) → totalsWith t rs .records ≡ t .records + length rs
-rows-read [] t = omega arith
-rows-read (r ∷ rs) t = omega (arith, rows-read rs (counted (r .outcome) t), counted-read (r .outcome) t)
+pub rows-counted : (f : Totals → ℕ) → ((o : Outcome) (t : Totals) → f (counted o t) ≡ f t + 1) → (rs : List Row) (t : Totals) → f (totalsWith t rs) ≡ f t + length rs
+rows-counted f h [] t = omega arith
+rows-counted f h (r ∷ rs) t = omega (arith, rows-counted f h rs (counted (r .outcome) t), h (r .outcome) t)
 
 -- the pair of a row with a `kept` line
 kept-one : {o : Outcome} {x : Record} → IsKept o → List·Memᴰ (pairOf x) (keptOn o x)

@@ -12,14 +12,15 @@ use Rattle.book.specs.Book.{Call, after, sliceOf, bookFrom, treeOf}
 use Rattle.record.specs.Answer.{treeWords, Record}
 use Rattle.record.specs.Output.{recordsOf, Row, rowOn, freshSlice, rowsOf, rowCalls, none}
 use Rattle.record.specs.Ruled.{pairOf}
-use Rattle.record.specs.Sheet.{Bytes, bookAfter, keptPairs, BookStands, KeptAbove, RowAt, RowClaims, Covers, Sheets, NoStrikeIsWrong}
+use Rattle.record.specs.Sheet.{Bytes, bookAfter, keptPairs, BookStands, KeptCovers, RowAt, RowClaims, Covers, Sheets, NoStrikeIsWrong}
 use Rattle.tree.specs.declared.CallAnswer.the-variants.{Ready}
 use Rattle.clause.proofs.Order.{subsumes-refl}
 use Rattle.book.proofs.Holds.{holds-empty, fresh-layout, holds-numbers, holds-clauses}
 use Rattle.record.proofs.Reading.{complete, input-fits}
 use Rattle.record.proofs.Ruling.{Fate, ruled}
 use Rattle.record.proofs.Rows.{book-append, Standing, standing-after, Made, made, rows-records, made-first, made-last, made-row, made-fit, Fated}
-use Rattle.record.proofs.Rows.{fated, fated-first, fated-last, fated-row, kept-book, kept-count, rows-counted, kept-mem, mem-kept, StruckBy, fate-struck, struck-book}
+use Rattle.record.proofs.Rows.{fated, fated-first, fated-last, fated-row, kept-book, kept-count, threeOf, counted-three, rows-counted}
+use Rattle.record.proofs.Rows.{kept-mem, mem-kept, StruckBy, fate-struck, struck-book}
 
 -- ---- the slice before the first record
 
@@ -67,7 +68,7 @@ book-more rs r = ap (bookFrom treeWords []) (calls-more rs r) ∙ book-append []
 
 -- a clause of the book has a row with a `kept` line
 earlier-row : (rs : List Row) → Fated [] rs → (x : Record) (n : ℕ) → StruckBy (bookAfter rs) x n
-    → KeptAbove rs n x
+    → KeptCovers rs n x
 earlier-row rs f x n (p, m, i, s) =
     let k = mem-kept rs p (rw (book-kept f) at m) in
     (k .row, k .among, k .kept, sym (ap (λ (q : Pair). q .number) (k .pair)) ∙ i, rw (ap (λ (q : Pair). q .clause) (k .pair)) at s)
@@ -123,7 +124,13 @@ sheets input b =
     record {
       reads = complete input;
       rows = rows-records freshSlice (recordsOf input);
-      counts = omega (arith, rows-counted (rowsOf input) none, length-map (rowsOf input) (λ (r : Row). r .of), ap length (rows-records freshSlice (recordsOf input)));
+      counts =
+          omega (
+            arith,
+            rows-counted threeOf counted-three (rowsOf input) none,
+            length-map (rowsOf input) (λ (r : Row). r .of),
+            ap length (rows-records freshSlice (recordsOf input)),
+          );
       placed = placed m f;
       stands = stands m;
       covers = covers input f;

@@ -6,21 +6,20 @@ use Prim.Native.Nat.{ℕ, _+_, _≤_, _<_}
 use native.Mathlib.Omega.{arith}
 use mathlib.Core.Logic.{_≢_}
 use lib.ListN.{length, replicate, length-map}
-use Rattle.clause.specs.Lists.{none, Each, besides}
+use Rattle.clause.specs.Lists.{Each, besides}
 use Rattle.clause.specs.Clause.{Subsumes}
 use Rattle.clause.proofs.Lists.{all-mem}
 use Rattle.tree.specs.Entries.{Pair}
 use Rattle.record.specs.Marks.{numberCount}
-use Rattle.record.specs.Output.{recordsOf, Row, freshSlice, rowsOf, totalsWith}
-use Rattle.record.specs.Output as output
+use Rattle.record.specs.Output.{recordsOf, Row, freshSlice, rowsOf, totalsWith, none}
 use Rattle.record.specs.Ruled.{pairOf, Numbered}
-use Rattle.record.specs.Sheet.{Bytes, bookAfter, KeptLine, KeptAbove, RowAt, Sheet}
+use Rattle.record.specs.Sheet.{Bytes, bookAfter, KeptLine, KeptCovers, RowAt, Sheet}
 use Rattle.record.specs.Tally.{spentOn, everKept, struckBy, total, TallyRow, tallyRow, passing, tallyFrom, tallyOf, tallyLines}
 use Rattle.record.specs.Counters.{counterWords, shownFrom}
 use Rattle.record.specs.Tallies.{mostBytes, numbersOf, RowStands, Tallied, Tallies}
 use Rattle.record.specs.declared.Outcome.the-variants.{Struck}
 use Rattle.record.proofs.Reading.{input-narrow, records-few}
-use Rattle.record.proofs.Rows.{rows-records, kept-mem, mem-kept, rows-read}
+use Rattle.record.proofs.Rows.{rows-records, kept-mem, mem-kept, counted-read, rows-counted}
 use Rattle.record.proofs.Sheets.{rows-fated, sheets}
 use Rattle.record.proofs.Passing.{passing-has, passing-all, passing-rises, passing-append}
 use Rattle.record.proofs.Striking.{struck-among, among-struck, ever-line, line-ever, weightBy, weights, weigh-one, weight-struck, weight-spent}
@@ -47,11 +46,11 @@ candidates-map rs [] = refl
 candidates-map rs (n ∷ l) = omega (arith, candidates-map rs l)
 
 -- as many are counted as the input has
-pub read-records : (input : List ℕ) → totalsWith output.none (rowsOf input) .records ≡ length (recordsOf input)
+pub read-records : (input : List ℕ) → totalsWith none (rowsOf input) .records ≡ length (recordsOf input)
 unfolding rowsOf
 read-records input =
     let rs : List Row = rowsOf input in
-    omega (arith, rows-read rs output.none, length-map rs (λ (r : Row). r .of), ap length (rows-records freshSlice (recordsOf input)))
+    omega (arith, rows-counted (λ t. t .records) counted-read rs none, length-map rs (λ (r : Row). r .of), ap length (rows-records freshSlice (recordsOf input)))
 
 -- a row in its place
 row-at : (r : Row) (rs : List Row) → List·Memᴰ r rs → (a : RowAt rs) × (a .this ≡ r)
@@ -99,7 +98,7 @@ module _ (input : List ℕ) (b : Bytes input) where
       (k .row, k .among, k .kept, sym (ap (λ (q : Pair). q .number) (k .pair)) ∙ e)
 
   -- a record that was struck has an earlier line that kept the number
-  struck-line : (r : Row) → List·Memᴰ r rs → (n k : ℕ) → r .outcome ≡ Struck n k → KeptAbove rs n (r .of)
+  struck-line : (r : Row) → List·Memᴰ r rs → (n k : ℕ) → r .outcome ≡ Struck n k → KeptCovers rs n (r .of)
   struck-line r m n k e =
       let (a, i) = row-at r rs m in
       let (s, l, x, y, z) = sheet .placed a .earlier n k (ap (λ (y : Row). y .outcome) i ∙ e) in
@@ -123,7 +122,7 @@ module _ (input : List ℕ) (b : Bytes input) where
       record {
         strikes =
             ap (λ (l : List TallyRow). total (map (λ t. t .strikes) l)) rows-are ∙ strikes-map rs kept
-            ∙ weights (λ r. 1) kept (passing-rises (λ k. everKept k rs) numberCount 0) rs striking ∙ omega (arith, weight-struck rs output.none);
+            ∙ weights (λ r. 1) kept (passing-rises (λ k. everKept k rs) numberCount 0) rs striking ∙ omega (arith, weight-struck rs none);
         candidates =
             ap (λ (l : List TallyRow). total (map (λ t. t .candidates) l)) rows-are ∙ candidates-map rs kept
             ∙ weights (λ r. spentOn (r .outcome)) kept (passing-rises (λ k. everKept k rs) numberCount 0) rs striking ∙ weight-spent rs;

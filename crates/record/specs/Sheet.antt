@@ -48,9 +48,9 @@ pub record BookStands (rs : List Row) : Type 0 where
 abbrev pub KeptLine : List Row → (number : ℕ) → Type 0
 KeptLine rs n = (r : Row) × List·Memᴰ r rs × IsKept (r .outcome) × (r .of .number ≡ n)
 
--- and the clause of that line subsumes a record's
-abbrev pub KeptAbove : List Row → (number : ℕ) → Record → Type 0
-KeptAbove rs n x = (r : Row) × List·Memᴰ r rs × IsKept (r .outcome) × (r .of .number ≡ n) × Subsumes (r .of .words) (x .words)
+-- a `kept` line of a number covers a record: its clause subsumes the record's
+abbrev pub KeptCovers : List Row → (number : ℕ) → Record → Type 0
+KeptCovers rs n x = (r : Row) × List·Memᴰ r rs × IsKept (r .outcome) × (r .of .number ≡ n) × Subsumes (r .of .words) (x .words)
 
 -- ---- one row
 
@@ -69,7 +69,7 @@ pub record RowClaims {rs : List Row} (a : RowAt rs) : Type 0 where
   -- the book before it rules it
   pub ruled : Ruled (bookAfter (a .before)) (a .this .of) (a .this .outcome) (bookAfter (a .before ++ (a .this ∷ [])))
   -- where it is struck, an earlier row says that the number was kept, and the clause of that row subsumes this one's
-  pub earlier : (n k : ℕ) → a .this .outcome ≡ Struck n k → KeptAbove (a .before) n (a .this .of)
+  pub earlier : (n k : ℕ) → a .this .outcome ≡ Struck n k → KeptCovers (a .before) n (a .this .of)
 
 -- ---- the whole input
 

@@ -9,7 +9,7 @@ use Rattle.clause.specs.Clause.{Subsumes}
 use Rattle.tree.specs.Entries.{Pair}
 use Rattle.record.specs.Output.{recordsOf, Row, rowsOf, totalsWith, none}
 use Rattle.record.specs.Ruled.{Numbered}
-use Rattle.record.specs.Sheet.{Bytes, bookAfter, KeptLine, KeptAbove}
+use Rattle.record.specs.Sheet.{Bytes, bookAfter, KeptLine, KeptCovers}
 use Rattle.record.specs.Tally.{struckBy, total, spent, TallyRow, tallyOf}
 use Rattle.record.specs.declared.Outcome.the-variants.{Struck}
 
@@ -26,7 +26,7 @@ pub record RowStands (rs : List Row) (t : TallyRow) : Type 0 where
   pub strikes : t .strikes ≡ length (struckBy (t .number) rs)
   pub candidates : t .candidates ≡ spent (struckBy (t .number) rs)
   -- and a `kept` line of the row's number has a clause that subsumes each of them; it is an earlier one by `earlier` of `RowClaims`
-  pub struck : (r : Row) → List·Memᴰ r (struckBy (t .number) rs) → KeptAbove rs (t .number) (r .of)
+  pub struck : (r : Row) → List·Memᴰ r (struckBy (t .number) rs) → KeptCovers rs (t .number) (r .of)
 
 -- what is claimed of an input's tally; that kept, struck and refused add up to its complete records is `counts` of `Sheet`
 pub record Tallied (input : List ℕ) : Type 0 where

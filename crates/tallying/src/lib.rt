@@ -1,4 +1,4 @@
-// The tally sheet: a strike counted, and the tally sheet's lines put into lent bytes (docs/REFERENCE.md, "The program").
+// The tally sheet: a strike counted, and its lines put into lent bytes (docs/REFERENCE.md, "The program").
 mod counting;
 mod sheet;
 
