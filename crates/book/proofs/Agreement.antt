@@ -1,10 +1,10 @@
 -- Two lists of calls.
 use mathlib.Core.Path.{_≡_, refl, sym, ap, _∙_, subst₂}
-use mathlib.Core.Logic.{_↔_, _⊎_, inl, inr}
+use mathlib.Core.Logic.{_↔_, _⊎_}
 use mathlib.Core.Option.{Option}
 use mathlib.Core.List.{List, [], map, List·Memᴰ}
 use Prim.Native.Nat.{ℕ, _≤_}
-use native.Mathlib.Nat.{le-trans, not-le-of-lt}
+use native.Mathlib.Nat.{le-trans}
 use native.Mathlib.Omega.{arith}
 use lib.ListN.{length, replicate, length-replicate}
 use Rattle.clause.specs.Lists.{All, none, also}
@@ -16,7 +16,7 @@ use Rattle.tree.specs.Laid.{maxKept}
 use Rattle.walk.specs.Walk.{Answer, covered, notCovered, spent, broken, upTo, walk}
 use Rattle.walk.specs.Ceiling.{fullBudget}
 use Rattle.walk.specs.Query.{machine, witnessWords, shown, withShown, answerBy, query}
-use Rattle.walk.specs.Covering.{most, Subsumed, candidates, IsCovered, IsNotCovered, IsSpent, Answers}
+use Rattle.walk.specs.Covering.{most, Subsumed, candidates, IsCovered, IsNotCovered, Answers}
 use Rattle.book.specs.Book.{Call, sliceOf, bookOf, treeOf}
 use Rattle.book.specs.Claims.{Run, Under, Renamed, Same, Alone, Demand3}
 use Rattle.clause.proofs.Lists.{all-mem}
@@ -25,6 +25,7 @@ use Rattle.clause.proofs.Order.{subsumes-refl, subsumes-trans}
 use Rattle.tree.proofs.Mirror.{build-same}
 use Rattle.walk.proofs.Bound.{ceiling-le}
 use Rattle.walk.proofs.Kept.{kept-pair, pair-kept}
+use Rattle.walk.proofs.Covering.{fits-decided}
 use Rattle.book.proofs.Holds.{Holds}
 use Rattle.book.proofs.Reach.{laid, reach, answered, walked}
 use Rattle.clause.specs.Word.{Words}
@@ -61,13 +62,7 @@ module _ (T : List ℕ) (xs : List Call) (R : Run T xs) where
 
     -- at the full budget a query is covered or not
     decided : IsCovered (sliceOf T xs) d fullBudget W ⊎ IsNotCovered (sliceOf T xs) d fullBudget W
-    decided = go (at-full .kinds)
-      where
-        go : IsCovered (sliceOf T xs) d fullBudget W ⊎ (IsNotCovered (sliceOf T xs) d fullBudget W ⊎ IsSpent (sliceOf T xs) d fullBudget W)
-            → IsCovered (sliceOf T xs) d fullBudget W ⊎ IsNotCovered (sliceOf T xs) d fullBudget W
-        go (inl c) = inl c
-        go (inr (inl c)) = inr c
-        go (inr (inr s)) = absurd (not-le-of-lt (at-full .spends .0 s) (enough d D))
+    decided = fits-decided at-full (enough d D)
 
     -- it is covered exactly if a kept clause subsumes it
     is-covered : IsCovered (sliceOf T xs) d fullBudget W ↔ Subsumed (bookOf (length T) xs) d

@@ -3,10 +3,10 @@ use mathlib.Core.Path.{_≡_}
 use mathlib.Core.Logic.{_↔_, _≢_, _⊎_}
 use mathlib.Core.Option.{Option}
 use mathlib.Core.List.{List, [], _∷_, map, List·Memᴰ}
-use Prim.Native.Nat.{ℕ, _≤_}
+use Prim.Native.Nat.{ℕ, _≤_, _<_}
 use lib.ListN.{length, replicate}
 use Rattle.clause.specs.Lists.{Each}
-use Rattle.clause.specs.Clause.{Accepted, Subsumes}
+use Rattle.clause.specs.Clause.{Accepted, literals, Subsumes}
 use Rattle.machine.specs.Compile.{Variants, keys}
 use Rattle.machine.specs.Machine.{initial}
 use Rattle.machine.specs.Compiled.{maxKeys}
@@ -16,13 +16,14 @@ use Rattle.tree.specs.Entries.{Mirrors, Pair, entry}
 use Rattle.walk.specs.Walk.{upTo, walk}
 use Rattle.walk.specs.Ceiling.{ceiling, fullBudget, ceilingCall}
 use Rattle.walk.specs.Query.{machine, witnessWords, withShown, answerBy, walkSlice, query}
-use Rattle.walk.specs.Covering.{IsCovered, IsNotCovered, Answers}
+use Rattle.walk.specs.Covering.{Singles, IsCovered, IsNotCovered, IsSpent, Answers}
 use Rattle.tree.specs.Calls.{fresh, insertion, removal}
 use Rattle.book.specs.Table.{ready, kept, removed, returned, saidCeiling, called, asked}
 use Rattle.book.specs.Refusals.{firstOf, freshRows, ceilingRows, insertRows, removeRows, queryRows, finished, unlessRefused, unlessSaid, walkResult}
 use Rattle.book.specs.Book.{Call, Fit, AllFit, call, done, sliceOf, bookStep, bookOf, treeOf}
 use Rattle.clause.specs.Word.{Words}
 use Rattle.tree.specs.declared.CallAnswer.the-variants.{Ready}
+use Rattle.walk.specs.declared.QueryAnswer.the-variants.{Covered, NotCovered}
 
 -- Demand 1: every call, on any words, answers the first refusal that applies and leaves every lent word, or does what it is for
 pub record Demand1 : Type 0 where
@@ -110,3 +111,21 @@ pub record Together (S : List ℕ) (xs : List Call) (T : List ℕ) (ys : List Ca
 -- Demand 3
 abbrev pub Demand3 : Type 0
 Demand3 = (S : List ℕ) (xs : List Call) (T : List ℕ) (ys : List Call) → Run S xs → Run T ys → Together S xs T ys
+
+-- what is claimed of the count of a query, where at least one clause is kept and every kept one has a single literal; q is the number of d's literals
+pub record Exact (T : List ℕ) (xs : List Call) (d : List ℕ) (b : ℕ) (W : List ℕ) : Type 0 where
+  -- not covered: the count is exactly q
+  pub exact : (c : ℕ) → query (sliceOf T xs) d b W .answer ≡ NotCovered c → c ≡ length (literals d)
+  -- covered: it is at most q
+  pub within : (n c : ℕ) → query (sliceOf T xs) d b W .answer ≡ Covered n c → c ≤ length (literals d)
+  -- every budget of q or more is enough
+  pub enough : length (literals d) ≤ b → IsCovered (sliceOf T xs) d b W ⊎ IsNotCovered (sliceOf T xs) d b W
+  -- one below q is spent, unless d is covered within it
+  pub short : b < length (literals d)
+      → IsSpent (sliceOf T xs) d b W ⊎ ((n : ℕ) × (c : ℕ) × (query (sliceOf T xs) d b W .answer ≡ Covered n c) × (c ≤ b))
+
+-- One literal, an exact count: the claim, for every list of calls, query, budget and witness
+abbrev pub ExactCount : Type 0
+ExactCount =
+    (T : List ℕ) (xs : List Call) → Run T xs → 1 ≤ length (bookOf (length T) xs) → Singles (bookOf (length T) xs)
+    → (d : List ℕ) → Accepted d → (b : ℕ) (W : List ℕ) → witnessWords ≤ length W → Exact T xs d b W

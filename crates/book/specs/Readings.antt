@@ -10,7 +10,7 @@ use Rattle.tree.specs.Forest.{word, headerOf}
 use Rattle.walk.specs.Ceiling.{ceilingCall}
 use Rattle.walk.specs.Query.{witnessWords, query}
 use Rattle.tree.specs.Calls.{insertion, removal}
-use Rattle.book.specs.Book.{insert, remove, sliceOf}
+use Rattle.book.specs.Book.{Call, insert, remove, sliceOf}
 use Rattle.book.specs.Trials.{P₃, P₂, P₁, Q₁, f, a, b, x, y, pxqx, ask}
 use Rattle.clause.specs.declared.Shape.the-variants.{Faulty, Whole}
 use Rattle.clause.specs.declared.Fault.the-variants.{BadLength, Bad, Ninth}
@@ -101,6 +101,21 @@ walking =
     ∷ (query pxqx (P₁ ∷ a ∷ P₁ ∷ b ∷ Q₁ ∷ b ∷ []) 8 (replicate 74 9) .witness ≡ 1 ∷ 2 ∷ (replicate 6 9 ++ (3 ∷ 5 ∷ replicate 64 9)))
     ∷ (query pxqx (P₁ ∷ a ∷ Q₁ ∷ b ∷ []) 8 (replicate 74 9) .witness ≡ replicate 74 9) ∷ []
 
+-- the answer to a query after some insertions into a fresh slice
+abbrev pub answerAfter : List Call → (clause : List ℕ) (budget : ℕ) → QueryAnswer
+answerAfter xs d budget = query (sliceOf (blank 16) xs) d budget (replicate witnessWords 9) .answer
+
+-- counts where each kept clause has a single literal
+abbrev pub counting : List (Type 0)
+counting =
+    -- two clauses, two literals: 2 candidates, and a budget of 1 is spent unless it covers; with none kept 0
+    (answerAfter (insert (P₁ ∷ a ∷ []) 1 ∷ insert (Q₁ ∷ a ∷ []) 2 ∷ []) (P₁ ∷ b ∷ Q₁ ∷ b ∷ []) 2 ≡ NotCovered 2)
+    ∷ (answerAfter (insert (P₁ ∷ a ∷ []) 1 ∷ insert (Q₁ ∷ a ∷ []) 2 ∷ []) (P₁ ∷ b ∷ Q₁ ∷ b ∷ []) 1 ≡ Unanswered (Spent 1))
+    ∷ (answerAfter (insert (P₁ ∷ a ∷ []) 1 ∷ insert (Q₁ ∷ a ∷ []) 2 ∷ []) (P₁ ∷ a ∷ Q₁ ∷ b ∷ []) 1 ≡ Covered 1 1)
+    ∷ (answerAfter [] (P₁ ∷ b ∷ Q₁ ∷ b ∷ []) 2 ≡ NotCovered 0)
+    -- with a clause of two literals among them it is another number
+    ∷ (answerAfter (insert (P₁ ∷ a ∷ []) 1 ∷ insert (P₁ ∷ x ∷ Q₁ ∷ x ∷ []) 2 ∷ []) (P₁ ∷ b ∷ Q₁ ∷ a ∷ []) 9 ≡ NotCovered 4) ∷ []
+
 -- insertion, removal, ceiling
 abbrev pub calling : List (Type 0)
 calling =
@@ -124,4 +139,4 @@ calling =
 
 -- all of them
 abbrev pub readings : List (Type 0)
-readings = reading ++ (compiling ++ (walking ++ calling))
+readings = reading ++ (compiling ++ (walking ++ (counting ++ calling)))

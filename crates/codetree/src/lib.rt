@@ -1,7 +1,7 @@
 // The C interface: the calls (docs/REFERENCE.md, "Calls") on pointers and lengths (include/code_tree.h).
 ghost use mathlib.Core.Path.{_≡_};
 ghost use Rattle.interface.specs.Calls.{ctFresh, ctInsert, ctRemove, ctQuery, ctCeiling};
-ghost use Rattle.interface.specs.Claims.{CtReach, CtDemand2, CtDemand3, ToldApart};
+ghost use Rattle.interface.specs.Claims.{CtReach, CtDemand2, CtDemand3, CtExactCount, ToldApart};
 
 // Makes an empty tree of a slice. Returns 0 or 1.
 #[no_mangle]
@@ -42,6 +42,7 @@ pub extern "C" fn ct_query(
     ensures hands { λ r. ⌜ record { number = r; words = now (witness .exit); told = now (told .exit) }
         ≡ ctQuery (now (tree .entry)) (now (clause .entry)) budget (now (witness .entry)) (now (told .entry)) ⌝ }
     ensures lists { λ _. ⌜ CtReach × CtDemand2 × CtDemand3 ⌝ }
+    ensures count { λ _. ⌜ CtExactCount ⌝ }
     ensures apart { λ _. ⌜ ToldApart ⌝ }
 {
     reply::hand_query(query::query(tree, clause, budget, witness), told)

@@ -3,10 +3,8 @@ use mathlib.Core.Path.{_≡_, refl, sym, ap, _∙_}
 use mathlib.Core.Logic.{_↔_, _⊎_, inl, inr}
 use mathlib.Core.List.{List, [], _∷_}
 use Prim.Native.Nat.{ℕ, _≤_}
-use native.Mathlib.Decide.{decLe}
 use native.Mathlib.Omega.{arith}
 use lib.ListN.{length, replicate, length-replicate}
-use Rattle.clause.proofs.Apart.{apart}
 use Rattle.tree.specs.Entries.{Pair}
 use Rattle.tree.specs.Calls.{fresh}
 use Rattle.tree.specs.declared.Refusal.the-variants.{Spent}
@@ -17,15 +15,17 @@ use Rattle.walk.specs.Query.{witnessWords, query}
 use Rattle.walk.specs.Covering.{IsCovered, IsNotCovered, IsSpent, Answers}
 use Rattle.walk.specs.declared.QueryAnswer.{QueryAnswer}
 use Rattle.walk.specs.declared.QueryAnswer.the-variants.{Unanswered, Covered, NotCovered}
+use Rattle.walk.proofs.Covering.{decided-fits}
 use Rattle.book.specs.Table.{saidCall, saidQuery}
 use Rattle.book.specs.Book.{Call, insert, remove, call, done, after, sliceOf, treeOf}
-use Rattle.book.specs.Claims.{Run, Reached, Together, Same}
+use Rattle.book.specs.Claims.{Run, Reached, Together, Same, Exact}
 use Rattle.book.proofs.Reach.{reach, demand2}
 use Rattle.book.proofs.Agreement.{demand3}
+use Rattle.book.proofs.Exact.{exact-count}
 use Rattle.interface.specs.Told.{numberOf, shownAs, replied}
-use Rattle.interface.specs.Calls.{ctFresh, ctInsert, ctRemove, ctQuery}
+use Rattle.interface.specs.Calls.{Handed, ctFresh, ctInsert, ctRemove, ctQuery}
 use Rattle.interface.specs.Claims.{Made, ctCall, ctAfter, ctTree, callsMade, CtRun, CtReach}
-use Rattle.interface.specs.Claims.{Says, SaysCovered, SaysNot, SaysSpent, needed, CtAnswers, CtDemand2, CtSame, CtCovered, CtDemand3}
+use Rattle.interface.specs.Claims.{Says, SaysCovered, SaysNot, SaysSpent, needed, CtAnswers, CtDemand2, CtSame, CtCovered, CtDemand3, CtExact, CtExactCount}
 use Rattle.interface.proofs.Differ.{Freshened, ready, bad-slice, Inserted, kept, refusal, Taken, removed, broken, no-such}
 use Rattle.interface.proofs.Differ.{fresh-answers, insert-answers, remove-answers, code-some, query-apart}
 
@@ -96,26 +96,7 @@ module _ (T d : List ℕ) (b : ℕ) (W ts : List ℕ) (long : 3 ≤ length ts) w
     λ e. (ap (λ y. replied (saidQuery y) ts .number) e, ap (λ y. replied (saidQuery y) ts .told) e),
   )
 
--- one is not another
-covered≢spent : {n c b : ℕ} → Covered n c ≡ Unanswered (Spent b) → ⊥
-covered≢spent e = apart cc
-
-not≢spent : {c b : ℕ} → NotCovered c ≡ Unanswered (Spent b) → ⊥
-not≢spent e = apart cc
-
 module _ {K : List Pair} {T d : List ℕ} {b : ℕ} {W : List ℕ} (A : Answers K (treeOf K) T d b W) where
-  -- what is not spent is within the budget
-  within : (IsSpent T d b W → ⊥) → needed K d ≤ b
-  within h = go (decLe (needed K d) b)
-    where
-      go : Dec (needed K d ≤ b) → needed K d ≤ b
-      go (yes l) = l
-      go (no l) = absurd (h (A .spends .1 (omega arith)))
-
-  decided : IsCovered T d b W ⊎ IsNotCovered T d b W → needed K d ≤ b
-  decided (inl u) = let (n, c, e) = u in within (λ s. covered≢spent (sym e ∙ s))
-  decided (inr u) = let (c, e) = u in within (λ s. not≢spent (sym e ∙ s))
-
   module _ (ts : List ℕ) (long : 3 ≤ length ts) (enough : needed K d ≤ fullBudget) where
     says-covered : IsCovered T d b W → SaysCovered (ctQuery T d b W ts) ts (needed K d)
     says-covered u = let (n, c, e) = u in (n, says T d b W ts long (Covered n (needed K d)) .1 (rw (← A .counts n c e) e))
@@ -149,12 +130,12 @@ module _ {K : List Pair} {T d : List ℕ} {b : ℕ} {W : List ℕ} (A : Answers 
           kinds = ct-kinds (A .kinds);
           covered = (
             λ u. let (n, s) = u in
-                let l = decided (inl (n, needed K d, said-covered n s)) in
+                let l = decided-fits A (inl (n, needed K d, said-covered n s)) in
                 (l, A .decides l .0 (n, needed K d, said-covered n s)),
             λ h. says-covered (A .decides (h .0) .1 (h .1)),
           );
           not-covered = (
-            λ s. let l = decided (inr (needed K d, said-not s)) in (l, A .denies l .0 (needed K d, said-not s)),
+            λ s. let l = decided-fits A (inr (needed K d, said-not s)) in (l, A .denies l .0 (needed K d, said-not s)),
             λ h. says-not (A .denies (h .0) .1 (h .1)),
           );
           spent = ((λ s. A .spends .0 (said-spent .0 s)), (λ l. said-spent .1 (A .spends .1 l)));
@@ -168,7 +149,7 @@ pub ct-demand2 : CtDemand2
 ct-demand2 T xs R d W ts P b =
     let ys : List Call = callsMade xs in
     let r : Run T ys = run-of T xs R in
-    let full = decided (demand2 T ys r d (P .clause) fullBudget W (P .witness)) (demand3 T ys T ys r r .one .decided d (P .clause) W (P .witness)) in
+    let full = decided-fits (demand2 T ys r d (P .clause) fullBudget W (P .witness)) (demand3 T ys T ys r r .one .decided d (P .clause) W (P .witness)) in
     rw (tree-words T xs) (ct-answers (demand2 T ys r d (P .clause) b W (P .witness)) ts (P .told) full)
 
 -- ---- two lists
@@ -219,3 +200,34 @@ ct-demand3 S xs T ys R Q =
       );
       same = rw (tree-words S xs, tree-words T ys) (λ f h d D b. ct-same (t .same f h d D b));
     }
+
+-- ---- one literal, an exact count
+
+module _ (T : List ℕ) (xs : List Call) (d : List ℕ) (b : ℕ) (W ts : List ℕ) (long : 3 ≤ length ts) (E : Exact T xs d b W) where
+  abbrev S : List ℕ
+  S = sliceOf T xs
+
+  abbrev r : Handed
+  r = ctQuery S d b W ts
+
+  say-decided : IsCovered S d b W ⊎ IsNotCovered S d b W → ((c : ℕ) × SaysCovered r ts c) ⊎ ((c : ℕ) × SaysNot r ts c)
+  say-decided (inl (n, c, e)) = inl (c, (n, says S d b W ts long (Covered n c) .1 e))
+  say-decided (inr (c, e)) = inr (c, says S d b W ts long (NotCovered c) .1 e)
+
+  say-short : IsSpent S d b W ⊎ ((n : ℕ) × (c : ℕ) × (query S d b W .answer ≡ Covered n c) × (c ≤ b))
+      → SaysSpent r ts b ⊎ ((c : ℕ) × (c ≤ b) × SaysCovered r ts c)
+  say-short (inl s) = inl (says S d b W ts long (Unanswered (Spent b)) .1 s)
+  say-short (inr (n, c, e, l)) = inr (c, l, (n, says S d b W ts long (Covered n c) .1 e))
+
+  ct-exact : CtExact d b ts r
+  ct-exact =
+      record {
+        exact = λ c s. E .exact c (says S d b W ts long (NotCovered c) .0 s);
+        enough = λ h. say-decided (E .enough h);
+        short = λ h. say-short (E .short h);
+      }
+
+pub ct-exact-count : CtExactCount
+ct-exact-count T xs R some single d W ts P b =
+    let ys : List Call = callsMade xs in
+    rw (tree-words T xs) (ct-exact T ys d b W ts (P .told) (exact-count T ys (run-of T xs R) some single d (P .clause) b W (P .witness)))

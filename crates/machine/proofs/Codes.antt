@@ -155,3 +155,9 @@ firsts-literals (also {x = l} {xs = ls} L Ls) puts from n =
 pub sequence-firsts : (c : List ℕ) → Clause c → firsts (sequence c) ≡ length (literals c)
 unfolding sequence
 sequence-firsts c C = rw (C .whole) at (firsts-literals (C .all) [] 0 0)
+
+-- the first of them at its head
+pub sequence-begins : (c : List ℕ) → Clause c → (rest : List Instr) × (sequence c ≡ First ∷ rest)
+unfolding sequence
+sequence-begins [] C = absurd (C .nonempty refl)
+sequence-begins (w ∷ ws) C = (sequenceFrom (w ∷ ws) (inside 0 []) [] 0 0, sequence-first w ws [] 0 0)

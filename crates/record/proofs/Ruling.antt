@@ -6,7 +6,6 @@ use mathlib.Core.Option.{Option, none as nobody, some}
 use mathlib.Core.List.{List, [], _∷_, map, List·Memᴰ, List·Memᴰ·head, List·Memᴰ·tail, List·Memᴰ·eq-of-singleton}
 use Prim.Native.Nat.{ℕ, _≤_, _<_}
 use native.Mathlib.Omega.{arith}
-use native.Mathlib.Decide.{decLe}
 use lib.Dec.{leb}
 use lib.ListN.{length, getD, replicate, length-replicate}
 use borrow.Author.Tests.{leb-true, leb-false}
@@ -53,7 +52,7 @@ use Rattle.tree.proofs.InsertWords.{ins-leaves}
 use Rattle.tree.proofs.Mirror.{mirrors-ins, mirrors-build}
 use Rattle.tree.proofs.Changes.{Inserts, refused, grown, inserts}
 use Rattle.walk.proofs.Kept.{kept-pair, pair-kept, finds-shows, subsumes-finds}
-use Rattle.walk.proofs.Covering.{query-tree, answers, shows-subsumes}
+use Rattle.walk.proofs.Covering.{query-tree, answers, decided-fits, shows-subsumes}
 use Rattle.book.proofs.Holds.{Holds, holds-leaves}
 use Rattle.book.proofs.Step.{insertion-is}
 
@@ -134,6 +133,16 @@ module _ {K : List Pair} {x : Record} where
   reason-code (list-full u m l) = List·Memᴰ·tail (List·Memᴰ·tail (List·Memᴰ·tail (List·Memᴰ·tail (List·Memᴰ·head refl))))
   reason-code (no-room u m l r) = List·Memᴰ·tail (List·Memᴰ·tail (List·Memᴰ·tail (List·Memᴰ·tail (List·Memᴰ·tail (List·Memᴰ·head refl)))))
   reason-code (over-budget a b) = List·Memᴰ·tail (List·Memᴰ·tail (List·Memᴰ·tail (List·Memᴰ·tail (List·Memᴰ·tail (List·Memᴰ·tail (List·Memᴰ·head refl))))))
+
+  -- 12 comes from an accepted clause with more candidates than the budget
+  pub reason-spent : {c : ℕ} → Reason K x c → c ≡ 12 → Accepted (x .words) × (budget < candidates (treeOf K) (x .words))
+  reason-spent (faulty BadLength e) i = absurd (omega arith)
+  reason-spent (faulty (Bad at) e) i = absurd (omega arith)
+  reason-spent (faulty (Ninth at) e) i = absurd (omega arith)
+  reason-spent (number-taken u m) i = absurd (omega arith)
+  reason-spent (list-full u m l) i = absurd (omega arith)
+  reason-spent (no-room u m l r) i = absurd (omega arith)
+  reason-spent (over-budget a b) i = (a, b)
 
   striking : {n k : ℕ} → Strikes K x n k → Subsumed K (x .words)
   striking s = (s .striking, s .kept, s .subsumes)
@@ -325,13 +334,9 @@ module _ (K : List Pair) (h : Holds treeWords K (treeOf K)) (x : Record) (f : Fi
     asked : Answers K (treeOf K) T (x .words) budget W
     asked = answers K (treeOf K) (h .sound) (h .keeps .mirrors) (holds-leaves h) (x .words) (q, s) treeWords (omega arith) (omega arith) (h .room) budget W witness-long
 
-    -- within the budget, where it is not spent
-    within : (IsSpent T (x .words) budget W → ⊥) → Decided K x
-    within n = record { accepted = (q, s); fits = go (decLe (candidates (treeOf K) (x .words)) budget) }
-      where
-        go : Dec (candidates (treeOf K) (x .words) ≤ budget) → candidates (treeOf K) (x .words) ≤ budget
-        go (yes l) = l
-        go (no l) = absurd (n (asked .spends .1 (omega arith)))
+    -- within the budget, where it is covered or not
+    within : IsCovered T (x .words) budget W ⊎ IsNotCovered T (x .words) budget W → Decided K x
+    within u = record { accepted = (q, s); fits = decided-fits asked u }
 
     fate-covered : (n k : ℕ) → query T (x .words) budget W .answer ≡ Covered n k → Strikes K x n k
     fate-covered n k e =
@@ -339,7 +344,7 @@ module _ (K : List Pair) (h : Holds treeWords K (treeOf K)) (x : Record) (f : Fi
         let over = query-tree treeWords (treeOf K) (omega arith) (omega arith) (h .room) (x .words) (q, s) budget W witness-long (h .keeps .mirrors .formed) in
         let (t, w) = told-covered budget W (walk (machine (x .words)) (upTo budget) (treeOf K) initial 0) n k (ap (λ y. y .answer) (sym over) ∙ e) in
         record {
-          decided = within (λ z. let y = sym e ∙ z in apart cc);
+          decided = within (inl (n, k, e));
           state = t;
           walked = w;
           count = asked .counts n k e;
@@ -351,8 +356,7 @@ module _ (K : List Pair) (h : Holds treeWords K (treeOf K)) (x : Record) (f : Fi
         }
 
     fate-new : (k : ℕ) → query T (x .words) budget W .answer ≡ NotCovered k → Uncovered K x
-    fate-new k e =
-        record { decided = within (λ z. let y = sym e ∙ z in apart cc); unsubsumed = asked .spares k e .0 }
+    fate-new k e = record { decided = within (inr (k, e)); unsubsumed = asked .spares k e .0 }
 
     fate-kinds : IsCovered T (x .words) budget W ⊎ (IsNotCovered T (x .words) budget W ⊎ IsSpent T (x .words) budget W)
         → Fate K x (answerTo T x .outcome) (bookFrom treeWords K (callsFor T x))

@@ -2,13 +2,13 @@
 use mathlib.Core.Path.{_≡_}
 use mathlib.Core.Logic.{_≢_, _⊎_}
 use mathlib.Core.List.{List, [], _∷_, _++_, map, List·Memᴰ}
-use Prim.Native.Nat.{ℕ, _+_, _<_}
+use Prim.Native.Nat.{ℕ, _+_, _≤_, _<_}
 use lib.ListN.{length}
 use Rattle.clause.specs.Lists.{All, Each}
-use Rattle.clause.specs.Clause.{Subsumes}
+use Rattle.clause.specs.Clause.{literals, Subsumes}
 use Rattle.machine.specs.Compile.{Variants}
 use Rattle.tree.specs.Entries.{Pair}
-use Rattle.walk.specs.Covering.{Subsumed}
+use Rattle.walk.specs.Covering.{Singles, Subsumed}
 use Rattle.book.specs.Book.{sliceOf, bookOf}
 use Rattle.book.specs.Claims.{Run}
 use Rattle.record.specs.Answer.{treeWords, Record}
@@ -70,6 +70,9 @@ pub record RowClaims {rs : List Row} (a : RowAt rs) : Type 0 where
   pub ruled : Ruled (bookAfter (a .before)) (a .this .of) (a .this .outcome) (bookAfter (a .before ++ (a .this ∷ [])))
   -- where it is struck, an earlier row says that the number was kept, and the clause of that row subsumes this one's
   pub earlier : (n k : ℕ) → a .this .outcome ≡ Struck n k → KeptCovers (a .before) n (a .this .of)
+  -- where each clause of the book before it has a single literal, it is struck after at most as many candidates as it has literals, and 12 is not its code
+  pub single : Singles (bookAfter (a .before)) → (n k : ℕ) → a .this .outcome ≡ Struck n k → k ≤ length (literals (a .this .of .words))
+  pub unspent : Singles (bookAfter (a .before)) → a .this .outcome ≢ Refused 12
 
 -- ---- the whole input
 

@@ -5,7 +5,7 @@ ghost use lib.ListN.{length, getD};
 ghost use Rattle.book.specs.Book.{sliceOf};
 ghost use Rattle.book.specs.Encoding.{whole, callsOf, HasWords, Ran};
 ghost use Rattle.book.specs.Believable.{Believable};
-ghost use Rattle.book.specs.Claims.{Run, Reached, Demand1, Reach, Demand2, Demand3};
+ghost use Rattle.book.specs.Claims.{Run, Reached, Demand1, Reach, Demand2, Demand3, ExactCount};
 ghost use Rattle.tree.specs.Calls.{fresh};
 ghost use Rattle.tree.specs.declared.CallAnswer.the-variants.{Ready};
 
@@ -55,6 +55,7 @@ pub fn run(tree: &mut [u64], calls: &[u16])
     ensures lists { λ _. ⌜ HasWords ⌝ }
     ensures definitions { λ _. ⌜ Believable ⌝ }
     ensures demands { λ _. ⌜ Demand1 × Reach × Demand2 × Demand3 ⌝ }
+    ensures count { λ _. ⌜ ExactCount ⌝ }
 {
     laid::fresh(tree);
     let mut at = 0;

@@ -1,9 +1,9 @@
 -- A walk counts at most leaves × (q + q² + .. + q^m), where no path has more than m Firsts.
 use mathlib.Core.Path.{_≡_, refl}
 use mathlib.Core.Bool.{Bool}
-use mathlib.Core.Logic.{inl, inr, _≢_}
+use mathlib.Core.Logic.{_≢_}
 use mathlib.Core.Option.{Option, none, some}
-use mathlib.Core.List.{List, _∷_}
+use mathlib.Core.List.{List}
 use Prim.Native.Nat.{ℕ, zero, suc, _+_, _*_, _^_, _≤_, _<_, suc-le-suc}
 use native.Mathlib.Nat.{mul-add, add-mul, mul-suc, mul-left-comm, mul-le-mul, mul-le-mul-left, pow-succ', pow-zero, pow-le-pow-left}
 use native.Mathlib.Omega.{arith}
@@ -14,8 +14,8 @@ use Rattle.tree.specs.Forest.{Forest, empty, node, leaf?, leaves, Formed}
 use Rattle.walk.specs.Walk.{Machine, Answer, covered, Part, andThen, tries, visitAt, walk}
 use Rattle.walk.specs.Ceiling.{powers, ceiling}
 use Rattle.tree.proofs.InsertWords.{leaf-number}
-use Rattle.walk.proofs.Paths.{LeadsAt, Leads, FullAt, Full, firsts}
-use Rattle.walk.proofs.Smooth.{some-path}
+use Rattle.walk.proofs.Paths.{Leads, FullAt, Full, firsts}
+use Rattle.walk.proofs.Shallow.{ShallowAt, Shallow, shallow}
 use Rattle.walk.proofs.Count.{Counts, of-covered, of-notCovered, of-broken, counts-map, counts-then, counts-follow, counts-attempt}
 
 -- the powers, first factor first
@@ -45,36 +45,6 @@ pub ceiling-le : (k k′ q q′ m m′ : ℕ) → k ≤ k′ → q ≤ q′ → 
 ceiling-le k k′ q q′ m m′ h g l =
     let p : powers q m ≤ powers q′ m′ = omega (arith, powers-less q m m′ l, powers-le q q′ m′ g) in
     mul-le-mul h p
-
--- no path has more than m Firsts, read off the forest
-abbrev ShallowAt : Option Instr → ℕ → (ℕ → Type 0) → Type 0
-ShallowAt none m below = Unit {0}
-ShallowAt (some (Success n)) m below = Unit {0}
-ShallowAt (some First) zero below = ⊥
-ShallowAt (some First) (suc m) below = below m
-ShallowAt (some (Do x)) m below = below m
-
-abbrev Shallow : Forest → ℕ → Type 0
-Shallow empty m = Unit {0}
-Shallow (node i B R) m = ShallowAt (instrOf i) m (Shallow B) × Shallow R m
-
--- a node none of whose paths has more than m Firsts
-shallow-at :
-    (o : Option Instr) (i : ℕ) (B : Forest) (m : ℕ) → instrOf i ≡ o
-    → ((m : ℕ) → Full B → ((p : List ℕ) (n : ℕ) → Leads B p n → firsts p ≤ m) → Shallow B m)
-    → FullAt o B (Full B) → ((p : List ℕ) (n : ℕ) → LeadsAt o i (Leads B) p n → firsts p ≤ m) → ShallowAt o m (Shallow B)
-shallow-at none i B m e ih f h = tt
-shallow-at (some (Success n)) i B m e ih f h = tt
-shallow-at (some First) i B zero e ih f h =
-    let (p, n, l) = some-path B (f .0) (f .1) in
-    absurd (omega (arith, rw e at (h (i ∷ p) n (p, refl, l))))
-shallow-at (some First) i B (suc m) e ih f h = ih m (f .1) (λ p n l. omega (arith, rw e at (h (i ∷ p) n (p, refl, l))))
-shallow-at (some (Do x)) i B m e ih f h = ih m (f .1) (λ p n l. rw e at (h (i ∷ p) n (p, refl, l)))
-
-shallow : (F : Forest) (m : ℕ) → Full F → ((p : List ℕ) (n : ℕ) → Leads F p n → firsts p ≤ m) → Shallow F m
-shallow empty m f h = tt
-shallow (node i B R) m f h =
-    (shallow-at (instrOf i) i B m refl (shallow B) (f .0) (λ p n l. h p n (inl l)), shallow R m (f .1) (λ p n l. h p n (inr l)))
 
 -- a well-formed forest with a node has a leaf
 leaves-pos : (b : ℕ) (F : Forest) → Formed b F → F ≢ empty → 0 < leaves F

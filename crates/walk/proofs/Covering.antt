@@ -1,9 +1,10 @@
 -- What the queries of a tree answer, in terms of the clauses that it keeps.
 use mathlib.Core.Path.{_≡_, refl, sym, ap, _∙_}
-use mathlib.Core.Logic.{inl, inr}
+use mathlib.Core.Logic.{_⊎_, inl, inr}
 use mathlib.Core.List.{List, [], map}
 use Prim.Native.Nat.{ℕ, _-_, _≤_, _<_}
 use native.Mathlib.Omega.{arith}
+use native.Mathlib.Decide.{decLe}
 use lib.ListN.{length, getD}
 use borrow.Author.Tests.{le-leb, le-ltb}
 use Rattle.clause.specs.Lists.{All}
@@ -14,7 +15,7 @@ use Rattle.tree.specs.Entries.{Mirrors, Pair, Sound, entry}
 use Rattle.walk.specs.Walk.{Answer, covered, notCovered, upTo, always, walk}
 use Rattle.walk.specs.Ceiling.{ceiling}
 use Rattle.walk.specs.Query.{machine, witnessWords, shown, withShown, unanswered, answerBy, query}
-use Rattle.walk.specs.Covering.{most, Subsumed, Shows, countOf, candidates, IsSpent, Answers}
+use Rattle.walk.specs.Covering.{most, Subsumed, Shows, countOf, candidates, IsCovered, IsNotCovered, IsSpent, Answers}
 use Rattle.clause.proofs.Apart.{apart}
 use Rattle.clause.proofs.Lists.{mem-index, index-mem}
 use Rattle.tree.proofs.Words.{length-layout, header-layout, region-layout}
@@ -74,7 +75,7 @@ module _ (K : List Pair) (F : Forest) (S : All Sound K) (R : Mirrors F (map entr
   -- it takes no more candidates than the ceiling
   pub kept-bounded : candidates F d ≤ ceiling (length K) (length (literals d)) (most K)
   kept-bounded =
-      rw (← n) (counted-le (count-bound (machine d) always F (most K) (R .formed) (formed-full 0 F (R .formed)) (kept-short K F S R d D) initial))
+      rw (← n) (counted-le (count-bound (machine d) always F (most K) (R .formed) (formed-full 0 F (R .formed)) (kept-short K F S R) initial))
 
   module _ (b : ℕ) (W : List ℕ) (long : witnessWords ≤ length W) (T : List ℕ) where
     -- the walk would take more candidates than the budget
@@ -144,3 +145,22 @@ module _ (K : List Pair) (F : Forest) (S : All Sound K) (R : Mirrors F (map entr
       answers-from b W long (layout len F) (walk (machine d) always F initial 0) (walk (machine d) (upTo b) F initial 0) refl walk-decides
       (capped (machine d) b F initial 0 (omega arith))
       (query-tree len F low high room d D b W long (R .formed))
+
+module _ {K : List Pair} {F : Forest} {T d : List ℕ} {b : ℕ} {W : List ℕ} (A : Answers K F T d b W) where
+  -- where the walk fits the budget, d is covered or not
+  pub fits-decided : candidates F d ≤ b → IsCovered T d b W ⊎ IsNotCovered T d b W
+  fits-decided h = go (A .kinds)
+    where
+      go : IsCovered T d b W ⊎ (IsNotCovered T d b W ⊎ IsSpent T d b W) → IsCovered T d b W ⊎ IsNotCovered T d b W
+      go (inl u) = inl u
+      go (inr (inl u)) = inr u
+      go (inr (inr s)) = absurd (omega (arith, A .spends .0 s))
+
+  -- and only there
+  pub decided-fits : IsCovered T d b W ⊎ IsNotCovered T d b W → candidates F d ≤ b
+  decided-fits u = go (decLe (candidates F d) b) u
+    where
+      go : Dec (candidates F d ≤ b) → IsCovered T d b W ⊎ IsNotCovered T d b W → candidates F d ≤ b
+      go (yes l) u = l
+      go (no l) (inl (n, c, e)) = let s : IsSpent T d b W = A .spends .1 (omega arith) in apart cc
+      go (no l) (inr (c, e)) = let s : IsSpent T d b W = A .spends .1 (omega arith) in apart cc

@@ -10,23 +10,25 @@ use lib.Seq.{length-take-le}
 use native.Mathlib.Decide.{decLt}
 use Rattle.clause.specs.Lists.{All}
 use Rattle.clause.specs.Clause.{maxLiterals, Accepted, literals, vars, term, termAt, skip, Shaped, inst, Subsumes}
+use Rattle.machine.specs.Instr.{First, key}
 use Rattle.machine.specs.Compile.{sequence, keys}
 use Rattle.machine.specs.Machine.{State, initial, next, stuck, run as runCode}
 use Rattle.machine.specs.Matching.{Choice, Matched}
-use Rattle.tree.specs.Forest.{Forest}
+use Rattle.tree.specs.Forest.{Forest, empty, node, Has}
 use Rattle.tree.specs.Entries.{Listed, Mirrors, Pair, Sound, entry}
 use Rattle.walk.specs.Query.{machine, witnessWords, shown, withShown}
 use Rattle.walk.specs.Covering.{most, Shows, Untouched}
-use Rattle.clause.proofs.Lists.{all-append, all-take, all-replicate, all-mem, all-get, getD-map-lt}
+use Rattle.clause.proofs.Lists.{all-append, all-take, all-replicate, all-mem, all-get, some-mem, getD-map-lt}
 use Rattle.clause.proofs.Literals.{Clause, accepted, some-literal}
 use Rattle.machine.proofs.Agree.{agree-get, agree-length}
 use Rattle.machine.proofs.Table.{filled-get, filled-none}
 use Rattle.machine.proofs.Fits.{chosen}
 use Rattle.machine.proofs.Matching.{Result, covers, misses, runs, subsumes-matched}
-use Rattle.machine.proofs.Codes.{firsts as firstsOf, sequence-plain, sequence-firsts}
+use Rattle.machine.proofs.Codes.{firsts as firstsOf, sequence-plain, sequence-firsts, sequence-begins}
 use Rattle.machine.proofs.Effects.{fails≢next, stuck≢next, fails≢stuck}
 use Rattle.machine.proofs.Candidates.{run-enough, run-take, run-stuck}
 use Rattle.machine.proofs.Replace.{length-vars}
+use Rattle.tree.proofs.Paths.{front, one-node}
 use Rattle.walk.proofs.Paths.{Leads, firsts, run, Candidates, Finds, NeverStuck}
 use Rattle.walk.proofs.Formed.{leads-has, has-leads}
 use Rattle.walk.proofs.Runs.{run-keys, firsts-keys}
@@ -153,17 +155,10 @@ mem-most : {p : Pair} (K : List Pair) → List·Memᴰ p K → length (literals 
 mem-most (r ∷ K) (List·Memᴰ·head e) = rw e (omega arith)
 mem-most (r ∷ K) (List·Memᴰ·tail m) = omega (arith, mem-most K m)
 
-module _ (K : List Pair) (F : Forest) (S : All Sound K) (R : Mirrors F (map entry K)) (d : List ℕ) (D : Accepted d) where
+module _ (K : List Pair) (F : Forest) (S : All Sound K) (R : Mirrors F (map entry K)) where
   -- a path is the sequence of a kept clause
   path-pair : (q : List ℕ) (n : ℕ) → Leads F q n → (p : Pair) × List·Memᴰ p K × (q ≡ keys (p .clause)) × (n ≡ p .number)
   path-pair q n l = kept-pair K q n (R .paths q n .0 (leads-has 0 F (R .formed) q n l))
-
-  -- no path gets stuck
-  pub kept-steady : NeverStuck (machine d) F initial
-  kept-steady q n js l J e =
-      let (p, m, is, at) = path-pair q n l in
-      let s = all-mem S m in
-      sequence-steady (p .clause) d (accepted (p .clause) (s .accepted)) (accepted d D) (s .words) js J (rw is at e)
 
   -- no path has more Firsts than a kept clause has literals
   pub kept-short : (q : List ℕ) (n : ℕ) → Leads F q n → firsts q ≤ most K
@@ -173,11 +168,32 @@ module _ (K : List Pair) (F : Forest) (S : All Sound K) (R : Mirrors F (map entr
       let C = accepted (p .clause) (s .accepted) in
       rw (is, firsts-keys (sequence (p .clause)) (sequence-plain (p .clause) C (s .words)), sequence-firsts (p .clause) C) (mem-most K m)
 
+  -- every path begins with First
+  kept-begins : (q : List ℕ) (n : ℕ) → Has F q n → front q n ≡ key First
+  kept-begins q n h =
+      let (p, m, is, at) = kept-pair K q n (R .paths q n .0 h) in
+      let (rest, e) = sequence-begins (p .clause) (accepted (p .clause) (all-mem S m .accepted)) in
+      rw (is, e)
+
+  -- so the tree of one clause or more is one First
+  pub one-first : 1 ≤ length K → (B : Forest) × (F ≡ node (key First) B empty)
+  one-first h =
+      let (p, m) = some-mem K h in
+      one-node (key First) 0 F (R .formed) (R .paths (keys (p .clause)) (p .number) .1 (pair-kept K p m)) kept-begins
+
+module _ (K : List Pair) (F : Forest) (S : All Sound K) (R : Mirrors F (map entry K)) (d : List ℕ) (D : Accepted d) where
+  -- no path gets stuck
+  pub kept-steady : NeverStuck (machine d) F initial
+  kept-steady q n js l J e =
+      let (p, m, is, at) = path-pair K F S R q n l in
+      let s = all-mem S m in
+      sequence-steady (p .clause) d (accepted (p .clause) (s .accepted)) (accepted d D) (s .words) js J (rw is at e)
+
   -- what the walk finds is shown
   pub finds-shows : (n : ℕ) (t : State) → Finds (machine d) F initial n t → (W : List ℕ) → witnessWords ≤ length W
       → (p : Pair) × List·Memᴰ p K × (p .number ≡ n) × Shows (p .clause) d (withShown (shown t) W) × Untouched (p .clause) W (withShown (shown t) W)
   finds-shows n t (q, js, l, J, e) W h =
-      let (p, m, is, at) = path-pair q n l in
+      let (p, m, is, at) = path-pair K F S R q n l in
       let s = all-mem S m in
       let (shows, spared) = sequence-shows (p .clause) d (accepted (p .clause) (s .accepted)) (accepted d D) (s .words) js t W J (rw is at e) h in
       (p, m, sym at, shows, spared)

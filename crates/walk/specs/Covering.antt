@@ -4,6 +4,7 @@ use mathlib.Core.Logic.{_↔_, _⊎_}
 use mathlib.Core.List.{List, [], _∷_, List·Memᴰ}
 use Prim.Native.Nat.{ℕ, _+_, _≤_, _<_, max}
 use lib.ListN.{length, getD}
+use Rattle.clause.specs.Lists.{All}
 use Rattle.clause.specs.Clause.{maxLiterals, literals, vars, termAt, IsTerm, inst, Subsumes}
 use Rattle.machine.specs.Machine.{State, initial}
 use Rattle.tree.specs.Forest.{Forest}
@@ -18,6 +19,10 @@ use Rattle.walk.specs.declared.QueryAnswer.the-variants.{Unanswered, Cov
 abbrev pub most : List Pair → ℕ
 most [] = 0
 most (p ∷ K) = max (length (literals (p .clause))) (most K)
+
+-- every kept clause has a single literal
+abbrev pub Singles : List Pair → Type 0
+Singles = All (λ p. length (literals (p .clause)) ≡ 1)
 
 -- some kept clause subsumes d
 abbrev pub Subsumed : List Pair → List ℕ → Type 0

@@ -4,7 +4,7 @@ use Rattle.book.specs.Table.{asked}
 use Rattle.interface.specs.Calls.{ctQuery}
 use Rattle.interface.proofs.Handed.{hands}
 use Rattle.interface.proofs.Differ.{told-apart}
-use Rattle.interface.proofs.Lists.{ct-reach, ct-demand2, ct-demand3}
+use Rattle.interface.proofs.Lists.{ct-reach, ct-demand2, ct-demand3, ct-exact-count}
 use borrow.Author.Needs.{needs}
 use Rattle.codetree.proofs.ct_query.Statement.{statement}
 use Rattle.codetree.proofs.ct_query.Tie as tie
@@ -27,7 +27,7 @@ returns c =
     let h = c .before .before in
     let i = h .before .before .before .before in (
       hands (i .before .before .before .before .before .before .args .told .now) (ap asked (i .query .ensures)) (h .hand-query .ensures),
-      ((ct-reach, ct-demand2, ct-demand3), told-apart),
+      ((ct-reach, ct-demand2, ct-demand3), (ct-exact-count, told-apart)),
     )
 
 pub ct-query-spec : {M : Type 1} → statement M

@@ -12,6 +12,7 @@ use Rattle.book.proofs.Believable.{believable}
 use Rattle.book.proofs.Refusals.{demand1}
 use Rattle.book.proofs.Reach.{reach, demand2}
 use Rattle.book.proofs.Agreement.{demand3}
+use Rattle.book.proofs.Exact.{exact-count}
 use Rattle.tree.specs.Calls.{fresh}
 use Rattle.tree.specs.declared.CallAnswer.the-variants.{Ready}
 use borrow.Author.Needs.{needs}
@@ -60,7 +61,7 @@ returns c =
     let run : fresh (a .tree .now) .answer ≡ Ready → Run (a .tree .now) (callsOf (a .calls .now)) =
     λ r. record { ready = r; fit = l .loop .inv .2 (rw none-left tt) } in (
       sym (ap (λ T. after T (callsOf (a .calls .now))) (sym (ap (λ y. y .slice) (f .fresh .ensures))) ∙ l .loop .inv .3 ∙ rw none-left),
-      (λ r. (run r, reach _ _ (run r)), (has-words, (believable, (demand1, reach, demand2, demand3)))),
+      (λ r. (run r, reach _ _ (run r)), (has-words, (believable, ((demand1, reach, demand2, demand3), exact-count)))),
     )
 
 pub run-spec : {M : Type 1} → statement M
