@@ -101,13 +101,16 @@ uint64_t ct_remove(uint64_t *tree, size_t n, uint32_t number);
  * candidates tried. The position for 4 and 5, the count for 12; else nothing.
  * witness (k words, at least 72), only if covered: the query's literal for literal i of the covering clause
  * at i, the query's position for its Put number j at 8 + j. Its other words stay as they were.
+ * Where a tree, made by these calls, keeps at least one clause, each of a single literal: a query of q literals
+ * that is answered not covered has the count q; a budget of q or more is enough (CT_CLAUSE_LITERALS for any
+ * query), and a smaller one is spent unless the query is covered within it.
  */
 uint64_t ct_query(const uint64_t *tree, size_t n, const uint16_t *clause, size_t m, uint64_t budget,
                   uint16_t *witness, size_t k, uint64_t *told, size_t t);
 
 /*
  * A bound: a query of q literals takes no more candidates in a tree, made by these calls, of `kept` clauses of
- * at most m literals: kept * (q + q^2 + .. + q^m).
+ * at most m literals: kept * (q + q^2 + .. + q^m). With m = 1 it takes q at most (ct_query).
  * Returns 0, or 13. told: with 0 the ceiling; else nothing.
  */
 uint64_t ct_ceiling(uint64_t kept, uint64_t q, uint64_t m, uint64_t *told, size_t t);

@@ -16,7 +16,7 @@ use Rattle.tree.specs.Entries.{Mirrors, Pair, entry}
 use Rattle.walk.specs.Walk.{upTo, walk}
 use Rattle.walk.specs.Ceiling.{ceiling, fullBudget, ceilingCall}
 use Rattle.walk.specs.Query.{machine, witnessWords, withShown, answerBy, walkSlice, query}
-use Rattle.walk.specs.Covering.{Singles, IsCovered, IsNotCovered, IsSpent, Answers}
+use Rattle.walk.specs.Covering.{Units, IsCovered, IsNotCovered, IsSpent, Answers}
 use Rattle.tree.specs.Calls.{fresh, insertion, removal}
 use Rattle.book.specs.Table.{ready, kept, removed, returned, saidCeiling, called, asked}
 use Rattle.book.specs.Refusals.{firstOf, freshRows, ceilingRows, insertRows, removeRows, queryRows, finished, unlessRefused, unlessSaid, walkResult}
@@ -112,20 +112,20 @@ pub record Together (S : List ℕ) (xs : List Call) (T : List ℕ) (ys : List Ca
 abbrev pub Demand3 : Type 0
 Demand3 = (S : List ℕ) (xs : List Call) (T : List ℕ) (ys : List Call) → Run S xs → Run T ys → Together S xs T ys
 
--- what is claimed of the count of a query, where at least one clause is kept and every kept one has a single literal; q is the number of d's literals
+-- what is claimed of a query's count where units are kept, at least one, and nothing else; q is the number of d's literals
 pub record Exact (T : List ℕ) (xs : List Call) (d : List ℕ) (b : ℕ) (W : List ℕ) : Type 0 where
   -- not covered: the count is exactly q
   pub exact : (c : ℕ) → query (sliceOf T xs) d b W .answer ≡ NotCovered c → c ≡ length (literals d)
   -- covered: it is at most q
-  pub within : (n c : ℕ) → query (sliceOf T xs) d b W .answer ≡ Covered n c → c ≤ length (literals d)
+  pub at-most : (n c : ℕ) → query (sliceOf T xs) d b W .answer ≡ Covered n c → c ≤ length (literals d)
   -- every budget of q or more is enough
   pub enough : length (literals d) ≤ b → IsCovered (sliceOf T xs) d b W ⊎ IsNotCovered (sliceOf T xs) d b W
   -- one below q is spent, unless d is covered within it
-  pub short : b < length (literals d)
+  pub less : b < length (literals d)
       → IsSpent (sliceOf T xs) d b W ⊎ ((n : ℕ) × (c : ℕ) × (query (sliceOf T xs) d b W .answer ≡ Covered n c) × (c ≤ b))
 
--- One literal, an exact count: the claim, for every list of calls, query, budget and witness
+-- One literal, an exact count: for every list of calls that keeps at least one clause, every one of a single literal, every query, budget and witness
 abbrev pub ExactCount : Type 0
 ExactCount =
-    (T : List ℕ) (xs : List Call) → Run T xs → 1 ≤ length (bookOf (length T) xs) → Singles (bookOf (length T) xs)
+    (T : List ℕ) (xs : List Call) → Run T xs → 1 ≤ length (bookOf (length T) xs) → Units (bookOf (length T) xs)
     → (d : List ℕ) → Accepted d → (b : ℕ) (W : List ℕ) → witnessWords ≤ length W → Exact T xs d b W

@@ -1,4 +1,4 @@
--- Where the scope leaves room: the readings taken, each on a small input.
+-- The readings taken where the documents leave room, each on a small input; and counts with units kept.
 use mathlib.Core.Path.{_≡_}
 use mathlib.Core.List.{List, [], _∷_, _++_}
 use Prim.Native.Nat.{ℕ}
@@ -10,8 +10,8 @@ use Rattle.tree.specs.Forest.{word, headerOf}
 use Rattle.walk.specs.Ceiling.{ceilingCall}
 use Rattle.walk.specs.Query.{witnessWords, query}
 use Rattle.tree.specs.Calls.{insertion, removal}
-use Rattle.book.specs.Book.{Call, insert, remove, sliceOf}
-use Rattle.book.specs.Trials.{P₃, P₂, P₁, Q₁, f, a, b, x, y, pxqx, ask}
+use Rattle.book.specs.Book.{insert, remove, sliceOf}
+use Rattle.book.specs.Trials.{P₃, P₂, P₁, Q₁, f, a, b, x, y, keeping, pxqx, ask}
 use Rattle.clause.specs.declared.Shape.the-variants.{Faulty, Whole}
 use Rattle.clause.specs.declared.Fault.the-variants.{BadLength, Bad, Ninth}
 use Rattle.tree.specs.declared.Refusal.the-variants.{Broken, BadClause, ShortWitness, NumberTaken, Held, NoRoom, Spent}
@@ -101,20 +101,18 @@ walking =
     ∷ (query pxqx (P₁ ∷ a ∷ P₁ ∷ b ∷ Q₁ ∷ b ∷ []) 8 (replicate 74 9) .witness ≡ 1 ∷ 2 ∷ (replicate 6 9 ++ (3 ∷ 5 ∷ replicate 64 9)))
     ∷ (query pxqx (P₁ ∷ a ∷ Q₁ ∷ b ∷ []) 8 (replicate 74 9) .witness ≡ replicate 74 9) ∷ []
 
--- the answer to a query after some insertions into a fresh slice
-abbrev pub answerAfter : List Call → (clause : List ℕ) (budget : ℕ) → QueryAnswer
-answerAfter xs d budget = query (sliceOf (blank 16) xs) d budget (replicate witnessWords 9) .answer
+-- counts with units kept, P(a) and Q(a)
+abbrev pub units : List ℕ
+units = keeping (insert (P₁ ∷ a ∷ []) 1 ∷ insert (Q₁ ∷ a ∷ []) 2 ∷ [])
 
--- counts where each kept clause has a single literal
 abbrev pub counting : List (Type 0)
 counting =
-    -- two clauses, two literals: 2 candidates, and a budget of 1 is spent unless it covers; with none kept 0
-    (answerAfter (insert (P₁ ∷ a ∷ []) 1 ∷ insert (Q₁ ∷ a ∷ []) 2 ∷ []) (P₁ ∷ b ∷ Q₁ ∷ b ∷ []) 2 ≡ NotCovered 2)
-    ∷ (answerAfter (insert (P₁ ∷ a ∷ []) 1 ∷ insert (Q₁ ∷ a ∷ []) 2 ∷ []) (P₁ ∷ b ∷ Q₁ ∷ b ∷ []) 1 ≡ Unanswered (Spent 1))
-    ∷ (answerAfter (insert (P₁ ∷ a ∷ []) 1 ∷ insert (Q₁ ∷ a ∷ []) 2 ∷ []) (P₁ ∷ a ∷ Q₁ ∷ b ∷ []) 1 ≡ Covered 1 1)
-    ∷ (answerAfter [] (P₁ ∷ b ∷ Q₁ ∷ b ∷ []) 2 ≡ NotCovered 0)
-    -- with a clause of two literals among them it is another number
-    ∷ (answerAfter (insert (P₁ ∷ a ∷ []) 1 ∷ insert (P₁ ∷ x ∷ Q₁ ∷ x ∷ []) 2 ∷ []) (P₁ ∷ b ∷ Q₁ ∷ a ∷ []) 9 ≡ NotCovered 4) ∷ []
+    -- P(b),Q(b): 2 candidates, and a budget of 1 is spent; P(a),Q(b) is covered within it
+    (ask units (P₁ ∷ b ∷ Q₁ ∷ b ∷ []) 2 0 0 .answer ≡ NotCovered 2) ∷ (ask units (P₁ ∷ b ∷ Q₁ ∷ b ∷ []) 1 0 0 .answer ≡ Unanswered (Spent 1))
+    ∷ (ask units (P₁ ∷ a ∷ Q₁ ∷ b ∷ []) 1 0 0 .answer ≡ Covered 1 1)
+    -- with nothing kept none; with P(a) and P(x),Q(x) kept another number
+    ∷ (ask (keeping []) (P₁ ∷ b ∷ Q₁ ∷ b ∷ []) 2 0 0 .answer ≡ NotCovered 0)
+    ∷ (ask (keeping (insert (P₁ ∷ a ∷ []) 1 ∷ insert (P₁ ∷ x ∷ Q₁ ∷ x ∷ []) 2 ∷ [])) (P₁ ∷ b ∷ Q₁ ∷ a ∷ []) 9 0 0 .answer ≡ NotCovered 4) ∷ []
 
 -- insertion, removal, ceiling
 abbrev pub calling : List (Type 0)

@@ -210,24 +210,25 @@ module _ (T : List ℕ) (xs : List Call) (d : List ℕ) (b : ℕ) (W ts : List �
   abbrev r : Handed
   r = ctQuery S d b W ts
 
-  say-decided : IsCovered S d b W ⊎ IsNotCovered S d b W → ((c : ℕ) × SaysCovered r ts c) ⊎ ((c : ℕ) × SaysNot r ts c)
-  say-decided (inl (n, c, e)) = inl (c, (n, says S d b W ts long (Covered n c) .1 e))
-  say-decided (inr (c, e)) = inr (c, says S d b W ts long (NotCovered c) .1 e)
+  ct-decided : IsCovered S d b W ⊎ IsNotCovered S d b W → ((c : ℕ) × SaysCovered r ts c) ⊎ ((c : ℕ) × SaysNot r ts c)
+  ct-decided (inl (n, c, e)) = inl (c, (n, says S d b W ts long (Covered n c) .1 e))
+  ct-decided (inr (c, e)) = inr (c, says S d b W ts long (NotCovered c) .1 e)
 
-  say-short : IsSpent S d b W ⊎ ((n : ℕ) × (c : ℕ) × (query S d b W .answer ≡ Covered n c) × (c ≤ b))
+  ct-less : IsSpent S d b W ⊎ ((n : ℕ) × (c : ℕ) × (query S d b W .answer ≡ Covered n c) × (c ≤ b))
       → SaysSpent r ts b ⊎ ((c : ℕ) × (c ≤ b) × SaysCovered r ts c)
-  say-short (inl s) = inl (says S d b W ts long (Unanswered (Spent b)) .1 s)
-  say-short (inr (n, c, e, l)) = inr (c, l, (n, says S d b W ts long (Covered n c) .1 e))
+  ct-less (inl s) = inl (says S d b W ts long (Unanswered (Spent b)) .1 s)
+  ct-less (inr (n, c, e, l)) = inr (c, l, (n, says S d b W ts long (Covered n c) .1 e))
 
   ct-exact : CtExact d b ts r
   ct-exact =
       record {
         exact = λ c s. E .exact c (says S d b W ts long (NotCovered c) .0 s);
-        enough = λ h. say-decided (E .enough h);
-        short = λ h. say-short (E .short h);
+        at-most = λ c s. E .at-most (s .0) c (says S d b W ts long (Covered (s .0) c) .0 (s .1));
+        enough = λ h. ct-decided (E .enough h);
+        less = λ h. ct-less (E .less h);
       }
 
 pub ct-exact-count : CtExactCount
-ct-exact-count T xs R some single d W ts P b =
+ct-exact-count T xs R some units d W ts P b =
     let ys : List Call = callsMade xs in
-    rw (tree-words T xs) (ct-exact T ys d b W ts (P .told) (exact-count T ys (run-of T xs R) some single d (P .clause) b W (P .witness)))
+    rw (tree-words T xs) (ct-exact T ys d b W ts (P .told) (exact-count T ys (run-of T xs R) some units d (P .clause) b W (P .witness)))

@@ -12,7 +12,7 @@ use Rattle.tree.specs.Entries.{Pair}
 use Rattle.tree.specs.Calls.{fresh, insertion, removal}
 use Rattle.walk.specs.Ceiling.{ceiling, fullBudget, ceilingCall}
 use Rattle.walk.specs.Query.{witnessWords, withShown, query}
-use Rattle.walk.specs.Covering.{most, Singles, Subsumed, Shows, Untouched, candidates}
+use Rattle.walk.specs.Covering.{most, Units, Subsumed, Shows, Untouched, candidates}
 use Rattle.book.specs.Book.{Call, insert, remove, Fit, AllFit, bookStep, bookOf, treeOf}
 use Rattle.book.specs.Claims.{Under, Renamed}
 use Rattle.interface.specs.Told.{toldBy}
@@ -141,20 +141,22 @@ pub record CtTogether (S : List ℕ) (xs : List Made) (T : List ℕ) (ys : List 
 abbrev pub CtDemand3 : Type 0
 CtDemand3 = (S : List ℕ) (xs : List Made) (T : List ℕ) (ys : List Made) → CtRun S xs → CtRun T ys → CtTogether S xs T ys
 
--- what ct_query hands over for the clause d and the budget b, where at least one clause is kept and every kept one has a single literal; q is the
--- number of d's literals
+-- what ct_query hands over for the clause d, the budget b and the told words ts, where units are kept, at least one, and nothing else; q is the number
+-- of d's literals
 pub record CtExact (d : List ℕ) (b : ℕ) (ts : List ℕ) (r : Handed) : Type 0 where
   -- not covered: the count that is told is exactly q
   pub exact : (c : ℕ) → SaysNot r ts c → c ≡ length (literals d)
+  -- covered: it is at most q
+  pub at-most : (c : ℕ) → SaysCovered r ts c → c ≤ length (literals d)
   -- every budget of q or more is enough
   pub enough : length (literals d) ≤ b → ((c : ℕ) × SaysCovered r ts c) ⊎ ((c : ℕ) × SaysNot r ts c)
   -- one below q is spent, unless d is covered within it
-  pub short : b < length (literals d) → SaysSpent r ts b ⊎ ((c : ℕ) × (c ≤ b) × SaysCovered r ts c)
+  pub less : b < length (literals d) → SaysSpent r ts b ⊎ ((c : ℕ) × (c ≤ b) × SaysCovered r ts c)
 
 -- One literal, an exact count
 abbrev pub CtExactCount : Type 0
 CtExactCount =
-    (T : List ℕ) (xs : List Made) → CtRun T xs → 1 ≤ length (ctBook T xs) → Singles (ctBook T xs)
+    (T : List ℕ) (xs : List Made) → CtRun T xs → 1 ≤ length (ctBook T xs) → Units (ctBook T xs)
     → (d W ts : List ℕ) → Askable d W ts → (b : ℕ) → CtExact d b ts (ctQuery (ctTree T xs) d b W ts)
 
 -- ---- nothing is lost on the way out

@@ -1,5 +1,6 @@
 -- What the sequence of a clause is made of.
 use mathlib.Core.Path.{_≡_, refl, ap, _∙_}
+use mathlib.Core.Logic.{_≢_}
 use mathlib.Core.List.{List, [], _∷_, _++_, map, flatten}
 use Prim.Native.Nat.{ℕ, zero, suc, _+_, _^_, _≤_, _<_}
 use native.Mathlib.Omega.{arith}
@@ -156,8 +157,8 @@ pub sequence-firsts : (c : List ℕ) → Clause c → firsts (sequence c) ≡ le
 unfolding sequence
 sequence-firsts c C = rw (C .whole) at (firsts-literals (C .all) [] 0 0)
 
--- the first of them at its head
-pub sequence-begins : (c : List ℕ) → Clause c → (rest : List Instr) × (sequence c ≡ First ∷ rest)
+-- a clause's sequence begins with First
+pub sequence-begins : (c : List ℕ) → c ≢ [] → (rest : List Instr) × (sequence c ≡ First ∷ rest)
 unfolding sequence
-sequence-begins [] C = absurd (C .nonempty refl)
-sequence-begins (w ∷ ws) C = (sequenceFrom (w ∷ ws) (inside 0 []) [] 0 0, sequence-first w ws [] 0 0)
+sequence-begins [] h = absurd (h refl)
+sequence-begins (w ∷ ws) h = (sequenceFrom (w ∷ ws) (inside 0 []) [] 0 0, sequence-first w ws [] 0 0)

@@ -23,10 +23,10 @@ use Rattle.tree.specs.Calls.{Called, changed}
 use Rattle.tree.specs.Refusal.{codeOf}
 use Rattle.walk.specs.Walk.{Answer, covered, notCovered, spent, broken, upTo, walk}
 use Rattle.walk.specs.Query.{machine, witnessWords, answerBy, query}
-use Rattle.walk.specs.Covering.{Subsumed, Shows, candidates, IsCovered, IsNotCovered, IsSpent, Answers}
+use Rattle.walk.specs.Covering.{Units, Subsumed, candidates, IsCovered, IsNotCovered, IsSpent, Answers}
 use Rattle.book.specs.Book.{insert, Fit, AllFit, after, bookStep, bookFrom, treeOf}
 use Rattle.record.specs.Answer.{budget, treeWords, Record, insertedAs, answerAs, answerTo, callsOn, callsFor}
-use Rattle.record.specs.Ruled.{pairOf, Numbered, wordsOf, Decided, Uncovered, Takes, Strikes, Reason, faulty, number-taken, list-full, no-room, over-budget, Ruled}
+use Rattle.record.specs.Ruled.{pairOf, Numbered, wordsOf, Decided, Uncovered, Takes, Strikes, Reason, faulty, number-taken, list-full, no-room, over-budget, Ruled, RuledByUnits}
 use Rattle.clause.specs.declared.Fault.{Fault}
 use Rattle.clause.specs.declared.Fault.the-variants.{BadLength, Bad, Ninth}
 use Rattle.clause.specs.declared.Shape.{Shape}
@@ -51,9 +51,10 @@ use Rattle.tree.proofs.Count.{book-size}
 use Rattle.tree.proofs.InsertWords.{ins-leaves}
 use Rattle.tree.proofs.Mirror.{mirrors-ins, mirrors-build}
 use Rattle.tree.proofs.Changes.{Inserts, refused, grown, inserts}
-use Rattle.walk.proofs.Kept.{kept-pair, pair-kept, finds-shows, subsumes-finds}
-use Rattle.walk.proofs.Covering.{query-tree, answers, decided-fits, shows-subsumes}
+use Rattle.walk.proofs.Kept.{kept-pair, pair-kept, subsumes-finds}
+use Rattle.walk.proofs.Covering.{query-tree, answers, decided-fits, shows-subsumes, finds-subsumed}
 use Rattle.book.proofs.Holds.{Holds, holds-leaves}
+use Rattle.book.proofs.Exact.{holds-few, holds-exact}
 use Rattle.book.proofs.Step.{insertion-is}
 
 -- the witness of every query is long enough
@@ -63,8 +64,8 @@ witness-long = rw (length-replicate {A = ℕ} witnessWords 0) (omega arith)
 -- ---- a variant of a clause is subsumed by it
 
 -- the only clause that there is
-lone : (p r : Pair) (d W : List ℕ) → List·Memᴰ r (p ∷ []) → Shows (r .clause) d W → Subsumes (p .clause) d
-lone p r d W m s = rw (List·Memᴰ·eq-of-singleton m) at (shows-subsumes (r .clause) d W s)
+lone : (p : Pair) (d : List ℕ) → Subsumed (p ∷ []) d → Subsumes (p .clause) d
+lone p d (r, m, s) = rw (List·Memᴰ·eq-of-singleton m) at s
 
 variant-subsumed : (p : Pair) (d : List ℕ) → Sound p → Accepted d → Words d → keys d ≡ keys (p .clause) → Subsumes (p .clause) d
 variant-subsumed p d s D w e =
@@ -75,8 +76,7 @@ variant-subsumed p d s D w e =
     let R : Mirrors F (map entry (p ∷ [])) = mirrors-build (map entry (p ∷ [])) a in
     let Q : Mirrors F (map entry (q ∷ [])) = rw e R in
     let (t, f) = subsumes-finds (q ∷ []) F (also (record { accepted = D; words = w; number = s .number }) none) Q d D q (List·Memᴰ·head refl) (subsumes-refl d) in
-    let (r, m, i, shows, spared) = finds-shows (p ∷ []) F (also s none) R d D (p .number) t f (replicate witnessWords 0) witness-long in
-    lone p r d _ m shows
+    lone p d (finds-subsumed (p ∷ []) F (also s none) R d D (p .number) t f)
 
 -- ---- the cases exclude each other
 
@@ -135,7 +135,7 @@ module _ {K : List Pair} {x : Record} where
   reason-code (over-budget a b) = List·Memᴰ·tail (List·Memᴰ·tail (List·Memᴰ·tail (List·Memᴰ·tail (List·Memᴰ·tail (List·Memᴰ·tail (List·Memᴰ·head refl))))))
 
   -- 12 comes from an accepted clause with more candidates than the budget
-  pub reason-spent : {c : ℕ} → Reason K x c → c ≡ 12 → Accepted (x .words) × (budget < candidates (treeOf K) (x .words))
+  reason-spent : {c : ℕ} → Reason K x c → c ≡ 12 → Accepted (x .words) × (budget < candidates (treeOf K) (x .words))
   reason-spent (faulty BadLength e) i = absurd (omega arith)
   reason-spent (faulty (Bad at) e) i = absurd (omega arith)
   reason-spent (faulty (Ninth at) e) i = absurd (omega arith)
@@ -196,6 +196,17 @@ ruled {K} {x} (keeps t) =
       codes = λ d e. absurd (kept-code (wordsOf (pairOf x ∷ K)) d e);
       grows = λ h. refl;
       stays = λ n. absurd (n (wordsOf (pairOf x ∷ K), refl));
+    }
+
+-- over a book of units
+pub ruled-by-units : {K L : List Pair} {x : Record} {o : Outcome} → Holds treeWords K (treeOf K) → Units K → Ruled K x o L → RuledByUnits K x o
+ruled-by-units {x = x} h u r =
+    record {
+      exact = λ some (used, e).
+          let free : Uncovered _ x = r .kept used .0 e .0 .uncovered in
+          holds-exact h u (x .words) some (free .decided .accepted) (free .unsubsumed);
+      at-most = λ n k e. omega (arith, holds-few h u (x .words), r .strikes n k .0 e .count);
+      enough = λ e. let (D, over) = reason-spent (r .refused 12 .0 e) refl in omega (arith, holds-few h u (x .words), accepted (x .words) D .few);
     }
 
 -- ---- the insertion

@@ -14,14 +14,10 @@ use Rattle.record.specs.Output.{recordsOf, Row, rowOn, freshSlice, rowsO
 use Rattle.record.specs.Ruled.{pairOf}
 use Rattle.record.specs.Sheet.{Bytes, bookAfter, keptPairs, BookStands, KeptCovers, RowAt, RowClaims, Covers, Sheets, NoStrikeIsWrong}
 use Rattle.tree.specs.declared.CallAnswer.the-variants.{Ready}
-use Rattle.clause.specs.Clause.{literals}
-use Rattle.clause.proofs.Literals.{accepted}
-use Rattle.walk.specs.Covering.{Singles, candidates}
-use Rattle.walk.proofs.Singles.{single-bounded}
 use Rattle.clause.proofs.Order.{subsumes-refl}
 use Rattle.book.proofs.Holds.{holds-empty, fresh-layout, holds-numbers, holds-clauses}
 use Rattle.record.proofs.Reading.{complete, input-fits}
-use Rattle.record.proofs.Ruling.{Fate, reason-spent, ruled}
+use Rattle.record.proofs.Ruling.{Fate, ruled, ruled-by-units}
 use Rattle.record.proofs.Rows.{book-append, Standing, standing-after, Made, made, rows-records, made-first, made-last, made-row, made-fit, Fated}
 use Rattle.record.proofs.Rows.{fated, fated-first, fated-last, fated-row, kept-book, kept-count, threeOf, counted-three, rows-counted}
 use Rattle.record.proofs.Rows.{kept-mem, mem-kept, StruckBy, fate-struck, struck-book}
@@ -91,12 +87,6 @@ module _ {rs : List Row} (m : Made freshSlice rs) (f : Fated [] rs) (a : RowAt r
   made-before : Made freshSlice (a .before)
   made-before = made-first (a .before) (a .this ∷ a .after) freshSlice made-here
 
-  -- the candidates over a book of single literals
-  few : Singles (bookAfter (a .before)) → candidates (treeOf (bookAfter (a .before))) (a .this .of .words) ≤ length (literals (a .this .of .words))
-  few s =
-      let h = standing made-before .holds in
-      single-bounded (bookAfter (a .before)) (treeOf (bookAfter (a .before))) (h .sound) (h .keeps .mirrors) s (a .this .of .words)
-
   placed : RowClaims a
   placed =
       record {
@@ -104,10 +94,7 @@ module _ {rs : List Row} (m : Made freshSlice rs) (f : Fated [] rs) (a : RowAt r
         stands = stands made-before;
         ruled = ruled fate-here;
         earlier = λ n k e. earlier-row (a .before) (fated-first (a .before) (a .this ∷ a .after) [] fated-here) (a .this .of) n (fate-struck fate-here n k e);
-        single = λ s n k e. omega (arith, few s, ruled fate-here .strikes n k .0 e .count);
-        unspent = λ s e.
-            let (D, over) = reason-spent (ruled fate-here .refused 12 .0 e) refl in
-            omega (arith, few s, accepted (a .this .of .words) D .few);
+        units = λ u. ruled-by-units (standing made-before .holds) u (ruled fate-here);
       }
 
 -- ---- the whole input

@@ -1,10 +1,10 @@
 -- What becomes of one record, by the clause book before it.
 use mathlib.Core.Path.{_≡_}
-use mathlib.Core.Logic.{_↔_}
+use mathlib.Core.Logic.{_↔_, _≢_}
 use mathlib.Core.List.{List, [], _∷_, map, List·Memᴰ}
 use Prim.Native.Nat.{ℕ, _≤_, _<_}
 use lib.ListN.{length, replicate}
-use Rattle.clause.specs.Clause.{shape, Accepted, Subsumes}
+use Rattle.clause.specs.Clause.{shape, Accepted, literals, Subsumes}
 use Rattle.machine.specs.Machine.{State, initial}
 use Rattle.tree.specs.Laid.{maxKept}
 use Rattle.tree.specs.Entries.{Pair, entry}
@@ -97,3 +97,12 @@ pub record Ruled (K : List Pair) (x : Record) (o : Outcome) (L : List Pair) : Ty
   -- the book has one pair more exactly where it is kept
   pub grows : IsKept o → L ≡ pairOf x ∷ K
   pub stays : (IsKept o → ⊥) → L ≡ K
+
+-- the candidates of its query, where every clause of the book is a unit: it has a single literal
+pub record RuledByUnits (K : List Pair) (x : Record) (o : Outcome) : Type 0 where
+  -- kept, where the book has a clause already: exactly as many as it has literals
+  pub exact : 1 ≤ length K → IsKept o → candidates (treeOf K) (x .words) ≡ length (literals (x .words))
+  -- struck: at most as many, as its line says
+  pub at-most : (n k : ℕ) → o ≡ Struck n k → k ≤ length (literals (x .words))
+  -- so 12 is never its code
+  pub enough : o ≢ Refused 12

@@ -2,18 +2,18 @@
 use mathlib.Core.Path.{_≡_}
 use mathlib.Core.Logic.{_≢_, _⊎_}
 use mathlib.Core.List.{List, [], _∷_, _++_, map, List·Memᴰ}
-use Prim.Native.Nat.{ℕ, _+_, _≤_, _<_}
+use Prim.Native.Nat.{ℕ, _+_, _<_}
 use lib.ListN.{length}
 use Rattle.clause.specs.Lists.{All, Each}
-use Rattle.clause.specs.Clause.{literals, Subsumes}
+use Rattle.clause.specs.Clause.{Subsumes}
 use Rattle.machine.specs.Compile.{Variants}
 use Rattle.tree.specs.Entries.{Pair}
-use Rattle.walk.specs.Covering.{Singles, Subsumed}
+use Rattle.walk.specs.Covering.{Units, Subsumed}
 use Rattle.book.specs.Book.{sliceOf, bookOf}
 use Rattle.book.specs.Claims.{Run}
 use Rattle.record.specs.Answer.{treeWords, Record}
 use Rattle.record.specs.Output.{fields, recordsOf, Row, rowOn, freshSlice, rowsOf, rowCalls, totalsWith, none}
-use Rattle.record.specs.Ruled.{pairOf, IsKept, IsStruck, Ruled}
+use Rattle.record.specs.Ruled.{pairOf, IsKept, IsStruck, Ruled, RuledByUnits}
 use Rattle.record.specs.declared.Outcome.{Outcome}
 use Rattle.record.specs.declared.Outcome.the-variants.{Kept, Struck, Refused}
 
@@ -38,7 +38,7 @@ abbrev pub keptPairs : List Row → List Pair
 keptPairs [] = []
 keptPairs (r ∷ rs) = keptPairs rs ++ keptOn (r .outcome) (r .of)
 
--- their calls are a list of which `Reach`, `Demand2` and `Demand3` speak; in the book they leave, numbers differ and no two clauses are variants
+-- their calls are a list of which `Reach`, `Demand2`, `Demand3` and `ExactCount` speak; in the book they leave, numbers differ and no two clauses are variants
 pub record BookStands (rs : List Row) : Type 0 where
   pub calls : Run freshSlice (rowCalls rs)
   pub numbers : Each (λ p q. p .number ≢ q .number) (bookAfter rs)
@@ -70,9 +70,8 @@ pub record RowClaims {rs : List Row} (a : RowAt rs) : Type 0 where
   pub ruled : Ruled (bookAfter (a .before)) (a .this .of) (a .this .outcome) (bookAfter (a .before ++ (a .this ∷ [])))
   -- where it is struck, an earlier row says that the number was kept, and the clause of that row subsumes this one's
   pub earlier : (n k : ℕ) → a .this .outcome ≡ Struck n k → KeptCovers (a .before) n (a .this .of)
-  -- where each clause of the book before it has a single literal, it is struck after at most as many candidates as it has literals, and 12 is not its code
-  pub single : Singles (bookAfter (a .before)) → (n k : ℕ) → a .this .outcome ≡ Struck n k → k ≤ length (literals (a .this .of .words))
-  pub unspent : Singles (bookAfter (a .before)) → a .this .outcome ≢ Refused 12
+  -- where that book has units only
+  pub units : Units (bookAfter (a .before)) → RuledByUnits (bookAfter (a .before)) (a .this .of) (a .this .outcome)
 
 -- ---- the whole input
 

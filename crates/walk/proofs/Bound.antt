@@ -16,7 +16,7 @@ use Rattle.walk.specs.Ceiling.{powers, ceiling}
 use Rattle.tree.proofs.InsertWords.{leaf-number}
 use Rattle.walk.proofs.Paths.{Leads, FullAt, Full, firsts}
 use Rattle.walk.proofs.Shallow.{ShallowAt, Shallow, shallow}
-use Rattle.walk.proofs.Count.{Counts, of-covered, of-notCovered, of-broken, counts-map, counts-then, counts-follow, counts-attempt}
+use Rattle.walk.proofs.Count.{Counts, of-covered, of-notCovered, of-broken, counts-map, ends-then, ends-follow, ends-attempt}
 
 -- the powers, first factor first
 powers-suc : (q m : ℕ) → powers q (suc m) ≡ q * suc (powers q m)
@@ -58,7 +58,7 @@ Adds x k = (c : ℕ) → Counts (λ d. d ≤ c + x) (k c)
 
 -- one part, then the next
 adds-then : {S : Type 0} {a : Answer S} {k : Part S} (x y c : ℕ) → Counts (λ d. d ≤ c + x) a → Adds y k → Counts (λ d. d ≤ c + (x + y)) (andThen a k)
-adds-then x y c h k = counts-then h (λ d l. omega arith) (λ d l. counts-map (λ e l′. omega arith) (k d))
+adds-then x y c h k = ends-then h (λ d l. omega arith) (λ d l. counts-map (λ e l′. omega arith) (k d))
 
 -- n candidates, with l × g at most below each, come to at most l × (n × (1 + g))
 spread : (n l g : ℕ) → 0 < l → n * suc (l * g) ≤ l * (n * suc g)
@@ -72,7 +72,7 @@ module _ (M : Machine) (allow : ℕ → Bool) where
   adds-tries x below h s (suc n) j c =
       counts-map (λ d l. omega arith)
       (adds-then (suc x) (n * suc x) c
-      (counts-attempt allow below c (M .enter j s) (omega arith) (λ t e. counts-map (λ d l. omega arith) (h t (suc c))))
+      (ends-attempt allow below c (M .enter j s) (λ e. omega arith) (λ t e. counts-map (λ d l. omega arith) (h t (suc c))))
       (adds-tries x below h s n (suc j)))
 
   -- a node
@@ -81,14 +81,14 @@ module _ (M : Machine) (allow : ℕ → Bool) where
       → ((m : ℕ) → Full B → Shallow B m → (s : M .State) → Adds (leaves B * powers (M .queryLiterals) m) (walk M allow B s))
       → (s : M .State) → Adds (leaves B * powers (M .queryLiterals) m) (visitAt M allow o (walk M allow B) s)
   adds-visit none B m b f h ih s c = of-broken
-  adds-visit (some (Success n)) B m b f h ih s c = counts-follow (covered n) c (M .finish s) (omega arith) (λ t e. of-covered {c = c} (omega arith))
+  adds-visit (some (Success n)) B m b f h ih s c = ends-follow (covered n) c (M .finish s) (omega arith) (λ t e. of-covered {c = c} (omega arith))
   adds-visit (some First) B (suc m) b f h ih s c =
       let q : ℕ = M .queryLiterals in
       let l : ℕ = leaves B in
       let g : ℕ = powers q m in
       let fits : q * suc (l * g) ≤ l * powers q (suc m) = rw (powers-suc q m) (spread q l g (leaves-pos 0 B b (f .0))) in
       counts-map (λ e u. omega arith) (adds-tries (l * g) (walk M allow B) (ih m (f .1) h) s q 0 c)
-  adds-visit (some (Do x)) B m b f h ih s c = counts-follow (walk M allow B) c (M .step x s) (omega arith) (λ t e. ih m (f .1) h t c)
+  adds-visit (some (Do x)) B m b f h ih s c = ends-follow (walk M allow B) c (M .step x s) (omega arith) (λ t e. ih m (f .1) h t c)
 
   -- a forest
   adds-walk : (F : Forest) (m b : ℕ) → Formed b F → Full F → Shallow F m → (s : M .State)

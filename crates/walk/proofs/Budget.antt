@@ -9,7 +9,7 @@ use Rattle.machine.specs.Instr.{Instr, First, Do, Success, instrOf}
 use Rattle.machine.specs.Machine.{Effect, next, fails, stuck}
 use Rattle.tree.specs.Forest.{Forest, empty, node}
 use Rattle.walk.specs.Walk.{Machine, Answer, covered, notCovered, spent, broken, Part, andThen, follow, count, attempt, upTo, always, tries, visitAt, walk}
-use Rattle.walk.proofs.Count.{Counts, counts-map, counts-then, Rises, rises-tries, rises}
+use Rattle.walk.proofs.Count.{Counts, counts-map, ends-then, Rises, rises-tries, rises}
 
 -- the second answer is the first one as a budget of b leaves it: the same up to b, else spent; a broken walk is broken or spent
 pub data Capped {S : Type 0} (b : ℕ) : Answer S → Answer S → Type 0 where
@@ -28,7 +28,7 @@ module _ {S : Type 0} {b : ℕ} where
   capped-then (as-covered h) w r = as-covered h
   capped-then (as-notCovered {c = c} h) w r = w c h
   capped-then as-broken w r = as-broken
-  capped-then (over h) w r = over (counts-then h (λ c l. l) (λ c l. counts-map (λ d l′. omega arith) (r c)))
+  capped-then (over h) w r = over (ends-then h (λ c l. l) (λ c l. counts-map (λ d l′. omega arith) (r c)))
 
   -- one more, if the budget has it
   capped-count : (k k′ : Part S) → Within b k k′ → Rises k → (c : ℕ) → Capped b (k (suc c)) (count (leb (suc c) b) k′ c)

@@ -5,7 +5,7 @@ use mathlib.Core.List.{List, [], map}
 use Prim.Native.Nat.{ℕ, _-_, _≤_, _<_}
 use native.Mathlib.Omega.{arith}
 use native.Mathlib.Decide.{decLe}
-use lib.ListN.{length, getD}
+use lib.ListN.{length, getD, replicate, length-replicate}
 use borrow.Author.Tests.{le-leb, le-ltb}
 use Rattle.clause.specs.Lists.{All}
 use Rattle.clause.specs.Clause.{Accepted, literals, Subsumes}
@@ -42,7 +42,7 @@ shows-subsumes c d W S =
     }
 
 -- the ceiling bounds the count, where there is one
-counted-le : {x : ℕ} {a : Answer State} → Counts (λ c. c ≤ x) a → countOf a ≤ x
+pub counted-le : {x : ℕ} {a : Answer State} → Counts (λ c. c ≤ x) a → countOf a ≤ x
 counted-le (of-covered h) = h
 counted-le (of-notCovered h) = h
 counted-le of-spent = omega arith
@@ -67,11 +67,20 @@ module _ (len : ℕ) (F : Forest) (low : 2 ≤ len) (high : len ≤ 65_536) (roo
         walkWords-encode (machine d) (upTo b) 0 F f (omega arith),
       )
 
-module _ (K : List Pair) (F : Forest) (S : All Sound K) (R : Mirrors F (map entry K)) (n : leaves F ≡ length K) (d : List ℕ) (D : Accepted d) where
+module _ (K : List Pair) (F : Forest) (S : All Sound K) (R : Mirrors F (map entry K)) (d : List ℕ) (D : Accepted d) where
   -- the walk without a budget decides what is kept
-  walk-decides : Decides (Finds (machine d) F initial) (walk (machine d) always F initial 0)
+  pub walk-decides : Decides (Finds (machine d) F initial) (walk (machine d) always F initial 0)
   walk-decides = decides (machine d) F initial 0 (smooth (machine d) F initial (formed-full 0 F (R .formed)) (kept-steady K F S R d D))
 
+  -- where it finds something, some kept clause subsumes d
+  pub finds-subsumed : (n : ℕ) (t : State) → Finds (machine d) F initial n t → Subsumed K d
+  finds-subsumed n t f =
+      let W : List ℕ = replicate witnessWords 0 in
+      let long : witnessWords ≤ length W = omega (arith, length-replicate {A = ℕ} witnessWords 0) in
+      let (p, m, at, shows, spared) = finds-shows K F S R d D n t f W long in
+      (p, m, shows-subsumes (p .clause) d (withShown (shown t) W) shows)
+
+module _ (K : List Pair) (F : Forest) (S : All Sound K) (R : Mirrors F (map entry K)) (n : leaves F ≡ length K) (d : List ℕ) (D : Accepted d) where
   -- it takes no more candidates than the ceiling
   pub kept-bounded : candidates F d ≤ ceiling (length K) (length (literals d)) (most K)
   kept-bounded =
@@ -111,8 +120,8 @@ module _ (K : List Pair) (F : Forest) (S : All Sound K) (R : Mirrors F (map entr
           counts-not = λ c′ v. apart cc;
           spends = (λ v. apart cc, λ l. absurd (omega arith));
           untouched = λ v. apart cc;
-          decides = λ l. (λ v. (p, m, shows-subsumes (p .clause) d (withShown (shown t) W) S′), λ v. (n, c, is));
-          denies = λ l. (λ v. let f = v .1 in apart cc, λ none. absurd (none (p, m, shows-subsumes (p .clause) d (withShown (shown t) W) S′)));
+          decides = λ l. (λ v. finds-subsumed K F S R d D n t g, λ v. (n, c, is));
+          denies = λ l. (λ v. let f = v .1 in apart cc, λ none. absurd (none (finds-subsumed K F S R d D n t g)));
           bounded = kept-bounded;
         }
     answers-from (covered n t c) a′ e (found g) (over (of-covered h)) u =
@@ -142,7 +151,7 @@ module _ (K : List Pair) (F : Forest) (S : All Sound K) (R : Mirrors F (map entr
   -- the queries of a tree that keeps some clauses
   pub answers : (len : ℕ) → 2 ≤ len → len ≤ 65_536 → size F < len → (b : ℕ) (W : List ℕ) → witnessWords ≤ length W → Answers K F (layout len F) d b W
   answers len low high room b W long =
-      answers-from b W long (layout len F) (walk (machine d) always F initial 0) (walk (machine d) (upTo b) F initial 0) refl walk-decides
+      answers-from b W long (layout len F) (walk (machine d) always F initial 0) (walk (machine d) (upTo b) F initial 0) refl (walk-decides K F S R d D)
       (capped (machine d) b F initial 0 (omega arith))
       (query-tree len F low high room d D b W long (R .formed))
 

@@ -172,10 +172,10 @@ module _ (K : List Pair) (F : Forest) (S : All Sound K) (R : Mirrors F (map entr
   kept-begins : (q : List ℕ) (n : ℕ) → Has F q n → front q n ≡ key First
   kept-begins q n h =
       let (p, m, is, at) = kept-pair K q n (R .paths q n .0 h) in
-      let (rest, e) = sequence-begins (p .clause) (accepted (p .clause) (all-mem S m .accepted)) in
+      let (rest, e) = sequence-begins (p .clause) (accepted (p .clause) (all-mem S m .accepted) .nonempty) in
       rw (is, e)
 
-  -- so the tree of one clause or more is one First
+  -- so the tree of one clause or more has one topmost node, a First
   pub one-first : 1 ≤ length K → (B : Forest) × (F ≡ node (key First) B empty)
   one-first h =
       let (p, m) = some-mem K h in

@@ -20,9 +20,9 @@ abbrev pub most : List Pair → ℕ
 most [] = 0
 most (p ∷ K) = max (length (literals (p .clause))) (most K)
 
--- every kept clause has a single literal
-abbrev pub Singles : List Pair → Type 0
-Singles = All (λ p. length (literals (p .clause)) ≡ 1)
+-- every kept clause is a unit: it has a single literal
+abbrev pub Units : List Pair → Type 0
+Units = All (λ p. length (literals (p .clause)) ≡ 1)
 
 -- some kept clause subsumes d
 abbrev pub Subsumed : List Pair → List ℕ → Type 0

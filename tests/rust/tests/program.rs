@@ -2,10 +2,13 @@
 mod drawn;
 mod sheet;
 
+use drawn::tally::Tally;
+use drawn::units::unit_page;
 use drawn::{Random, STYLES};
 use model::pages::{pages, record, record_counting};
-use model::program::{output, records};
-use sheet::expect_sheet;
+use model::program::{output, records, Outcome};
+use sheet::units::expect_units;
+use sheet::{expect_sheet, Report};
 use std::fs::{read, read_dir, read_to_string, remove_file, write, File};
 use std::io::Write;
 use std::os::fd::AsRawFd;
@@ -353,6 +356,72 @@ fn sheets_add_up() {
         let page = full_page(&mut random, words);
         expect_claims(&page, &format!("full page {words} with a sheet"));
     }
+}
+
+// What is claimed of the lines of a page of units, by the printed text and the matcher. Then every byte.
+fn expect_unit_page(page: &[u8], what: &str, tally: &mut Tally) {
+    let text = printed([page].into_iter());
+    let rulings = Report::of(&text).rulings;
+    expect_units(&rulings, &records(page), what);
+    expect_same(&text, &output(page), what);
+    tally.count("pages");
+    for (_, outcome) in &rulings {
+        tally.count(&match outcome {
+            Outcome::Kept { .. } => "kept".to_string(),
+            Outcome::Struck { candidates, .. } => format!("struck at literal {candidates}"),
+            Outcome::Refused { code } => format!("refused {code}"),
+        });
+    }
+}
+
+// The stored pages that are pages of units.
+const STORED_UNITS: [&str; 6] = [
+    "full-list",
+    "idle-clause",
+    "first-and-last",
+    "all-eighths",
+    "cut-strike",
+    "units",
+];
+
+// How often each line has to occur on pages of units.
+const LEAST_OF_UNITS: [(&str, u64); 16] = [
+    ("pages", 89),
+    ("kept", 5_000),
+    ("refused 3", 650),
+    ("refused 4", 700),
+    ("refused 5", 40),
+    ("refused 7", 2_200),
+    ("refused 10", 450),
+    ("refused 11", 450),
+    ("struck at literal 1", 9_500),
+    ("struck at literal 2", 2_400),
+    ("struck at literal 3", 1_250),
+    ("struck at literal 4", 750),
+    ("struck at literal 5", 500),
+    ("struck at literal 6", 250),
+    ("struck at literal 7", 100),
+    ("struck at literal 8", 40),
+];
+
+#[test]
+fn pages_of_units() {
+    let (mut random, mut tally) = (Random(16), Tally::default());
+    for (name, page) in pages() {
+        if STORED_UNITS.contains(&name) {
+            expect_unit_page(&page, name, &mut tally);
+        }
+    }
+    for i in 0..80 {
+        let drawn = 20 + random.below(30 + 8 * i);
+        let page = unit_page(&mut random, 0, drawn);
+        expect_unit_page(&page, &format!("page {i} of units"), &mut tally);
+    }
+    for numbered in [300, 1_020, 1_100] {
+        let page = unit_page(&mut random, numbered, 3_000);
+        expect_unit_page(&page, &format!("page of {numbered} units"), &mut tally);
+    }
+    tally.assert_least(&LEAST_OF_UNITS);
 }
 
 // More strikes by one clause than 16 bits count, and three times as many candidates.

@@ -1,199 +1,14 @@
 //! Random sets: lists of insertions, removals and queries on a tree, beside the clause book and an ordinary matcher.
 mod beside;
 mod drawn;
+mod set;
 
-use beside::Asked;
 use drawn::tally::Tally;
 use drawn::{Random, Style, STYLES};
-use model::book::Book;
-use model::calls::Cover;
-use model::compiler::sequence;
-use model::limits::{FULL_BUDGET, LITERALS, WITNESS_WORDS};
-use model::matcher::{same, search, shows, subsumes};
-use model::reader::{read, Term};
-use model::refusal::Refusal;
-use model::words::{arity, word, FUNCTION, NEGATIVE, POSITIVE, VARIABLE};
+use model::words::{word, FUNCTION, NEGATIVE, POSITIVE, VARIABLE};
+use set::Set;
 
-// A tree, the book of its calls, and the words that the book makes.
-struct Set<'a> {
-    tree: Vec<u64>,
-    book: Book,
-    words: Vec<u64>,
-    random: &'a mut Random,
-    tally: &'a mut Tally,
-}
-
-impl<'a> Set<'a> {
-    fn new(length: usize, random: &'a mut Random, tally: &'a mut Tally) -> Set<'a> {
-        let mut tree: Vec<u64> = (0..length).map(|_| random.next()).collect();
-        assert_eq!(beside::fresh(&mut tree), Ok(()));
-        tally.count("sets");
-        Set {
-            words: tree.clone(),
-            book: Book::new(length),
-            tree,
-            random,
-            tally,
-        }
-    }
-
-    // The model's call on words, which has to agree with the book, is run on the smaller slices.
-    fn by_words(&self) -> bool {
-        self.tree.len() < 160
-    }
-
-    fn insert(&mut self, clause: &[u16], number: u32) {
-        let before = self.tree.clone();
-        let answer = self.book.insert(clause, number);
-        if answer.is_ok() {
-            self.words = self.book.tree.words();
-            self.count_kept(clause);
-        }
-        self.tally.answer("insertions", "kept", answer);
-        beside::expect_insert(&mut self.tree, clause, number, answer, &self.words);
-        if self.by_words() {
-            let mut again = before;
-            assert_eq!(beside::insert(&mut again, clause, number), answer);
-            assert_eq!(again, self.words);
-        }
-    }
-
-    fn remove(&mut self, number: u32) {
-        let before = self.tree.clone();
-        let answer = self.book.remove(number);
-        if answer.is_ok() {
-            self.words = self.book.tree.words();
-        }
-        self.tally.answer("removals", "made", answer);
-        beside::expect_remove(&mut self.tree, number, answer, &self.words);
-        if self.by_words() {
-            let mut again = before;
-            assert_eq!(beside::remove(&mut again, number), answer);
-            assert_eq!(again, self.words);
-        }
-    }
-
-    fn ask(&mut self, clause: &[u16], budget: u64) -> Asked {
-        let witness_words = WITNESS_WORDS + self.random.below(3);
-        self.tally.count("queries in all");
-        beside::query(&self.tree, clause, budget, witness_words)
-    }
-
-    // A query at the full budget, then at others.
-    fn query(&mut self, clause: &[u16]) {
-        let full = self.ask(clause, FULL_BUDGET);
-        match full.answer {
-            Err(_) => {
-                self.tally.answer("queries", "", full.answer);
-                assert_eq!(full.answer.err(), read(clause).err());
-                assert!(full.unwritten());
-            }
-            Ok(cover) => {
-                let literals = read(clause).expect("an accepted query");
-                self.judge(&literals, cover, &full.witness);
-                self.judge_count(&literals, cover.count());
-                self.query_again(clause, &full, cover.count());
-            }
-        }
-    }
-
-    // Covered or not by the ordinary matcher; the witness by the definition of subsumption.
-    fn judge(&mut self, query: &[Term], cover: Cover, witness: &[u16]) {
-        let pairs = self.book.pairs.iter();
-        let covering: Vec<_> = pairs
-            .filter(|pair| subsumes(&pair.literals, query))
-            .collect();
-        let Cover::Covered { number, .. } = cover else {
-            assert!(covering.is_empty(), "not covered");
-            self.tally.count("queries not covered");
-            return;
-        };
-        let named = covering.iter().find(|pair| pair.number == number);
-        let kept = &named.expect("the clause named covers").literals;
-        assert!(shows(kept, query, witness));
-        self.tally.count("queries covered");
-        let variant = sequence(kept) == sequence(query);
-        self.tally.count_if("covered not by a variant", !variant);
-        self.tally
-            .count_if("covered by several", covering.len() > 1);
-    }
-
-    fn judge_count(&mut self, query: &[Term], count: u64) {
-        let (kept, most) = (self.book.pairs.len(), self.book.most_literals());
-        let ceiling = match most {
-            0 => 0,
-            _ => beside::ceiling(kept as u64, query.len() as u64, most as u64).unwrap(),
-        };
-        assert!(count <= ceiling);
-        if let [only] = &self.book.pairs[..] {
-            assert_eq!(search(&only.literals, query).1, count);
-            self.tally.count("counts with one clause kept");
-        }
-        self.tally
-            .count_if("counts at the ceiling", count == ceiling);
-    }
-
-    // With a budget of the count or more all is as with the full one; with less it is spent, and nothing is written.
-    fn query_again(&mut self, clause: &[u16], full: &Asked, count: u64) {
-        for budget in [count, count + 1, u64::MAX] {
-            let asked = self.ask(clause, budget);
-            assert_eq!(asked.answer, full.answer);
-            assert_eq!(
-                asked.witness[..WITNESS_WORDS],
-                full.witness[..WITNESS_WORDS]
-            );
-            let covered = matches!(asked.answer, Ok(Cover::Covered { .. }));
-            self.tally.count_if("small budgets covered", covered);
-            self.tally.count_if("small budgets not covered", !covered);
-        }
-        if count > 0 {
-            for budget in [count - 1, self.random.next() % count] {
-                let asked = self.ask(clause, budget);
-                assert_eq!(asked.answer, Err(Refusal::Spent(budget)));
-                assert!(asked.unwritten());
-                self.tally.count("small budgets spent");
-            }
-        }
-    }
-
-    fn count_kept(&mut self, clause: &[u16]) {
-        let literals = &self.book.pairs.last().expect("a kept clause").literals;
-        let before = |i: usize| literals[..i].iter();
-        let repeated = (1..literals.len()).any(|i| before(i).any(|l| same(l, &literals[i])));
-        let widest = clause.iter().any(|&word| arity(word) == 7);
-        for (what, so) in [
-            ("kept with a repeated literal", repeated),
-            ("kept with 60 or more words", clause.len() >= 60),
-            ("kept with 8 literals", literals.len() == LITERALS),
-            ("kept with 7 arguments", widest),
-        ] {
-            self.tally.count_if(what, so);
-        }
-    }
-
-    fn any_clause(&mut self, style: Style) -> Vec<u16> {
-        let pairs = self.book.pairs.iter();
-        let from: Vec<&[u16]> = pairs.map(|pair| &pair.words[..]).collect();
-        self.random.any_clause(style, &from)
-    }
-
-    // One of few numbers, or one of the largest.
-    fn any_number(&mut self) -> u32 {
-        match self.random.below(20) as u32 {
-            n @ 0..18 => n,
-            n => u32::MAX - (n - 18),
-        }
-    }
-
-    // A number to remove: mostly one that is in the book.
-    fn any_removal(&mut self) -> u32 {
-        let pairs = self.book.pairs.len();
-        if pairs == 0 || self.random.one_in(4) {
-            return self.any_number();
-        }
-        self.book.pairs[self.random.below(pairs)].number
-    }
-
+impl Set<'_> {
     // A removal, or a query and, every other time, the insertion of its clause.
     fn call(&mut self, style: Style) {
         if self.random.one_in(10) {
@@ -206,14 +21,6 @@ impl<'a> Set<'a> {
             let number = self.any_number();
             self.insert(&clause, number);
         }
-    }
-
-    // Removes every clause, after which all words are 0.
-    fn finish(&mut self) {
-        while let Some(pair) = self.book.pairs.first() {
-            self.remove(pair.number);
-        }
-        assert!(self.tree.iter().all(|&word| word == 0));
     }
 
     // A clause between those of a set that fills a tree: asked for, inserted and removed.
@@ -246,8 +53,8 @@ fn fill(length: usize, random: &mut Random, tally: &mut Tally) {
     set.finish();
 }
 
-// How often each thing has to occur; none is below what the program of random sets reached before this one.
-const LEAST: [(&str, u64); 28] = [
+// How often each thing has to occur; but for units, none is below what the program of random sets reached before this one.
+const LEAST: [(&str, u64); 30] = [
     ("sets", 6_003),
     ("queries in all", 600_000),
     ("insertions kept", 20_102),
@@ -270,6 +77,8 @@ const LEAST: [(&str, u64); 28] = [
     ("queries not covered", 31_359),
     ("counts at the ceiling", 22_112),
     ("counts with one clause kept", 5_000),
+    ("counts of units, covered", 9_500),
+    ("counts of units, not covered", 2_800),
     ("queries refused 3", 6_705),
     ("queries refused 4", 5_205),
     ("queries refused 5", 203),

@@ -45,6 +45,18 @@ impl Book {
         Ok(())
     }
 
+    /// The words of the kept clauses.
+    pub fn clauses(&self) -> Vec<&[u16]> {
+        self.pairs.iter().map(|pair| &pair.words[..]).collect()
+    }
+
+    /// The literals of the kept clauses, if at least one is kept and each has a single literal.
+    pub fn units(&self) -> Option<Vec<&Term>> {
+        let single = self.pairs.iter().all(|pair| pair.literals.len() == 1);
+        let literals = self.pairs.iter().flat_map(|pair| &pair.literals);
+        (single && !self.pairs.is_empty()).then(|| literals.collect())
+    }
+
     /// The most literals of a kept clause.
     pub fn most_literals(&self) -> usize {
         let literals = self.pairs.iter().map(|pair| pair.literals.len());

@@ -15,6 +15,18 @@ pub fn search(c: &[Term], d: &[Term]) -> (bool, u64) {
     (found, tries)
 }
 
+/// The place of the first literal of d that one of these units, clauses of a single literal, falls on.
+pub fn first_struck(units: &[&Term], d: &[Term]) -> Option<usize> {
+    let falls = |target| units.iter().any(|unit| fits(unit, target, &mut Vec::new()));
+    d.iter().position(falls)
+}
+
+/// The candidates that a query takes where units, one or more, are all that is kept: up to its first literal that one falls on, or all.
+pub fn unit_candidates(units: &[&Term], query: &[Term]) -> u64 {
+    let struck = first_struck(units, query);
+    struck.map_or(query.len(), |place| 1 + place) as u64
+}
+
 // For each variable that was met, in order, the term that it met; a variable met again is there again.
 type Replaced<'a> = Vec<(u16, &'a Term)>;
 

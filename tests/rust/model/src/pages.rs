@@ -54,6 +54,7 @@ pub fn pages() -> Vec<Page> {
         ("first-and-last", first_and_last()),
         ("all-eighths", all_eighths()),
         ("cut-strike", cut_strike()),
+        ("units", units()),
     ];
     pages.extend(cut_pages());
     pages
@@ -237,4 +238,33 @@ fn cut_strike() -> Vec<u8> {
     ];
     let page = records.concat();
     page[..page.len() - 1].to_vec()
+}
+
+// Five units; then records of q literals that one of them strikes at place p, numbered 100 × q + p: before it stand literals that are just missed,
+// behind it such as a unit falls on. Last, one of missed literals only: under a number that is taken, then behind a unit that strikes it.
+fn units() -> Vec<u8> {
+    // a unit, a literal on which it falls, and one that it misses
+    let rows: [[&[u16]; 3]; 5] = [
+        [&[P1, A], &[P1, A], &[P1, X]],
+        [&[P2, X, X], &[P2, F, Y, F, Y], &[P2, X, Y]],
+        [&[N2, G, X, Y, X], &[N2, G, A, B, A], &[N2, G, A, B, B]],
+        [&[p(1, 2), F, X], &[p(1, 2), F, A], &[p(1, 2), X]],
+        [&[p(0, 3)], &[p(0, 3)], &[P0]],
+    ];
+    let missed = |n: usize| (0..n).flat_map(|i| rows[i % 5][2]);
+    let met = |from: usize, to: usize| (from..to).flat_map(|i| rows[i % 5][1]);
+    let new = rows.iter().zip(1..).map(|(row, n)| record(n, row[0]));
+    let mut page: Vec<u8> = new.flatten().collect();
+    for q in 1..=8 {
+        for place in 1..=q {
+            let clause = missed(place - 1).chain(met(q + place, 2 * q + 1));
+            let clause: Vec<u16> = clause.copied().collect();
+            page.extend(record((100 * q + place) as u16, &clause));
+        }
+    }
+    let clause: Vec<u16> = missed(8).copied().collect();
+    page.extend(record(5, &clause));
+    page.extend(record(6, &[P0]));
+    page.extend(record(7, &clause));
+    page
 }

@@ -1,6 +1,7 @@
 //! Random clauses: few symbols and variables, new ones and such as are made from another clause.
 #![allow(dead_code)]
 pub mod tally;
+pub mod units;
 
 use model::words::{arity, is_head, is_variable, word, FUNCTION, NEGATIVE, POSITIVE, VARIABLE};
 
@@ -172,8 +173,8 @@ impl Random {
         }
     }
 
-    // The clause with a term for each variable that is to be replaced: a, f of it, g of a and it, or another variable.
-    fn instance(&mut self, c: &[u16], replaced: impl Fn(u16) -> bool) -> Vec<u16> {
+    /// The clause with a term for each variable that is to be replaced: a, f of it, g of a and it, or another variable.
+    pub fn instance(&mut self, c: &[u16], replaced: impl Fn(u16) -> bool) -> Vec<u16> {
         let shapes = self.next();
         let (a, f, g) = (0x0001, 0x0803, 0x1004);
         let term = |variable: u16| match shapes >> (variable % 8 * 2) & 3 {

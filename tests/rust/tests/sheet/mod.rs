@@ -1,24 +1,26 @@
 //! A printed text read back, and what is claimed of its tally sheet: it fits the lines above it and the records of the input.
-use std::collections::BTreeSet;
+pub mod units;
 
-// The numbers of a text: of its kept lines, of its struck lines the covering number and the candidates, the totals, the rows, the last line.
+use model::program::{Outcome, Ruling};
+use std::collections::BTreeSet;
+use std::str::FromStr;
+
+/// What a text says: of each record, then the totals, the rows and the last line.
 #[derive(Default)]
-struct Report {
-    kept: Vec<u64>,
-    struck: Vec<[u64; 2]>,
-    refused: usize,
+pub struct Report {
+    pub rulings: Vec<Ruling>,
     totals: [u64; 3],
     rows: Vec<[u64; 3]>,
     records: u64,
 }
 
-fn number(field: &str) -> u64 {
+fn number<T: FromStr>(field: &str) -> T {
     let value = field.parse();
     value.unwrap_or_else(|_| panic!("{field:?} is no number"))
 }
 
 impl Report {
-    fn of(text: &str) -> Report {
+    pub fn of(text: &str) -> Report {
         let mut report = Report::default();
         let mut lines = text.lines();
         while report.add(lines.next().expect("a line of totals")) {}
@@ -31,24 +33,42 @@ impl Report {
     // Adds a record's line or the totals; no line of a record follows these.
     fn add(&mut self, line: &str) -> bool {
         let fields: Vec<&str> = line.split(' ').collect();
-        match fields[..] {
-            [kept, "kept", _] => self.kept.push(number(kept)),
-            [_, "struck", by, count] => self.struck.push([by, count].map(number)),
-            [_, "refused", _] => self.refused += 1,
-            ["kept", kept, "struck", struck, "refused", refused] => {
-                self.totals = [kept, struck, refused].map(number);
-                return false;
-            }
-            _ => panic!("{line:?} before the totals"),
+        if let ["kept", kept, "struck", struck, "refused", refused] = fields[..] {
+            self.totals = [kept, struck, refused].map(number);
+            return false;
         }
+        let outcome = match fields[1..] {
+            ["kept", used] => Outcome::Kept { used: number(used) },
+            ["struck", by, count] => Outcome::Struck {
+                covering: number(by),
+                candidates: number(count),
+            },
+            ["refused", code] => Outcome::Refused { code: number(code) },
+            _ => panic!("{line:?} before the totals"),
+        };
+        self.rulings.push((number(fields[0]), outcome));
         true
     }
 
-    // The row that a number has by the struck lines.
-    fn row_of(&self, number: u64) -> [u64; 3] {
-        let strikes = self.struck.iter().filter(|[by, _]| *by == number);
-        let candidates = strikes.clone().map(|[_, count]| count);
-        [number, strikes.count() as u64, candidates.sum()]
+    // The numbers of the kept lines.
+    fn kept(&self) -> Vec<u64> {
+        let kept = |(number, outcome): &Ruling| {
+            let kept = matches!(outcome, Outcome::Kept { .. });
+            kept.then_some(u64::from(*number))
+        };
+        self.rulings.iter().filter_map(kept).collect()
+    }
+
+    // Of each struck line the covering number and the candidates.
+    fn struck(&self) -> Vec<[u64; 2]> {
+        let struck = |(_, outcome): &Ruling| match *outcome {
+            Outcome::Struck {
+                covering,
+                candidates,
+            } => Some([u64::from(covering), candidates]),
+            _ => None,
+        };
+        self.rulings.iter().filter_map(struck).collect()
     }
 }
 
@@ -58,21 +78,33 @@ fn row(line: &str) -> [u64; 3] {
     row.unwrap_or_else(|_| panic!("{line:?} as a row"))
 }
 
+// The row that a number has by the struck lines.
+fn row_of(number: u64, struck: &[[u64; 2]]) -> [u64; 3] {
+    let strikes = struck.iter().filter(|[by, _]| *by == number);
+    let candidates = strikes.clone().map(|[_, count]| count);
+    [number, strikes.count() as u64, candidates.sum()]
+}
+
 /// Asserts of the text that is printed of so many records: its rows are those of the numbers with a kept line, by rising number, each once and
 /// with what the struck lines come to that name it; strikes, candidates and records add up.
 pub fn expect_sheet(text: &str, records: usize, what: &str) {
     let report = Report::of(text);
+    let (kept, struck) = (report.kept(), report.struck());
     let numbers: Vec<u64> = report.rows.iter().map(|row| row[0]).collect();
-    let kept: BTreeSet<u64> = report.kept.iter().copied().collect();
-    assert!(kept.into_iter().eq(numbers), "{what}: the rows' numbers");
+    let ever_kept: BTreeSet<u64> = kept.iter().copied().collect();
+    assert!(
+        ever_kept.into_iter().eq(numbers),
+        "{what}: the rows' numbers"
+    );
     for row in &report.rows {
-        assert_eq!(*row, report.row_of(row[0]), "{what}: a row");
+        assert_eq!(*row, row_of(row[0], &struck), "{what}: a row");
     }
     let sum = |field: usize| report.rows.iter().map(|row| row[field]).sum::<u64>();
-    let candidates: u64 = report.struck.iter().map(|strike| strike[1]).sum();
+    let candidates: u64 = struck.iter().map(|strike| strike[1]).sum();
     assert_eq!(sum(1), report.totals[1], "{what}: strikes");
     assert_eq!(sum(2), candidates, "{what}: candidates");
-    let counted = [report.kept.len(), report.struck.len(), report.refused];
+    let refused = report.rulings.len() - kept.len() - struck.len();
+    let counted = [kept.len(), struck.len(), refused];
     assert_eq!(report.totals, counted.map(|n| n as u64), "{what}: totals");
     let records = records as u64;
     assert_eq!(report.totals.iter().sum::<u64>(), records, "{what}: totals");
