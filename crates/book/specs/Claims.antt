@@ -124,7 +124,7 @@ pub record Exact (T : List ℕ) (xs : List Call) (d : List ℕ) (b : ℕ) (W : L
   pub less : b < length (literals d)
       → IsSpent (sliceOf T xs) d b W ⊎ ((n : ℕ) × (c : ℕ) × (query (sliceOf T xs) d b W .answer ≡ Covered n c) × (c ≤ b))
 
--- One literal, an exact count: for every list of calls that keeps at least one clause, every one of a single literal, every query, budget and witness
+-- One literal, an exact count: for every list of calls that keeps at least one clause, and units only, and for every query, budget and witness
 abbrev pub ExactCount : Type 0
 ExactCount =
     (T : List ℕ) (xs : List Call) → Run T xs → 1 ≤ length (bookOf (length T) xs) → Units (bookOf (length T) xs)
