@@ -110,7 +110,8 @@ uint64_t ct_query(const uint64_t *tree, size_t n, const uint16_t *clause, size_t
 
 /*
  * A bound: a query of q literals takes no more candidates in a tree, made by these calls, of `kept` clauses of
- * at most m literals: kept * (q + q^2 + .. + q^m). With m = 1 it takes q at most (ct_query).
+ * at most m literals: kept * (q + q^2 + .. + q^m). With m = 1 such a query
+ * takes at most q (ct_query); the ceiling is still kept * q.
  * Returns 0, or 13. told: with 0 the ceiling; else nothing.
  */
 uint64_t ct_ceiling(uint64_t kept, uint64_t q, uint64_t m, uint64_t *told, size_t t);

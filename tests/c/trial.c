@@ -1,4 +1,4 @@
-/* The header, from C and from C++: a trial row of document 01, told words that are too few, a count with units kept. */
+/* The header, from C and from C++: a trial row of document 01, told words that are too few, a count with units. */
 #include "code_tree.h"
 
 #include <stdio.h>
@@ -17,7 +17,7 @@ int main(void) {
     const uint16_t kept[] = {0x8801, 0x4000, 0x8802, 0x4000};
     const uint16_t asked[] = {0x8801, 0x0001, 0x8801, 0x0002, 0x8802, 0x0002};
     const uint16_t cut[] = {0x8801};
-    /* P(a) and Q(a), and what they do not cover: P(b), Q(b) */
+    /* units, clauses of one literal: P(a) and Q(a); what they do not cover: P(b), Q(b) */
     const uint16_t units[] = {0x8801, 0x0001, 0x8802, 0x0001};
     const uint16_t missed[] = {0x8801, 0x0002, 0x8802, 0x0002};
     uint64_t tree[24];
@@ -50,11 +50,11 @@ int main(void) {
 
     expect("insert of a unit", ct_insert(tree, 24, units, 2, 1, NULL, 0), 0);
     expect("insert of another", ct_insert(tree, 24, units + 2, 2, 2, NULL, 0), 0);
-    expect("query with units kept", ct_query(tree, 24, missed, 4, 2, witness, CT_WITNESS_WORDS, told, 3), 0);
+    expect("query, units kept", ct_query(tree, 24, missed, 4, 2, witness, CT_WITNESS_WORDS, told, 3), 0);
     expect("not covered", told[0], 0);
     expect("as many candidates as literals", told[2], 2);
-    expect("one less", ct_query(tree, 24, missed, 4, 1, witness, CT_WITNESS_WORDS, told, 3), CT_SPENT);
-    expect("what they spent", told[0], 1);
+    expect("budget one short, units kept", ct_query(tree, 24, missed, 4, 1, witness, CT_WITNESS_WORDS, told, 3), CT_SPENT);
+    expect("spent count, units kept", told[0], 1);
 
     expect("ceiling", ct_ceiling(1024, 8, 8, told, 1), 0);
     expect("ceiling's value", told[0], 19634135040u);

@@ -120,7 +120,7 @@ pub record Exact (T : List ℕ) (xs : List Call) (d : List ℕ) (b : ℕ) (W : L
   pub at-most : (n c : ℕ) → query (sliceOf T xs) d b W .answer ≡ Covered n c → c ≤ length (literals d)
   -- every budget of q or more is enough
   pub enough : length (literals d) ≤ b → IsCovered (sliceOf T xs) d b W ⊎ IsNotCovered (sliceOf T xs) d b W
-  -- one below q is spent, unless d is covered within it
+  -- a smaller one is spent, unless d is covered within it
   pub less : b < length (literals d)
       → IsSpent (sliceOf T xs) d b W ⊎ ((n : ℕ) × (c : ℕ) × (query (sliceOf T xs) d b W .answer ≡ Covered n c) × (c ≤ b))
 

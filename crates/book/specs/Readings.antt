@@ -110,7 +110,7 @@ counting =
     -- P(b),Q(b): 2 candidates, and a budget of 1 is spent; P(a),Q(b) is covered within it
     (ask units (P₁ ∷ b ∷ Q₁ ∷ b ∷ []) 2 0 0 .answer ≡ NotCovered 2) ∷ (ask units (P₁ ∷ b ∷ Q₁ ∷ b ∷ []) 1 0 0 .answer ≡ Unanswered (Spent 1))
     ∷ (ask units (P₁ ∷ a ∷ Q₁ ∷ b ∷ []) 1 0 0 .answer ≡ Covered 1 1)
-    -- with nothing kept none; with P(a) and P(x),Q(x) kept another number
+    -- with nothing kept, no candidate; with P(a) and P(x),Q(x) kept, 4 and not 2
     ∷ (ask (keeping []) (P₁ ∷ b ∷ Q₁ ∷ b ∷ []) 2 0 0 .answer ≡ NotCovered 0)
     ∷ (ask (keeping (insert (P₁ ∷ a ∷ []) 1 ∷ insert (P₁ ∷ x ∷ Q₁ ∷ x ∷ []) 2 ∷ [])) (P₁ ∷ b ∷ Q₁ ∷ a ∷ []) 9 0 0 .answer ≡ NotCovered 4) ∷ []
 

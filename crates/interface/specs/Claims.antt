@@ -150,7 +150,7 @@ pub record CtExact (d : List ℕ) (b : ℕ) (ts : List ℕ) (r : Handed) : Type 
   pub at-most : (c : ℕ) → SaysCovered r ts c → c ≤ length (literals d)
   -- every budget of q or more is enough
   pub enough : length (literals d) ≤ b → ((c : ℕ) × SaysCovered r ts c) ⊎ ((c : ℕ) × SaysNot r ts c)
-  -- one below q is spent, unless d is covered within it
+  -- a smaller one is spent, unless d is covered within it
   pub less : b < length (literals d) → SaysSpent r ts b ⊎ ((c : ℕ) × (c ≤ b) × SaysCovered r ts c)
 
 -- One literal, an exact count

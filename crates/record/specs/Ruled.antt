@@ -98,11 +98,11 @@ pub record Ruled (K : List Pair) (x : Record) (o : Outcome) (L : List Pair) : Ty
   pub grows : IsKept o → L ≡ pairOf x ∷ K
   pub stays : (IsKept o → ⊥) → L ≡ K
 
--- the candidates of its query, where every clause of the book is a unit: it has a single literal
+-- the candidates of the record's query, where every clause of the book is a unit (has a single literal)
 pub record RuledByUnits (K : List Pair) (x : Record) (o : Outcome) : Type 0 where
-  -- kept, where the book has a clause already: exactly as many as it has literals
+  -- kept, where the book has a clause already: exactly as many as the record has literals
   pub exact : 1 ≤ length K → IsKept o → candidates (treeOf K) (x .words) ≡ length (literals (x .words))
-  -- struck: at most as many, as its line says
+  -- struck: the count on its line is at most that
   pub at-most : (n k : ℕ) → o ≡ Struck n k → k ≤ length (literals (x .words))
   -- so 12 is never its code
   pub enough : o ≢ Refused 12

@@ -70,7 +70,7 @@ pub record RowClaims {rs : List Row} (a : RowAt rs) : Type 0 where
   pub ruled : Ruled (bookAfter (a .before)) (a .this .of) (a .this .outcome) (bookAfter (a .before ++ (a .this ∷ [])))
   -- where it is struck, an earlier row says that the number was kept, and the clause of that row subsumes this one's
   pub earlier : (n k : ℕ) → a .this .outcome ≡ Struck n k → KeptCovers (a .before) n (a .this .of)
-  -- where that book has units only
+  -- where the book before it has units only: how many candidates its query takes
   pub units : Units (bookAfter (a .before)) → RuledByUnits (bookAfter (a .before)) (a .this .of) (a .this .outcome)
 
 -- ---- the whole input

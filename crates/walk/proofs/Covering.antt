@@ -41,7 +41,7 @@ shows-subsumes c d W S =
       covered = λ l m. let (i, h, e) = mem-index [] m in let (j, f) = S .literal i h in rw (e, f) (index-mem (literals d) (getD W i 0) [] j);
     }
 
--- the ceiling bounds the count, where there is one
+-- a bound on the count, where there is one, bounds what `countOf` gives
 pub counted-le : {x : ℕ} {a : Answer State} → Counts (λ c. c ≤ x) a → countOf a ≤ x
 counted-le (of-covered h) = h
 counted-le (of-notCovered h) = h
@@ -81,7 +81,7 @@ module _ (K : List Pair) (F : Forest) (S : All Sound K) (R : Mirrors F (map entr
       (p, m, shows-subsumes (p .clause) d (withShown (shown t) W) shows)
 
 module _ (K : List Pair) (F : Forest) (S : All Sound K) (R : Mirrors F (map entry K)) (n : leaves F ≡ length K) (d : List ℕ) (D : Accepted d) where
-  -- it takes no more candidates than the ceiling
+  -- the walk without a budget takes no more candidates than the ceiling
   pub kept-bounded : candidates F d ≤ ceiling (length K) (length (literals d)) (most K)
   kept-bounded =
       rw (← n) (counted-le (count-bound (machine d) always F (most K) (R .formed) (formed-full 0 F (R .formed)) (kept-short K F S R) initial))

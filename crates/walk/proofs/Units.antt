@@ -27,7 +27,7 @@ use Rattle.walk.proofs.Exact.{Exactly, PassesNone, first-walk}
 use Rattle.walk.proofs.Kept.{kept-short, one-first}
 use Rattle.walk.proofs.Covering.{counted-le, walk-decides, finds-subsumed}
 
--- no kept clause has more literals
+-- no kept clause has more than one literal
 most-unit : {K : List Pair} → Units K → most K ≤ 1
 most-unit none = omega arith
 most-unit (also e u) = omega (arith, most-unit u)

@@ -374,8 +374,12 @@ fn expect_unit_page(page: &[u8], what: &str, tally: &mut Tally) {
     }
 }
 
-// The stored pages that are pages of units.
-const STORED_UNITS: [&str; 6] = [
+// The stored pages that keep units, and nothing else.
+const STORED_UNITS: [&str; 10] = [
+    "cut-number",
+    "cut-count",
+    "cut-words",
+    "cut-long",
     "full-list",
     "idle-clause",
     "first-and-last",
@@ -386,7 +390,7 @@ const STORED_UNITS: [&str; 6] = [
 
 // How often each line has to occur on pages of units.
 const LEAST_OF_UNITS: [(&str, u64); 16] = [
-    ("pages", 89),
+    ("pages", 93),
     ("kept", 5_000),
     ("refused 3", 650),
     ("refused 4", 700),

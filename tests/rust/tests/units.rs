@@ -1,4 +1,4 @@
-//! Pages of units: where all kept clauses have a single literal, an ordinary matcher tells each answer at each budget.
+//! Sets of units: where every kept clause has a single literal, an ordinary matcher tells whether a query is covered, and its count, at each budget.
 mod beside;
 mod drawn;
 mod set;
@@ -24,7 +24,7 @@ impl Set<'_> {
     // Where nothing is kept, no candidate is taken.
     fn predict(&self, query: &[Term]) -> Predicted {
         let Some(units) = self.book.units() else {
-            assert!(self.book.pairs.is_empty(), "no page of units");
+            assert!(self.book.pairs.is_empty(), "no set of units");
             let (place, candidates) = (None, 0);
             return Predicted { place, candidates };
         };
@@ -121,22 +121,22 @@ impl Set<'_> {
     }
 
     // A clause of two literals let in and taken out: while it is kept, the count need not be that of the query's literals.
-    fn call_with_pair(&mut self, style: Style) {
+    fn call_with_double(&mut self, style: Style) {
         let mut stranger = || self.random.stranger(style, &self.book);
         let (first, second, third) = (stranger(), stranger(), stranger());
-        let (pair, query) = ([&first[..], &second].concat(), [first, third].concat());
-        self.insert(&pair, 1000);
+        let (double, query) = ([&first[..], &second].concat(), [first, third].concat());
+        self.insert(&double, 1000);
         if self.book.pairs.len() > 1 && self.book.most_literals() == 2 {
             let answer = self.ask(&query, FULL_BUDGET).answer;
             let other = matches!(answer, Ok(Cover::NotCovered { count }) if count != 2);
             self.tally
-                .count_if("not covered, not q, with a pair", other);
+                .count_if("not covered, not q, with two literals", other);
         }
         self.remove(1000);
         self.query_units(&query);
     }
 
-    // Removes every clause; a query that was answered before then takes no candidate.
+    // Removes every clause; afterwards a query answered before takes no candidate.
     fn finish_units(&mut self, style: Style) {
         let query = self.random.query_of_units(style, &self.book);
         self.query_units(&query);
@@ -202,7 +202,7 @@ const LEAST: [(&str, u64); 40] = [
     ("not covered, q = 7", 950),
     ("not covered, q = 8", 950),
     ("not covered below kept × q", 9_000),
-    ("not covered, not q, with a pair", 700),
+    ("not covered, not q, with two literals", 700),
     ("budgets spent", 80_000),
     ("budgets covered", 70_000),
     ("budgets not covered", 92_000),
@@ -210,7 +210,7 @@ const LEAST: [(&str, u64); 40] = [
 ];
 
 #[test]
-fn pages_of_units() {
+fn sets_of_units() {
     let mut random = Random(21);
     let mut tally = Tally::default();
     for i in 0..2000 {
@@ -224,7 +224,7 @@ fn pages_of_units() {
         for _ in 0..10 + set.random.below(30) {
             set.call(style);
         }
-        set.call_with_pair(style);
+        set.call_with_double(style);
         set.finish_units(style);
     }
     for length in [8192, 65536, 3000, 8192] {
@@ -261,9 +261,9 @@ fn by_hand() {
     expect_answers(&tree, &missed, &of_units);
     expect_answers(&tree, &struck, &[spent(0), spent(1), covered]);
     assert_eq!(beside::insert(&mut tree, &[p, x, q, x, a], 3), Ok(()));
-    let mut with_pair: Vec<_> = (0..9).map(spent).collect();
-    with_pair.push(not_covered(9));
-    expect_answers(&tree, &missed, &with_pair);
+    let mut with_double: Vec<_> = (0..9).map(spent).collect();
+    with_double.push(not_covered(9));
+    expect_answers(&tree, &missed, &with_double);
     assert_eq!(beside::remove(&mut tree, 3), Ok(()));
     expect_answers(&tree, &missed, &of_units);
     assert_eq!(beside::remove(&mut tree, 1), Ok(()));

@@ -33,7 +33,7 @@ impl Random {
         clause
     }
 
-    /// A unit on which none of the book falls.
+    /// A unit on which none of the book falls; after eight draws without one, a literal of no arguments.
     pub fn stranger(&mut self, style: Style, book: &Book) -> Vec<u16> {
         for _ in 0..8 {
             let unit = self.any_unit(style, book);
@@ -71,7 +71,8 @@ impl Random {
     }
 }
 
-// Adds a record to a page. A clause of several literals on which no unit falls would be kept: it comes under a taken number.
+// Adds a record to a page. A clause of several literals on which no unit falls would be kept: it comes under a taken number or, where nothing is
+// kept, is left out.
 fn add_record(page: &mut Vec<u8>, book: &mut Book, clause: &[u16], number: u16) {
     let literals = read(clause).unwrap_or_default();
     let new = !struck(book, &literals);
