@@ -57,7 +57,7 @@ module _ (T : List ℕ) (xs : List Call) (R : Run T xs) (some : 1 ≤ length (bo
   counted : Exact T xs d b W
   counted =
       record {
-        exact = exact;
+        exact = λ c e. exact c e;
         at-most = λ n c e. omega (arith, asked .counts n c e, holds-few held units d);
         enough = λ h. fits-decided asked (omega (arith, holds-few held units d));
         less = λ h. less h (asked .kinds);

@@ -112,7 +112,7 @@ pub record Together (S : List ℕ) (xs : List Call) (T : List ℕ) (ys : List Ca
 abbrev pub Demand3 : Type 0
 Demand3 = (S : List ℕ) (xs : List Call) (T : List ℕ) (ys : List Call) → Run S xs → Run T ys → Together S xs T ys
 
--- what is claimed of a query's count where units are kept, at least one, and nothing else; q is the number of d's literals
+-- what is claimed of a query's count where units (clauses of a single literal) are kept, at least one, and nothing else; q is the number of d's literals
 pub record Exact (T : List ℕ) (xs : List Call) (d : List ℕ) (b : ℕ) (W : List ℕ) : Type 0 where
   -- not covered: the count is exactly q
   pub exact : (c : ℕ) → query (sliceOf T xs) d b W .answer ≡ NotCovered c → c ≡ length (literals d)

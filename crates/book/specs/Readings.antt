@@ -101,10 +101,11 @@ walking =
     ∷ (query pxqx (P₁ ∷ a ∷ P₁ ∷ b ∷ Q₁ ∷ b ∷ []) 8 (replicate 74 9) .witness ≡ 1 ∷ 2 ∷ (replicate 6 9 ++ (3 ∷ 5 ∷ replicate 64 9)))
     ∷ (query pxqx (P₁ ∷ a ∷ Q₁ ∷ b ∷ []) 8 (replicate 74 9) .witness ≡ replicate 74 9) ∷ []
 
--- counts with units kept, P(a) and Q(a)
+-- a slice that keeps the units P(a) and Q(a)
 abbrev pub units : List ℕ
 units = keeping (insert (P₁ ∷ a ∷ []) 1 ∷ insert (Q₁ ∷ a ∷ []) 2 ∷ [])
 
+-- counts with units kept
 abbrev pub counting : List (Type 0)
 counting =
     -- P(b),Q(b): 2 candidates, and a budget of 1 is spent; P(a),Q(b) is covered within it
