@@ -94,13 +94,16 @@ uint64_t ct_insert(uint64_t *tree, size_t n, const uint16_t *clause, size_t m, u
 uint64_t ct_remove(uint64_t *tree, size_t n, uint32_t number);
 
 /*
- * Asks whether a clause kept in a tree of n words subsumes a clause of m words, with at most `budget` candidates.
+ * Asks whether a clause kept in a tree of n words subsumes a clause of m words, with at most `budget` candidates:
+ * whether one replacement of its variables makes each of its literals a literal of the query, each at a place of
+ * its own (equal literals at two places are two).
  * Returns 0, or 1, 2, 3, 4, 5, 6 or 12 (asked for in the order 1, 3 to 6, the header's 2, then 2 or 12 as the
  * walk meets them).
  * told: with 0, three values: 1 for covered, or 0; the number of the covering clause, or 0; the count of
  * candidates tried. The position for 4 and 5, the count for 12; else nothing.
  * witness (k words, at least 72), only if covered: the query's literal for literal i of the covering clause
- * at i, the query's position for its Put number j at 8 + j. Its other words stay as they were.
+ * at i, no two of them the same, the query's position for its Put number j at 8 + j. Its other words stay as
+ * they were.
  * Where a tree, made by these calls, keeps at least one clause, each of a single literal: a query of q literals
  * that is answered not covered has the count q; a budget of q or more is enough (CT_CLAUSE_LITERALS for any
  * query), and a smaller one is spent unless the query is covered within it.
@@ -110,8 +113,10 @@ uint64_t ct_query(const uint64_t *tree, size_t n, const uint16_t *clause, size_t
 
 /*
  * A bound: a query of q literals takes no more candidates in a tree, made by these calls, of `kept` clauses of
- * at most m literals: kept * (q + q^2 + .. + q^m). With m = 1 such a query
- * takes at most q (ct_query); the ceiling is still kept * q.
+ * at most m literals: kept * (q + q^2 + .. + q^m). It is not the closest one: no literal is used twice on a path,
+ * so such a query takes at most kept * (q + q * (q - 1) + ..), of m summands, and a budget of 112,230,400 is
+ * enough on every tree made by these calls; with m = 1 it takes at most q (ct_query). The ceiling stays kept * q
+ * there.
  * Returns 0, or 13. told: with 0 the ceiling; else nothing.
  */
 uint64_t ct_ceiling(uint64_t kept, uint64_t q, uint64_t m, uint64_t *told, size_t t);

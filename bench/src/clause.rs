@@ -37,6 +37,11 @@ impl Clause {
         Ok(())
     }
 
+    /// All literals, a bit each.
+    pub fn all_literals(&self) -> u32 {
+        (1 << self.heads.len()) - 1
+    }
+
     /// The words of the term at a position.
     pub fn term(&self, at: usize) -> &[u16] {
         &self.words[at..self.ends[at]]

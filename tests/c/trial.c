@@ -1,4 +1,4 @@
-/* The header, from C and from C++: a trial row of document 01, told words that are too few, a count with units. */
+/* The header, from C and from C++: a trial row of document 01 with the counts of F-3, told words that are too few, a count with units. */
 #include "code_tree.h"
 
 #include <stdio.h>
@@ -33,17 +33,20 @@ int main(void) {
     expect("insert of a cut clause", ct_insert(tree, 24, cut, 1, 8, told, 1), CT_BAD_CLAUSE);
     expect("position", told[0], 1);
 
-    expect("query", ct_query(tree, 24, asked, 6, 8, witness, CT_WITNESS_WORDS, told, 3), 0);
+    expect("query", ct_query(tree, 24, asked, 6, 6, witness, CT_WITNESS_WORDS, told, 3), 0);
     expect("covered", told[0], 1);
     expect("number", told[1], 7);
-    expect("count", told[2], 8);
+    expect("count", told[2], 6);
     expect("literals", witness[0] * 10u + witness[1], 12);
     expect("positions", witness[8] * 10u + witness[9], 35);
-    expect("query without told", ct_query(tree, 24, asked, 6, 8, witness, CT_WITNESS_WORDS, NULL, 0), 0);
-    expect("short budget", ct_query(tree, 24, asked, 6, 7, witness, CT_WITNESS_WORDS, told, 3), CT_SPENT);
-    expect("spent count", told[0], 7);
-    expect("no witness", ct_query(tree, 24, asked, 6, 8, NULL, 0, told, 3), CT_SHORT_WITNESS);
-    expect("no clause", ct_query(tree, 24, NULL, 0, 8, witness, CT_WITNESS_WORDS, told, 3), CT_BAD_LENGTH);
+    expect("query without told", ct_query(tree, 24, asked, 6, 6, witness, CT_WITNESS_WORDS, NULL, 0), 0);
+    expect("short budget", ct_query(tree, 24, asked, 6, 5, witness, CT_WITNESS_WORDS, told, 3), CT_SPENT);
+    expect("spent count", told[0], 5);
+    expect("no witness", ct_query(tree, 24, asked, 6, 6, NULL, 0, told, 3), CT_SHORT_WITNESS);
+    expect("no clause", ct_query(tree, 24, NULL, 0, 6, witness, CT_WITNESS_WORDS, told, 3), CT_BAD_LENGTH);
+    expect("query with a literal too few", ct_query(tree, 24, asked, 2, 1, witness, CT_WITNESS_WORDS, told, 3), 0);
+    expect("not covered by one for two", told[0], 0);
+    expect("count, no literal left", told[2], 1);
 
     expect("remove", ct_remove(tree, 24, 7), 0);
     expect("remove again", ct_remove(tree, 24, 7), CT_NO_SUCH_NUMBER);

@@ -48,20 +48,22 @@ struct Match<'a> {
 }
 
 impl Match<'_> {
-    /// Whether the literals fall on literals of the query, under what is bound.
-    fn literals(&mut self, literals: &[Vec<Symbol>]) -> bool {
+    /// Whether the literals fall on literals of the query that are free, each on one of its own, under what is bound.
+    fn literals(&mut self, literals: &[Vec<Symbol>], free: u32) -> bool {
         let Some((literal, rest)) = literals.split_first() else {
             return true;
         };
         let query = self.query;
-        for &head in &query.heads {
+        let mut left = free;
+        while left != 0 {
+            let i = left.trailing_zeros();
+            left &= left - 1;
+            let (head, others) = (query.heads[i as usize], free ^ 1 << i);
             let mark = self.trail.len();
-            if self.literal(literal, head) && self.literals(rest) {
+            if self.literal(literal, head) && self.literals(rest, others) {
                 return true;
             }
-            for variable in self.trail.drain(mark..) {
-                self.bound[variable] = None;
-            }
+            self.unbind(mark);
         }
         false
     }
@@ -94,6 +96,15 @@ impl Match<'_> {
         self.bound[variable] = Some(at);
         self.trail.push(variable);
         true
+    }
+
+    /// Takes back what was bound since the trail had this length.
+    fn unbind(&mut self, length: usize) {
+        while self.trail.len() > length {
+            if let Some(variable) = self.trail.pop() {
+                self.bound[variable] = None;
+            }
+        }
     }
 }
 
@@ -138,6 +149,7 @@ struct Kept {
 }
 
 impl Kept {
+    /// A clause that subsumes the query, which none with more literals does.
     fn covering(&self, query: &Clause) -> Option<u16> {
         let mut matching = Match {
             query,
@@ -145,10 +157,9 @@ impl Kept {
             trail: Vec::new(),
         };
         let covers = |pattern: &&Pattern| {
-            for variable in matching.trail.drain(..) {
-                matching.bound[variable] = None;
-            }
-            matching.literals(&pattern.literals)
+            matching.unbind(0);
+            pattern.literals.len() <= query.heads.len()
+                && matching.literals(&pattern.literals, query.all_literals())
         };
         self.patterns.iter().find(covers).map(|p| p.number)
     }

@@ -31,6 +31,8 @@ struct Walk<'a> {
     tree: &'a [u64],
     query: &'a Clause,
     candidates: u64,
+    /// The query's literals that are not used on the path, a bit each.
+    free: u32,
     puts: [usize; 64],
     pushes: [usize; 64],
 }
@@ -82,16 +84,21 @@ impl Walk<'_> {
         Ok(())
     }
 
-    /// Walks the words below a First from each literal of the query.
+    /// Walks the words below a First from each literal of the query that is free.
     fn try_literals(&mut self, at: usize, end: usize) -> Result<(), Stop> {
-        let query = self.query;
-        for &head in &query.heads {
+        let (query, free) = (self.query, self.free);
+        let mut left = free;
+        while left != 0 {
             if self.candidates == BUDGET {
                 return Err(Stop::Spent);
             }
             self.candidates += 1;
-            self.row(at, end, head)?;
+            let literal = left.trailing_zeros();
+            left &= left - 1;
+            self.free = free ^ 1 << literal;
+            self.row(at, end, query.heads[literal as usize])?;
         }
+        self.free = free;
         Ok(())
     }
 }
@@ -123,6 +130,7 @@ impl Tree {
             tree: &self.words,
             query: clause,
             candidates: 0,
+            free: clause.all_literals(),
             puts: [0; 64],
             pushes: [0; 64],
         };

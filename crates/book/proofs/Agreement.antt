@@ -7,33 +7,26 @@ use Prim.Native.Nat.{ℕ, _≤_}
 use native.Mathlib.Nat.{le-trans}
 use native.Mathlib.Omega.{arith}
 use lib.ListN.{length, replicate, length-replicate}
-use Rattle.clause.specs.Lists.{All, none, also}
-use Rattle.clause.specs.Clause.{maxLiterals, Accepted, literals}
+use Rattle.clause.specs.Clause.{Accepted}
 use Rattle.machine.specs.Instr.{key}
 use Rattle.machine.specs.Machine.{State, initial}
-use Rattle.tree.specs.Entries.{Listed, Pair, Sound, entry}
-use Rattle.tree.specs.Laid.{maxKept}
+use Rattle.tree.specs.Entries.{Listed, Pair, entry}
 use Rattle.walk.specs.Walk.{Answer, covered, notCovered, spent, broken, upTo, walk}
 use Rattle.walk.specs.Ceiling.{fullBudget}
 use Rattle.walk.specs.Query.{machine, witnessWords, shown, withShown, answerBy, query}
-use Rattle.walk.specs.Covering.{most, Subsumed, candidates, IsCovered, IsNotCovered, Answers}
+use Rattle.walk.specs.Covering.{Subsumed, candidates, IsCovered, IsNotCovered, Answers}
 use Rattle.book.specs.Book.{Call, sliceOf, bookOf, treeOf}
 use Rattle.book.specs.Claims.{Run, Under, Renamed, Same, Alone, Demand3}
 use Rattle.clause.proofs.Lists.{all-mem}
 use Rattle.clause.proofs.Literals.{accepted}
 use Rattle.clause.proofs.Order.{subsumes-refl, subsumes-trans}
 use Rattle.tree.proofs.Mirror.{build-same}
-use Rattle.walk.proofs.Bound.{ceiling-le}
+use Rattle.walk.proofs.Bound.{enough-full}
 use Rattle.walk.proofs.Kept.{kept-pair, pair-kept}
 use Rattle.walk.proofs.Covering.{fits-decided}
-use Rattle.book.proofs.Holds.{Holds}
+use Rattle.book.proofs.Holds.{Holds, holds-tree, holds-enough}
 use Rattle.book.proofs.Reach.{laid, reach, answered, walked}
 use Rattle.clause.specs.Word.{Words}
-
--- kept clauses have at most 8 literals
-most-few : {K : List Pair} → All Sound K → most K ≤ maxLiterals
-most-few none = omega arith
-most-few (also {x = p} s S) = omega (arith, accepted (p .clause) (s .accepted) .few, most-few S)
 
 -- a witness that is long enough
 blank : List ℕ
@@ -51,10 +44,7 @@ module _ (T : List ℕ) (xs : List Call) (R : Run T xs) where
 
   -- no query takes more candidates than the full budget
   enough : (d : List ℕ) → Accepted d → candidates (treeOf (bookOf (length T) xs)) d ≤ fullBudget
-  enough d D =
-      let K = bookOf (length T) xs in
-      le-trans (answered T xs R d D 0 blank blank-long .bounded)
-      (ceiling-le (length K) maxKept (length (literals d)) maxLiterals (most K) maxLiterals (holds .few) (accepted d D .few) (most-few (holds .sound)))
+  enough d D = le-trans (rw (holds-tree holds) (holds-enough holds d D)) enough-full
 
   module _ (d : List ℕ) (D : Accepted d) (W : List ℕ) (long : witnessWords ≤ length W) where
     at-full : Answers (bookOf (length T) xs) (treeOf (bookOf (length T) xs)) (sliceOf T xs) d fullBudget W

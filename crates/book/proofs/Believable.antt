@@ -1,9 +1,9 @@
 -- The definitions' laws, each by its theorem.
 use Rattle.clause.proofs.Accepted.{clause-laws}
-use Rattle.clause.proofs.Order.{subsumes-refl, subsumes-trans}
-use Rattle.machine.proofs.Matching.{matching}
+use Rattle.clause.proofs.Order.{subsumes-refl, subsumes-trans, subsumes-fewer}
+use Rattle.machine.proofs.Matching.{matching, variants-subsume}
 use Rattle.tree.proofs.Laws.{tree-laws}
-use Rattle.walk.proofs.Laws.{walk-laws, full-budget}
+use Rattle.walk.proofs.Laws.{walk-laws, full-budget, enough-budget}
 use Rattle.book.specs.Believable.{Believable}
 use Rattle.book.proofs.Laws.{book-laws}
 use Rattle.book.proofs.Trials.{trials-hold, readings-hold}
@@ -14,10 +14,13 @@ believable =
       clauses = clause-laws;
       reflexive = subsumes-refl;
       transitive = subsumes-trans;
+      fewer = subsumes-fewer;
+      variants = variants-subsume;
       matching = matching;
       trees = tree-laws;
       walks = walk-laws;
       budget = full-budget;
+      enough = enough-budget;
       books = book-laws;
       rows = trials-hold;
       readings-taken = readings-hold;

@@ -4,13 +4,16 @@ use mathlib.Core.Logic.{_≢_, inl, inr}
 use mathlib.Core.Bool.{Bool, true, false, cond}
 use mathlib.Core.List.{List, [], _∷_, map}
 use Prim.Native.Nat.{ℕ, suc, _-_, _≤_, _<_}
+use native.Mathlib.Nat.{le-trans, mul-le-mul}
 use native.Mathlib.Omega.{arith}
 use native.Mathlib.Decide.{ℕ-discrete}
 use lib.Dec.{eqb}
 use lib.ListN.{length, length-map, replicate}
 use borrow.Author.Tests.{eq-eqb, ne-eqb}
 use Rattle.clause.specs.Lists.{All, none, also, Each, nobody, besides}
+use Rattle.clause.specs.Clause.{maxLiterals, Accepted, literals}
 use Rattle.clause.proofs.Apart.{apart}
+use Rattle.clause.proofs.Literals.{accepted}
 use Rattle.machine.specs.Instr.{key}
 use Rattle.machine.specs.Compile.{Variants, keys}
 use Rattle.tree.specs.Forest.{Forest, empty, size, leaves, layout}
@@ -18,7 +21,11 @@ use Rattle.tree.specs.Laid.{maxKept, wellLaid, decode}
 use Rattle.tree.specs.Entries.{Listed, build, Pair, Sound, entry}
 use Rattle.tree.specs.inner.Books.{withoutEntry, Apart}
 use Rattle.tree.specs.Changes.{numbered}
+use Rattle.walk.specs.Ceiling.{enoughBudget}
+use Rattle.walk.specs.Covering.{most, candidates}
 use Rattle.book.specs.Book.{without, treeOf}
+use Rattle.walk.proofs.Bound.{arrangements-le}
+use Rattle.walk.proofs.Covering.{kept-arranged}
 use Rattle.tree.proofs.Words.{laid-layout, decode-layout}
 use Rattle.tree.proofs.Mirror.{same-book, mirrors-build, withoutEntry-same, withoutEntry-other}
 use Rattle.tree.proofs.Changes.{Once, Keeps, keeps-empty}
@@ -41,6 +48,11 @@ fresh-layout len h = go len h
   where
     go : (n : ℕ) → 2 ≤ n → replicate n 0 ≡ layout n empty
     go (suc n) h = let e : suc n - 1 ≡ n = omega arith in rw e
+
+-- kept clauses have at most maxLiterals literals
+most-few : {K : List Pair} → All Sound K → most K ≤ maxLiterals
+most-few none = omega arith
+most-few (also {x = p} s S) = omega (arith, accepted (p .clause) (s .accepted) .few, most-few S)
 
 -- a test of every kept pair
 all-kept : {P : Pair → Type 0} (K : List Pair) → ((q : Pair) → Listed (map entry K) (keys (q .clause)) (q .number) → P q) → All P K
@@ -75,6 +87,13 @@ module _ {len : ℕ} {K : List Pair} {F : Forest} (h : Holds len K F) where
   -- as many leaves as pairs
   pub holds-leaves : leaves F ≡ length K
   holds-leaves = h .keeps .count ∙ length-map K entry
+
+  -- no query takes more candidates than `enoughBudget`
+  pub holds-enough : (d : List ℕ) → Accepted d → candidates F d ≤ enoughBudget
+  holds-enough d D =
+      let q = length (literals d) in
+      le-trans (kept-arranged K F (h .sound) (h .keeps .mirrors) holds-leaves d D)
+      (mul-le-mul (h .few) (arrangements-le q maxLiterals (most K) maxLiterals (accepted d D .few) (most-few (h .sound))))
 
   -- its slice is well laid and holds it
   pub holds-laid : len ≤ 65_536 → wellLaid (layout len F) ≡ true

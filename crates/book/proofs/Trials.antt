@@ -6,7 +6,7 @@ use Rattle.clause.specs.Word.{kind, arity, sortBy, sort}
 use Rattle.clause.specs.Clause.{scanWord, scan, shape, before, literals, skip, term, starts}
 use Rattle.machine.specs.Instr.{key, instruction, instrOf}
 use Rattle.machine.specs.Compile.{way, wayFrom, first, repeats, compares, opening, begun, closing, act, putsAfter, sequenceFrom, sequence}
-use Rattle.machine.specs.Machine.{onto, down, right, unfilled, given, require, sameTerms, compareTerms, stepAt, stepFrom, step, enter, finishFrom, finish}
+use Rattle.machine.specs.Machine.{onto, down, right, unfilled, given, require, sameTerms, compareTerms, stepAt, stepFrom, step, used, enter, finishFrom, finish}
 use Rattle.tree.specs.Keys.{lawful}
 use Rattle.tree.specs.Forest.{layout, ins, del, find, holder}
 use Rattle.tree.specs.Laid.{region, wellLaid, decode}
@@ -25,16 +25,16 @@ hold (also h p) = (h, hold p)
 pub trials-hold : Hold trials
 unfolding flatMap kind arity sortBy sort scanWord scan shape before literals skip term starts key instruction instrOf way wayFrom numbersBelow first
     repeats compares opening begun closing act putsAfter sequenceFrom sequence jump pushDue siblings onto down right unfilled given require sameTerms compareTerms
-    stepAt stepFrom step enter finishFrom finish lawful layout ins find holder region wellLaid decode insertInto extends shown query fresh
+    stepAt stepFrom step used enter finishFrom finish lawful layout ins find holder region wellLaid decode insertInto extends shown query fresh
     insertion
 trials-hold =
-    hold (also refl (also refl (also refl (also refl (also refl (also refl (also refl (also refl (also refl (also refl none))))))))))
+    hold (also refl (also refl (also refl (also refl (also refl (also refl (also refl (also refl (also refl (also refl (also refl none)))))))))))
 
 -- so do the readings
 pub readings-hold : Hold readings
 unfolding flatMap kind arity sortBy sort scanWord scan shape before literals skip term starts key instruction instrOf way wayFrom numbersBelow first
     repeats compares opening begun closing act putsAfter sequenceFrom sequence jump pushDue siblings onto down right unfilled given require sameTerms compareTerms
-    stepAt stepFrom step enter finishFrom finish lawful layout ins find holder region wellLaid decode insertInto extends shown query fresh
+    stepAt stepFrom step used enter finishFrom finish lawful layout ins find holder region wellLaid decode insertInto extends shown query fresh
     insertion del removeFrom removal
 readings-hold =
     hold (also refl (also refl (also refl (also refl (also refl (also refl (also refl (also refl (also refl (also refl (
@@ -42,4 +42,5 @@ readings-hold =
     also refl (also refl (also refl (also refl (also refl (also refl (also refl (also refl (also refl (also refl (
     also refl (also refl (also refl (also refl (also refl (also refl (also refl (also refl (also refl (also refl (
     also refl (also refl (also refl (also refl (also refl (also refl (also refl (also refl (also refl (also refl (
-    also refl (also refl (also refl (also refl (also refl (also refl (also refl (also refl (also refl none)))))))))))))))))))))))))))))))))))))))))))))))))))))))))))
+    also refl (also refl (also refl (also refl (also refl (also refl (also refl (also refl (also refl (also refl (
+    also refl (also refl (also refl (also refl (also refl (also refl none))))))))))))))))))))))))))))))))))))))))))))))))))))))))))))))))))

@@ -1,12 +1,14 @@
 -- What is claimed of the definitions themselves, gathered: each crate's laws, the worked examples of the requirement, the readings (docs/DECISIONS.md).
 use mathlib.Core.List.{List}
-use Prim.Native.Nat.{ℕ}
+use Prim.Native.Nat.{ℕ, _≤_}
+use lib.ListN.{length}
 use Rattle.clause.specs.Lists.{Hold}
-use Rattle.clause.specs.Clause.{Subsumes}
+use Rattle.clause.specs.Clause.{Accepted, literals, Subsumes}
 use Rattle.clause.specs.Accepted.{ClauseLaws}
+use Rattle.machine.specs.Compile.{Variants}
 use Rattle.machine.specs.Matching.{Matching}
 use Rattle.tree.specs.Laws.{TreeLaws}
-use Rattle.walk.specs.Ceiling.{FullBudget}
+use Rattle.walk.specs.Ceiling.{FullBudget, EnoughBudget}
 use Rattle.walk.specs.Laws.{WalkLaws}
 use Rattle.book.specs.Laws.{BookLaws}
 use Rattle.book.specs.Trials.{trials}
@@ -18,10 +20,14 @@ pub record Believable : Type 0 where
   -- every clause subsumes itself, and one that subsumes a clause subsumes what that subsumes
   pub reflexive : (c : List ℕ) → Subsumes c c
   pub transitive : (c d e : List ℕ) → Subsumes c d → Subsumes d e → Subsumes c e
+  -- it subsumes none with fewer literals, and variants subsume each other
+  pub fewer : (c d : List ℕ) → Subsumes c d → length (literals c) ≤ length (literals d)
+  pub variants : (c d : List ℕ) → Accepted c → Accepted d → Variants c d → Subsumes c d
   pub matching : Matching
   pub trees : TreeLaws
   pub walks : WalkLaws
   pub budget : FullBudget
+  pub enough : EnoughBudget
   pub books : BookLaws
   pub rows : Hold trials
   pub readings-taken : Hold readings

@@ -46,6 +46,14 @@ answerOn ws d budget = query (sliceWith 1 ws) d budget (replicate witnessWords 9
 abbrev pub blank : ℕ → List ℕ
 blank n = replicate n 0
 
+-- nine Firsts below one another
+abbrev pub nineFirsts : List ℕ
+nineFirsts = at 1 0 10 ∷ at 1 0 9 ∷ at 1 0 8 ∷ at 1 0 7 ∷ at 1 0 6 ∷ at 1 0 5 ∷ at 1 0 4 ∷ at 1 0 3 ∷ at 1 0 2 ∷ at 0 1 1 ∷ []
+
+-- P(x),P(y) kept
+abbrev pub pxpy : List ℕ
+pxpy = sliceOf (blank 24) (insert (P₁ ∷ x ∷ P₁ ∷ y ∷ []) 1 ∷ [])
+
 -- reading a clause
 abbrev pub reading : List (Type 0)
 reading =
@@ -70,8 +78,9 @@ compiling =
 -- the walk
 abbrev pub walking : List (Type 0)
 walking =
-    -- a ninth First with the budget used up; an extent past its parent's, on a word that fails too; faults that are not met
-    (answerOn (at 1 0 10 ∷ at 1 0 9 ∷ at 1 0 8 ∷ at 1 0 7 ∷ at 1 0 6 ∷ at 1 0 5 ∷ at 1 0 4 ∷ at 1 0 3 ∷ at 1 0 2 ∷ at 0 1 1 ∷ []) (P₀ ∷ []) 8 ≡ Unanswered Broken)
+    -- a ninth First with all eight literals and the budget used up, and one that is never met; an extent past its parent's, on a word that fails too;
+    -- faults that are not met
+    (answerOn nineFirsts (replicate 8 P₀) 8 ≡ Unanswered Broken) ∷ (answerOn nineFirsts (P₀ ∷ []) 8 ≡ NotCovered 1)
     ∷ (answerOn (at 1 0 4 ∷ at 7 Q₀ 1 ∷ at 7 P₀ 3 ∷ at 0 1 1 ∷ []) (P₀ ∷ []) 9 ≡ Unanswered Broken)
     ∷ (answerOn (at 1 0 2 ∷ at 7 Q₀ 9 ∷ []) (P₀ ∷ []) 9 ≡ Unanswered Broken)
     ∷ (answerOn (at 1 0 3 ∷ at 0 1 1 ∷ at 7 P₀ 0 ∷ []) (P₀ ∷ []) 9 ≡ Covered 1 1)
@@ -91,15 +100,23 @@ walking =
     ∷ (answerOn (at 1 0 5 ∷ at 7 P₁ 4 ∷ at 2 0 3 ∷ at 7 x 2 ∷ at 0 1 1 ∷ []) (P₁ ∷ x ∷ []) 9 ≡ Covered 1 1)
     ∷ (answerOn (at 1 0 3 ∷ at 7 0x18001 2 ∷ at 0 1 1 ∷ []) (P₀ ∷ []) 9 ≡ NotCovered 1)
     ∷ (answerOn (at 1 0 4 ∷ at 4 0 3 ∷ at 8 0 2 ∷ at 0 1 1 ∷ []) (P₀ ∷ []) 9 ≡ Covered 1 1)
-    ∷ (answerOn (at 1 0 6 ∷ at 4 0 5 ∷ at 1 0 4 ∷ at 4 1 3 ∷ at 8 1 2 ∷ at 0 1 1 ∷ []) (P₀ ∷ Q₀ ∷ []) 9 ≡ Covered 1 2)
-    ∷ (answerOn (at 1 0 3 ∷ at 1 0 2 ∷ at 0 1 1 ∷ []) (P₀ ∷ []) 9 ≡ Covered 1 2)
+    ∷ (answerOn (at 1 0 6 ∷ at 4 0 5 ∷ at 1 0 4 ∷ at 4 1 3 ∷ at 8 1 2 ∷ at 0 1 1 ∷ []) (P₀ ∷ P₀ ∷ []) 9 ≡ Covered 1 2)
+    ∷ (answerOn (at 1 0 6 ∷ at 4 0 5 ∷ at 1 0 4 ∷ at 4 1 3 ∷ at 8 1 2 ∷ at 0 1 1 ∷ []) (P₀ ∷ Q₀ ∷ []) 9 ≡ NotCovered 4)
+    ∷ (answerOn (at 1 0 3 ∷ at 1 0 2 ∷ at 0 1 1 ∷ []) (P₀ ∷ Q₀ ∷ []) 9 ≡ Covered 1 2) ∷ (answerOn (at 1 0 3 ∷ at 1 0 2 ∷ at 0 1 1 ∷ []) (P₀ ∷ []) 9 ≡ NotCovered 1)
+    -- a First with no literal left over takes nothing and counts nothing, at a used-up budget too; equal literals at two places are two
+    ∷ (ask pxqx (P₁ ∷ a ∷ []) 1 0 0 ≡ record { answer = NotCovered 1; literals = []; positions = [] })
+    ∷ (ask pxpy (P₁ ∷ a ∷ P₁ ∷ a ∷ []) 9 2 2 ≡ record { answer = Covered 1 2; literals = 0 ∷ 1 ∷ []; positions = 1 ∷ 3 ∷ [] })
+    ∷ (ask pxpy (P₁ ∷ a ∷ []) 9 0 0 ≡ record { answer = NotCovered 1; literals = []; positions = [] })
+    -- a literal that was used on the way to a miss is free again: P(x),P(y),P(x,y) kept
+    ∷ (ask (keeping (insert (P₁ ∷ x ∷ P₁ ∷ y ∷ P₂ ∷ x ∷ y ∷ []) 1 ∷ [])) (P₁ ∷ a ∷ P₁ ∷ b ∷ P₂ ∷ b ∷ a ∷ []) 7 3 4
+    ≡ record { answer = Covered 1 7; literals = 1 ∷ 0 ∷ 2 ∷ []; positions = 3 ∷ 1 ∷ 5 ∷ 6 ∷ [] })
     -- a short witness before a broken header
     ∷ (query (headerOf 9 0 ∷ 0 ∷ []) (P₀ ∷ []) 9 [] .answer ≡ Unanswered ShortWitness)
     ∷ (query (headerOf 9 0 ∷ 0 ∷ []) (P₀ ∷ []) 9 (replicate witnessWords 9) .answer ≡ Unanswered Broken)
     ∷ (query (0 ∷ 0 ∷ 1 ∷ []) (P₀ ∷ []) 0 (replicate witnessWords 9) .answer ≡ NotCovered 0)
     -- the words of a witness that are not written
-    ∷ (query pxqx (P₁ ∷ a ∷ P₁ ∷ b ∷ Q₁ ∷ b ∷ []) 8 (replicate 74 9) .witness ≡ 1 ∷ 2 ∷ (replicate 6 9 ++ (3 ∷ 5 ∷ replicate 64 9)))
-    ∷ (query pxqx (P₁ ∷ a ∷ Q₁ ∷ b ∷ []) 8 (replicate 74 9) .witness ≡ replicate 74 9) ∷ []
+    ∷ (query pxqx (P₁ ∷ a ∷ P₁ ∷ b ∷ Q₁ ∷ b ∷ []) 6 (replicate 74 9) .witness ≡ 1 ∷ 2 ∷ (replicate 6 9 ++ (3 ∷ 5 ∷ replicate 64 9)))
+    ∷ (query pxqx (P₁ ∷ a ∷ Q₁ ∷ b ∷ []) 3 (replicate 74 9) .witness ≡ replicate 74 9) ∷ []
 
 -- a slice that keeps the units P(a) and Q(a)
 abbrev pub units : List ℕ
@@ -111,9 +128,9 @@ counting =
     -- P(b),Q(b): 2 candidates, and a budget of 1 is spent; P(a),Q(b) is covered within it
     (ask units (P₁ ∷ b ∷ Q₁ ∷ b ∷ []) 2 0 0 .answer ≡ NotCovered 2) ∷ (ask units (P₁ ∷ b ∷ Q₁ ∷ b ∷ []) 1 0 0 .answer ≡ Unanswered (Spent 1))
     ∷ (ask units (P₁ ∷ a ∷ Q₁ ∷ b ∷ []) 1 0 0 .answer ≡ Covered 1 1)
-    -- with nothing kept, no candidate; with P(a) and P(x),Q(x) kept, 4 and not 2
+    -- with nothing kept, no candidate; with P(a) and P(x),Q(x) kept, 3 and not 2
     ∷ (ask (keeping []) (P₁ ∷ b ∷ Q₁ ∷ b ∷ []) 2 0 0 .answer ≡ NotCovered 0)
-    ∷ (ask (keeping (insert (P₁ ∷ a ∷ []) 1 ∷ insert (P₁ ∷ x ∷ Q₁ ∷ x ∷ []) 2 ∷ [])) (P₁ ∷ b ∷ Q₁ ∷ a ∷ []) 9 0 0 .answer ≡ NotCovered 4) ∷ []
+    ∷ (ask (keeping (insert (P₁ ∷ a ∷ []) 1 ∷ insert (P₁ ∷ x ∷ Q₁ ∷ x ∷ []) 2 ∷ [])) (P₁ ∷ b ∷ Q₁ ∷ a ∷ []) 9 0 0 .answer ≡ NotCovered 3) ∷ []
 
 -- insertion, removal, ceiling
 abbrev pub calling : List (Type 0)

@@ -7,6 +7,7 @@ use machine::Sequence;
 pub use row::skip;
 pub use row::wanted;
 pub use state::begin;
+pub use state::in_use;
 pub use state::passes;
 pub use state::release;
 pub use state::reserve;
@@ -45,6 +46,9 @@ impl Path {
 
     // The head that is handed to the words below a First: none, each candidate has its own.
     pub const BEFORE: usize = Path::NONE;
+
+    // The literals of a query as bits are below this.
+    pub const USES: u64 = 1 << Clause::LITERALS;
 
     // An undo is the index of a cell, times this, and the byte that it held.
     pub const UNDO: u64 = Path::CELLS as u64;

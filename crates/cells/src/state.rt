@@ -3,11 +3,12 @@ use crate::Above;
 use crate::Path;
 use clause::Clause;
 ghost use mathlib.Core.Path.{_≡_};
-ghost use Prim.Native.Nat.{_+_, _*_, _<_};
-ghost use lib.ListN.{length, getD};
-ghost use Rattle.clause.specs.Clause.{Accepted, literals};
+ghost use Prim.Native.Nat.{_+_, _*_, _%_, _<_};
+ghost use lib.ListN.{length, getD, take};
+ghost use Rattle.clause.specs.Clause.{Accepted, maxLiterals, literals};
 ghost use Rattle.clause.specs.inner.Tables.{atCount};
-ghost use Rattle.cells.specs.inner.Cells.{cellCount, undoLimit, trailLimit, HasPlace, HasCandidate, Tables};
+ghost use Rattle.cells.specs.inner.Cells.{cellCount, undoLimit, trailLimit, countIn, HasPlace, HasCandidate, HasLiterals, Tables};
+ghost use Rattle.cells.specs.inner.Cells.{useLimit, bitsOf, hasBit, usesOf, savedByte};
 ghost use Rattle.cells.specs.inner.Cells.{restored, unwound, aboveOf, reserved, candidate, released, keptIn, passHead, passesOf};
 ghost use Rattle.cells.specs.declared.Above.the-variants.{First};
 
@@ -63,20 +64,44 @@ pub fn unwind(cells: &mut [u8; Path::CELLS], trail: u64)
     }
 }
 
-// Makes place for a candidate, below a First: what stood there.
-pub fn reserve(cells: &mut [u8; Path::CELLS], above: Above) -> u8
-    requires { ⌜ (length (now cells) ≡ cellCount) × (above ≡ First → HasPlace (now cells)) ⌝ }
-    ensures { λ r. ⌜ (r ≡ keptIn above (now (cells .entry))) × (now (cells .exit) ≡ reserved above (now (cells .entry))) ⌝ }
+// The literals that are used on the path, a bit for each.
+fn used(cells: &[u8; Path::CELLS]) -> u64
+    requires { ⌜ (length (now cells) ≡ cellCount) × HasLiterals (now cells) ⌝ }
+    ensures { λ r. ⌜ r ≡ bitsOf (take (countIn (now (cells .entry))) (now (cells .entry))) ⌝ }
+{
+    let mut bits: u64 = 0;
+    let mut i = cells[Path::CHOSEN] as usize;
+    while i > 0 {
+        i -= 1;
+        bits |= 1 << cells[i];
+    }
+    bits
+}
+
+// Makes place for a candidate, below a First: what stood there, times `Path::USES`, and the literals that are used on its path.
+pub fn reserve(cells: &mut [u8; Path::CELLS], above: Above) -> u64
+    requires { ⌜ (length (now cells) ≡ cellCount) × HasLiterals (now cells) × (above ≡ First → HasPlace (now cells)) ⌝ }
+    ensures { λ r. ⌜ (r % useLimit ≡ usesOf above (now (cells .entry))) × (savedByte r ≡ keptIn above (now (cells .entry)))
+        × (now (cells .exit) ≡ reserved above (now (cells .entry))) ⌝ }
 {
     match above {
         Above::First => {
+            let bits = used(cells);
             let chosen = cells[Path::CHOSEN];
             let slot = chosen as usize;
             cells[Path::CHOSEN] = chosen + 1;
-            cells[slot]
+            wide(cells[slot]) as u64 * Path::USES + bits
         }
         Above::Step => 0,
     }
+}
+
+// Whether a First passes over a literal, by what its reserve gave.
+pub fn in_use(saved: u64, j: usize) -> bool
+    requires { ⌜ j < maxLiterals ⌝ }
+    ensures { λ r. ⌜ r ≡ hasBit saved j ⌝ }
+{
+    (saved >> j) % 2 == 1
 }
 
 // Begins pass j: below a First literal j is the candidate and has the head, below a step the head is the one handed on.
@@ -102,16 +127,16 @@ pub fn begin(
     }
 }
 
-// Takes the place of the candidate away again.
-pub fn release(cells: &mut [u8; Path::CELLS], above: Above, kept: u8)
+// Takes the place of the candidate away again, by what its reserve gave.
+pub fn release(cells: &mut [u8; Path::CELLS], above: Above, saved: u64)
     requires { ⌜ (length (now cells) ≡ cellCount) × (above ≡ First → HasCandidate (now cells)) ⌝ }
-    ensures { λ _. ⌜ now (cells .exit) ≡ released above kept (now (cells .entry)) ⌝ }
+    ensures { λ _. ⌜ now (cells .exit) ≡ released above (savedByte saved) (now (cells .entry)) ⌝ }
 {
     match above {
         Above::First => {
             let chosen = cells[Path::CHOSEN] - 1;
             let slot = chosen as usize;
-            cells[slot] = kept;
+            cells[slot] = (saved / Path::USES % Path::UNDO) as u8;
             cells[Path::CHOSEN] = chosen;
         }
         Above::Step => {}

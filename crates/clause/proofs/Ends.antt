@@ -14,12 +14,13 @@ use Rattle.clause.specs.Positions.{jump, ends}
 use Rattle.clause.proofs.Lists.{length-snoc, getD-map-lt}
 use Rattle.clause.proofs.Jump.{jump-word}
 
-length-below : (n : ℕ) → length (numbersBelow n) ≡ n
+-- the numbers below n
+pub length-below : (n : ℕ) → length (numbersBelow n) ≡ n
 unfolding numbersBelow
 length-below zero = refl
 length-below (suc n) = length-snoc (numbersBelow n) n ∙ ap suc (length-below n)
 
-get-below : (n p : ℕ) → p < n → getD (numbersBelow n) p 0 ≡ p
+pub get-below : (n p : ℕ) → p < n → getD (numbersBelow n) p 0 ≡ p
 unfolding numbersBelow
 get-below zero p h = absurd (omega arith)
 get-below (suc n) p h = go (ℕ-discrete p n) (λ g. get-below n p g)

@@ -1,8 +1,8 @@
 -- Reading a clause: its shape, its literals, the terms in them, replacement of variables (substitution), subsumption.
 use mathlib.Core.Path.{_≡_}
 use mathlib.Core.Bool.{cond}
-use mathlib.Core.List.{List, [], _∷_, _++_, map, List·Memᴰ}
-use Prim.Native.Nat.{ℕ, zero, suc, _+_}
+use mathlib.Core.List.{List, [], _∷_, _++_, map}
+use Prim.Native.Nat.{ℕ, zero, suc, _+_, _<_}
 use lib.ListN.{length, getD, take, drop}
 use lib.Dec.{ltb}
 use Rattle.clause.specs.Word.{arity, Sort, symbol, variable, head, wrong, sort, ifHead, ifVariable}
@@ -117,8 +117,13 @@ unfoldable pub inst : (ℕ → List ℕ) → List ℕ → List ℕ
 inst θ [] = []
 inst θ (w ∷ ws) = replaced θ w ++ inst θ ws
 
--- clause c subsumes d: one substitution makes each literal of c a literal of d
+-- clause c subsumes d: one substitution makes each literal of c the literal of d at a place of its own
 pub record Subsumes (c d : List ℕ) : Type 0 where
   pub replace : ℕ → List ℕ
   pub terms : (v : ℕ) → IsTerm (replace v)
-  pub covered : (l : List ℕ) → List·Memᴰ l (literals c) → List·Memᴰ (inst replace l) (literals d)
+  -- the place that each literal falls on
+  pub place : ℕ → ℕ
+  pub inside : (i : ℕ) → i < length (literals c) → place i < length (literals d)
+  -- no two fall on the same
+  pub apart : (i j : ℕ) → i < length (literals c) → j < length (literals c) → place i ≡ place j → i ≡ j
+  pub covered : (i : ℕ) → i < length (literals c) → inst replace (getD (literals c) i []) ≡ getD (literals d) (place i) []

@@ -1,8 +1,10 @@
 -- Lists.
+use mathlib.Core.Path.{_≡_}
 use mathlib.Core.Bool.{Bool, true, false, _&&_}
 use mathlib.Core.List.{List, [], _∷_, _++_}
-use Prim.Native.Nat.{ℕ, zero, suc}
+use Prim.Native.Nat.{ℕ, zero, suc, _<_}
 use lib.Dec.{eqb}
+use lib.ListN.{length, getD}
 
 -- P holds of every element
 pub data All {ℓ κ} {A : Type ℓ} (P : A → Type κ) : List A → Type (ℓ ⊔ κ) where
@@ -13,6 +15,10 @@ pub data All {ℓ κ} {A : Type ℓ} (P : A → Type κ) : List A → Type (ℓ 
 pub data Each {ℓ κ} {A : Type ℓ} (R : A → A → Type κ) : List A → Type (ℓ ⊔ κ) where
   nobody : Each R []
   besides : {x : A} {xs : List A} → All (R x) xs → Each R xs → Each R (x ∷ xs)
+
+-- no number stands at two places
+abbrev pub Differ : List ℕ → Type 0
+Differ l = (i j : ℕ) → i < length l → j < length l → getD l i 0 ≡ getD l j 0 → i ≡ j
 
 -- all of some statements hold
 abbrev pub Hold : List (Type 0) → Type 0

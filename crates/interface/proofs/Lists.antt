@@ -141,6 +141,7 @@ module _ {K : List Pair} {T d : List ℕ} {b : ℕ} {W : List ℕ} (A : Answers 
           spent = ((λ s. A .spends .0 (said-spent .0 s)), (λ l. said-spent .1 (A .spends .1 l)));
           enough = enough;
           bounded = A .bounded;
+          arranged = A .arranged;
           shows = λ n s. A .covers n (needed K d) (said-covered n s);
           spares = ct-spares;
         }

@@ -3,14 +3,14 @@ use mathlib.Core.Path.{_≡_}
 use mathlib.Core.Logic.{_↔_, _≢_, _⊎_}
 use mathlib.Core.Option.{Option}
 use mathlib.Core.List.{List, [], _∷_, map, List·Memᴰ}
-use Prim.Native.Nat.{ℕ, _≤_, _<_}
+use Prim.Native.Nat.{ℕ, _*_, _≤_, _<_}
 use lib.ListN.{length}
 use Rattle.clause.specs.Word.{Words}
 use Rattle.clause.specs.Clause.{Accepted, literals}
 use Rattle.tree.specs.Forest.{layout}
 use Rattle.tree.specs.Entries.{Pair}
 use Rattle.tree.specs.Calls.{fresh, insertion, removal}
-use Rattle.walk.specs.Ceiling.{ceiling, fullBudget, ceilingCall}
+use Rattle.walk.specs.Ceiling.{ceiling, arrangements, fullBudget, ceilingCall}
 use Rattle.walk.specs.Query.{witnessWords, withShown, query}
 use Rattle.walk.specs.Covering.{most, Units, Subsumed, Shows, Untouched, candidates}
 use Rattle.book.specs.Book.{Call, insert, remove, Fit, AllFit, bookStep, bookOf, treeOf}
@@ -103,6 +103,8 @@ pub record CtAnswers (K : List Pair) (d : List ℕ) (b : ℕ) (W ts : List ℕ) 
   -- the full budget never is, and no query takes more candidates than the ceiling
   pub enough : needed K d ≤ fullBudget
   pub bounded : needed K d ≤ ceiling (length K) (length (literals d)) (most K)
+  -- nor than the arrangements of literals for each kept clause
+  pub arranged : needed K d ≤ length K * arrangements (length (literals d)) (most K)
   -- the clause kept under the number that is told subsumes d, and the witness shows it
   pub shows : (n : ℕ) → Says r ts 0 (1 ∷ n ∷ needed K d ∷ [])
       → (p : Pair) × List·Memᴰ p K × (p .number ≡ n) × Shows (p .clause) d (r .words) × Untouched (p .clause) W (r .words)

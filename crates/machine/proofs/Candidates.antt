@@ -5,14 +5,14 @@ use Prim.Native.Nat.{ℕ, _≤_}
 use native.Mathlib.Omega.{arith}
 use lib.ListN.{length, take}
 use Rattle.machine.specs.Instr.{Instr, First, Do, Success}
-use Rattle.machine.specs.Machine.{State, initial, next, stuck, require, step, starting, start, enter, run}
+use Rattle.machine.specs.Machine.{State, initial, next, stuck, require, step, starting, used, start, enter, run}
 use Rattle.machine.proofs.Effects.{fails≢next, fails≢stuck, bind-next, stuck-again}
 use Rattle.machine.proofs.Codes.{firsts}
 
 module _ (d : List ℕ) where
   -- the first candidate is always taken
   pub enter-initial : (j : ℕ) → enter d j initial ≡ next (starting d initial j)
-  unfolding enter require
+  unfolding enter require used
   enter-initial j = refl
 
   -- a run that ends has had enough of them

@@ -1,17 +1,18 @@
 -- The whole sequence of a clause on a query, with chosen literals.
 use mathlib.Core.Path.{_≡_, refl, sym, _∙_}
+use mathlib.Core.Bool.{Bool, true, false}
 use mathlib.Core.Option.{Option, none, some}
 use mathlib.Core.List.{List, [], _∷_, _++_, flatten, append-nil, append-assoc}
 use Prim.Native.Nat.{ℕ, _+_, _≤_, _<_}
 use native.Mathlib.Omega.{arith}
 use lib.ListN.{length, length-append}
 use borrow.Author.Tests.{lt-ltb}
-use Rattle.clause.specs.Lists.{All, also}
+use Rattle.clause.specs.Lists.{All, also, Differ}
 use Rattle.clause.specs.Word.{sort, ifVariable}
 use Rattle.clause.specs.Clause.{literals, maxLiterals, startOf, vars}
 use Rattle.machine.specs.Instr.{Instr, First}
 use Rattle.machine.specs.Compile.{ended, inside, closing, opening, begun, wayFrom, putsAfter, sequenceFrom}
-use Rattle.machine.specs.Machine.{slots, State, Effect, next, fails, require, starting, start, enter, finishFrom, finish, run}
+use Rattle.machine.specs.Machine.{slots, State, Effect, next, fails, require, starting, used, start, enter, finishFrom, finish, run}
 use Rattle.clause.proofs.Lists.{all-get, length-snoc}
 use Rattle.clause.proofs.Skip.{shaped-enough}
 use Rattle.clause.specs.Accepted.{IsLiteral}
@@ -23,8 +24,9 @@ use Rattle.machine.proofs.Flat.{flat, putsAll, After, Agrees, miss, hit
 use Rattle.machine.proofs.Compares.{GoesIf, holds, refuted, goes-if-from, Consistent, run-compares}
 use Rattle.machine.proofs.Replace.{length-vars, match-length}
 use Rattle.machine.proofs.Table.{filled, filled-more, filled-get}
-use Rattle.machine.proofs.Fits.{literal-match, FitsChosen, fits-none, fits-also, places}
 use Rattle.clause.proofs.Apart.{apart}
+use Rattle.machine.proofs.Used.{differ-more, differ-used}
+use Rattle.machine.proofs.Fits.{literal-match, FitsChosen, fits-none, fits-also, places}
 
 -- the variables put after some words
 puts-vars : (puts ws : List ℕ) → putsAll puts ws ≡ puts ++ vars ws
@@ -38,29 +40,35 @@ pub sequence-first : (w : ℕ) (ws : List ℕ) (puts : List ℕ) (from n : ℕ)
 unfolding sequenceFrom opening begun wayFrom
 sequence-first w ws puts from n = refl
 
-run-first : (d : List ℕ) (sequence : List Instr) (s : State) (j : ℕ) (js : List ℕ) → length (s .chosen) < maxLiterals
-    → run d (First ∷ sequence) (j ∷ js) s ≡ run d sequence js (starting d s j)
-unfolding run start enter require
-run-first d sequence s j js h = rw (lt-ltb (length (s .chosen)) maxLiterals h)
+module _ (d : List ℕ) (sequence : List Instr) (s : State) (j : ℕ) (js : List ℕ) (h : length (s .chosen) < maxLiterals) where
+  run-first : used j (s .chosen) ≡ false → run d (First ∷ sequence) (j ∷ js) s ≡ run d sequence js (starting d s j)
+  unfolding run start enter require
+  run-first u = rw (lt-ltb (length (s .chosen)) maxLiterals h, u)
+
+  -- with a literal that is already used it fails
+  run-used : used j (s .chosen) ≡ true → run d (First ∷ sequence) (j ∷ js) s ≡ fails
+  unfolding run start enter require
+  run-used u = rw (lt-ltb (length (s .chosen)) maxLiterals h, u)
 
 run-success : (d js : List ℕ) (s : State) (c : ℕ) → s .head ≡ some c → run d [] js s ≡ next s
 unfolding run finish finishFrom
 run-success d js s c e = rw e
 
--- the literals fit the chosen ones, and their variables are put, or they do not fit
+-- the literals fit the chosen ones, which all differ, and their variables are put, or not
 pub data Ended (d : List ℕ) (ls : List (List ℕ)) (js puts poss taken : List ℕ) (o : Effect State) : Type 0 where
-  succeeds : (F : FitsChosen d ls js puts poss) (s : State) → o ≡ next s → s .chosen ≡ taken ++ js → s .puts ≡ filled (places F)
+  succeeds : (F : FitsChosen d ls js puts poss) → Differ (taken ++ js) → (s : State) → o ≡ next s → s .chosen ≡ taken ++ js → s .puts ≡ filled (places F)
       → Ended d ls js puts poss taken o
-  mismatch : (FitsChosen d ls js puts poss → ⊥) → o ≡ fails → Ended d ls js puts poss taken o
+  mismatch : (FitsChosen d ls js puts poss → Differ (taken ++ js) → ⊥) → o ≡ fails → Ended d ls js puts poss taken o
 
 ended-from : {d : List ℕ} {ls : List (List ℕ)} {js puts poss taken : List ℕ} {o o′ : Effect State} → o ≡ o′ → Ended d ls js puts poss taken o′
     → Ended d ls js puts poss taken o
-ended-from e (succeeds F s f c g) = succeeds F s (e ∙ f) c g
+ended-from e (succeeds F N s f c g) = succeeds F N s (e ∙ f) c g
 ended-from e (mismatch n f) = mismatch n (e ∙ f)
 
 -- the machine is about to match the literals ls with the chosen ones
 pub record AboutToMatch (ls : List (List ℕ)) (puts poss : List ℕ) (n : ℕ) (s : State) : Type 0 where
   pub few : length (s .chosen) + length ls ≤ maxLiterals
+  pub differ : Differ (s .chosen)
   pub stored : s .puts ≡ filled poss
   pub equal : length puts ≡ length poss
   pub pushes : length (s .pushes) ≡ slots
@@ -89,11 +97,16 @@ module _ (d : List ℕ) (D : Clause d) where
   -- one literal, against literal j of the query
   module _ (l : List ℕ) (ls : List (List ℕ)) (j : ℕ) (js puts poss : List ℕ) (n : ℕ) (s : State)
       (L : IsLiteral l) (J : j < length (literals d)) (B : AboutToMatch (l ∷ ls) puts poss n s) where
-    literal-starts : (from : ℕ)
+    room : length (s .chosen) < maxLiterals
+    room = omega arith
+
+    literal-starts : (from : ℕ) → used j (s .chosen) ≡ false
         → run d (sequenceFrom (l ++ flatten ls) ended puts from n) (j ∷ js) s ≡ run d (sequenceFrom (l ++ flatten ls) (inside 0 []) puts (length puts) n) js (starting d s j)
-    literal-starts from =
-        let h : length (s .chosen) < maxLiterals = omega arith in
-        rw (L .parts) (rw sequence-first (run-first d _ s j js h))
+    literal-starts from u = rw (L .parts) (rw sequence-first (run-first d _ s j js room u))
+
+    -- it is not taken a second time
+    literal-used : (from : ℕ) → used j (s .chosen) ≡ true → run d (sequenceFrom (l ++ flatten ls) ended puts from n) (j ∷ js) s ≡ fails
+    literal-used from u = rw (L .parts) (rw sequence-first (run-used d _ s j js room u))
 
     literal-reached : Agrees d (flatten ls) (length puts) js (starting d s j) (length puts) (putsAll puts l)
         (run d (sequenceFrom (l ++ flatten ls) (inside 0 []) puts (length puts) n) js (starting d s j)) (flat d l (startOf d j))
@@ -110,8 +123,7 @@ module _ (d : List ℕ) (D : Clause d) where
           pushes = B .pushes;
         }
 
-    module _ (o : Effect State) (ps : List ℕ) (f : flat d l (startOf d j) ≡ some ps)
-        (A : After d (flatten ls) (length puts) js (starting d s j) (length puts) (putsAll puts l) o ps) where
+    module _ (u : used j (s .chosen) ≡ false) (o : Effect State) (ps : List ℕ) (f : flat d l (startOf d j) ≡ some ps) (A : After d (flatten ls) (length puts) js (starting d s j) (length puts) (putsAll puts l) o ps) where
       stored-more : A .state .puts ≡ filled (poss ++ ps)
       stored-more = A .stored ∙ rw (B .stored, B .equal) (filled-more poss ps)
 
@@ -120,6 +132,7 @@ module _ (d : List ℕ) (D : Clause d) where
       begins-next =
           record {
             few = rw (A .chosen, length-snoc) (omega arith);
+            differ = rw (A .chosen) (differ-more (s .chosen) j (B .differ) u);
             stored = stored-more;
             equal = simp length-append (omega (arith, match-length (literal-match d D l L j J ps f)));
             pushes = A .pushes;
@@ -137,27 +150,35 @@ module _ (d : List ℕ) (D : Clause d) where
 
     -- it fits, and then the others, or it does not
     module _ (rest : Runs ls) (Ls : All IsLiteral ls) (Js : All (λ j. j < length (literals d)) js) (e : length ls ≡ length js) where
-      literal-goes : (o : Effect State) (r : Option (List ℕ)) → flat d l (startOf d j) ≡ r
+      literal-goes : used j (s .chosen) ≡ false → (o : Effect State) (r : Option (List ℕ)) → flat d l (startOf d j) ≡ r
           → Agrees d (flatten ls) (length puts) js (starting d s j) (length puts) (putsAll puts l) o r
           → Ended d (l ∷ ls) (j ∷ js) puts poss (s .chosen) o
       unfolding places
-      literal-goes o none f (miss g) = mismatch (fits-some f) g
-      literal-goes o (some ps) f (hit A) =
-          go (literal-compares o ps f A) (rest js Ls Js e (puts ++ vars l) (poss ++ ps) (length puts) (A .pushed) (A .state) (begins-next o ps f A))
+      literal-goes u o none f (miss g) = mismatch (λ F N. fits-some f F) g
+      literal-goes u o (some ps) f (hit A) =
+          go (literal-compares u o ps f A) (rest js Ls Js e (puts ++ vars l) (poss ++ ps) (length puts) (A .pushed) (A .state) (begins-next u o ps f A))
         where
+          chosen-now : A .state .chosen ++ js ≡ s .chosen ++ j ∷ js
+          chosen-now = rw (A .chosen) (append-assoc (s .chosen) (j ∷ []) js)
+
           go : {o′ : Effect State} → GoesIf (Consistent d (puts ++ vars l) (poss ++ ps) (length puts)) o o′
               → Ended d ls js (puts ++ vars l) (poss ++ ps) (A .state .chosen) o′ → Ended d (l ∷ ls) (j ∷ js) puts poss (s .chosen) o
-          go (refuted n g) h = mismatch (λ F. n (fits-first ps f F .0)) g
-          go (holds c g) (succeeds F t h q p) = succeeds (fits-also f c F) t (g ∙ h) (q ∙ rw (A .chosen) (append-assoc (s .chosen) (j ∷ []) js)) p
-          go (holds c g) (mismatch n h) = mismatch (λ F. n (fits-first ps f F .1)) (g ∙ h)
+          go (refuted n g) h = mismatch (λ F N. n (fits-first ps f F .0)) g
+          go (holds c g) (succeeds F N t h q p) = succeeds (fits-also f c F) (rw chosen-now at N) t (g ∙ h) (q ∙ chosen-now) p
+          go (holds c g) (mismatch n h) = mismatch (λ F N. n (fits-first ps f F .1) (rw chosen-now N)) (g ∙ h)
 
       literal-ends : (from : ℕ) → Ended d (l ∷ ls) (j ∷ js) puts poss (s .chosen) (run d (sequenceFrom (l ++ flatten ls) ended puts from n) (j ∷ js) s)
-      literal-ends from = ended-from (literal-starts from) (literal-goes _ _ refl literal-reached)
+      literal-ends from = go (used j (s .chosen)) refl
+        where
+          go : (b : Bool) → used j (s .chosen) ≡ b → Ended d (l ∷ ls) (j ∷ js) puts poss (s .chosen) (run d (sequenceFrom (l ++ flatten ls) ended puts from n) (j ∷ js) s)
+          go true u = mismatch (λ F N. differ-used (s .chosen) j js u N) (literal-used from u)
+          go false u = ended-from (literal-starts from u) (literal-goes u _ _ refl literal-reached)
 
   pub run-literals : (ls : List (List ℕ)) → Runs ls
   unfolding flatten sequenceFrom places
   run-literals [] [] L J e puts poss from n s B =
-      let (c, h) = B .placed refl in succeeds fits-none s (run-success d [] s c h) (sym (append-nil (s .chosen))) (B .stored)
+      let (c, h) = B .placed refl in
+      succeeds fits-none (rw append-nil (B .differ)) s (run-success d [] s c h) (sym (append-nil (s .chosen))) (B .stored)
   run-literals [] (j ∷ js) L J e puts poss from n s B = absurd (omega arith)
   run-literals (l ∷ ls) [] L J e puts poss from n s B = absurd (omega arith)
   run-literals (l ∷ ls) (j ∷ js) (also L Ls) (also J Js) e puts poss from n s B =

@@ -1,5 +1,5 @@
 -- On an accepted query no instruction, of any sequence, leads out of the query.
-use mathlib.Core.Path.{_≡_, refl, sym, ap, _∙_, subst}
+use mathlib.Core.Path.{_≡_, refl, sym, _∙_, subst}
 use mathlib.Core.Option.{Option, none, some, Option·some-injective, Option·none-ne-some}
 use mathlib.Core.Bool.{Bool, true, false}
 use mathlib.Core.List.{List}
@@ -8,11 +8,13 @@ use native.Mathlib.Decide.{ℕ-discrete, decLt}
 use native.Mathlib.Omega.{arith}
 use lib.ListN.{length, getD, set}
 use lib.Seq.{getD-set-same, getD-set-other, set-out}
+use Rattle.clause.specs.Lists.{none as all-none, also}
 use Rattle.clause.specs.Clause.{literals, startOf}
 use Rattle.machine.specs.Instr.{Step, Down, Right, Put, Push, Pop, Check, Compare}
 use Rattle.machine.specs.Machine.{onto, down, right, State, initial, headed, pushing, given, Effect, next, fails, stuck, require, compareTerms}
 use Rattle.machine.specs.Machine.{stepAt, stepFrom, step, starting}
 use Rattle.machine.specs.inner.Safe.{Safe}
+use Rattle.clause.proofs.Lists.{all-append}
 use Rattle.clause.proofs.Literals.{Clause}
 use Rattle.clause.proofs.Siblings.{enough-start, down-inside, right-inside}
 use Rattle.machine.proofs.Effects.{fails≢next, stuck≢next}
@@ -63,10 +65,10 @@ module _ (d : List ℕ) (D : Clause d) (s : State) (S : Safe d s) where
   becomes {t = t} {u} e f h = let g : u ≡ t = cc in rw g at h
 
   headed-safe : (c : ℕ) → c < length d → Safe d (headed s c)
-  headed-safe c v = record { head = λ c′ e. subst (λ p. p < length d) (Option·some-injective c c′ e) v; puts = S .puts; pushes = S .pushes }
+  headed-safe c v = record { chosen = S .chosen; head = λ c′ e. subst (λ p. p < length d) (Option·some-injective c c′ e) v; puts = S .puts; pushes = S .pushes }
 
   pushed-safe : (n : ℕ) (c : ℕ) → c < length d → Safe d (pushing s n c)
-  pushed-safe n c v = record { head = S .head; puts = S .puts; pushes = set-entry (λ p. p < length d) (s .pushes) n c v (S .pushes) }
+  pushed-safe n c v = record { chosen = S .chosen; head = S .head; puts = S .puts; pushes = set-entry (λ p. p < length d) (s .pushes) n c v (S .pushes) }
 
   -- a head that is given
   given-safe : (o : Option ℕ) → ((c : ℕ) → o ≡ some c → c < length d) → {t : State} → given o (headed s) ≡ next t → Safe d t
@@ -74,7 +76,13 @@ module _ (d : List ℕ) (D : Clause d) (s : State) (S : Safe d s) where
 
   -- a new candidate
   pub starting-safe : (j : ℕ) → j < length (literals d) → Safe d (starting d s j)
-  starting-safe j h = record { head = λ c e. subst (λ p. p < length d) (Option·some-injective _ c e) (start-in d D j h); puts = S .puts; pushes = S .pushes }
+  starting-safe j h =
+      record {
+        chosen = all-append (S .chosen) (also h all-none);
+        head = λ c e. subst (λ p. p < length d) (Option·some-injective _ c e) (start-in d D j h);
+        puts = S .puts;
+        pushes = S .pushes;
+      }
 
   compare-safe : (p q : Option ℕ) {t : State} → compareTerms d s p q ≡ next t → Safe d t
   unfolding compareTerms
@@ -88,7 +96,7 @@ module _ (d : List ℕ) (D : Clause d) (s : State) (S : Safe d s) where
   stepAt-safe Right c v e = given-safe (right d c) (λ c′. right-in d D c c′ v) e
   stepAt-safe (Put k) c v e =
       becomes (goes stuck _ _ (λ t. stuck≢next) e) refl
-      (record { head = S .head; puts = set-entry (λ p. p < length d) (s .puts) k c v (S .puts); pushes = S .pushes })
+      (record { chosen = S .chosen; head = S .head; puts = set-entry (λ p. p < length d) (s .puts) k c v (S .puts); pushes = S .pushes })
   stepAt-safe (Push n) c v e =
       let (c′, f, g) = given-next (right d c) (pushing s n) (goes stuck _ _ (λ t. stuck≢next) e) in
       rw g at (pushed-safe n c′ (right-in d D c c′ v f))
@@ -105,44 +113,51 @@ module _ (d : List ℕ) (D : Clause d) (s : State) (S : Safe d s) where
       go none f e = absurd (stuck≢next e)
       go (some c) f e = stepAt-safe x c (S .head c f) e
 
--- a step that goes on leaves a head
+-- a step that goes on leaves the candidates, and a head
 module _ (d : List ℕ) (s : State) (p : ℕ) (h : s .head ≡ some p) where
   abbrev Headed : State → Type 0
-  Headed t = (q : ℕ) × (t .head ≡ some q)
+  Headed t = (t .chosen ≡ s .chosen) × ((q : ℕ) × (t .head ≡ some q))
 
   given-headed : (o : Option ℕ) {t : State} → given o (headed s) ≡ next t → Headed t
-  given-headed o e = let (q, f, g) = given-next o (headed s) e in (q, ap (λ (t : State). t .head) (sym g))
+  given-headed o e = let (q, f, g) = given-next o (headed s) e in rw (← g) (refl, (q, refl))
 
-  same-headed : {t u : State} → next u ≡ next t → u .head ≡ some p → Headed t
-  same-headed {t} {u} e f = let g : u ≡ t = cc in (p, ap (λ (t : State). t .head) (sym g) ∙ f)
+  same-headed : {t u : State} → next u ≡ next t → Headed u → Headed t
+  same-headed {t} {u} e f = let g : u ≡ t = cc in rw g at f
 
   compare-headed : (a b : Option ℕ) {t : State} → compareTerms d s a b ≡ next t → Headed t
   unfolding compareTerms
   compare-headed none b e = absurd (stuck≢next e)
   compare-headed (some a) none e = absurd (stuck≢next e)
-  compare-headed (some a) (some b) e = same-headed (goes fails _ _ (λ t. fails≢next) e) h
+  compare-headed (some a) (some b) e = same-headed (goes fails _ _ (λ t. fails≢next) e) (refl, (p, h))
 
   stepAt-headed : (x : Step) (c : ℕ) {t : State} → stepAt d x s c ≡ next t → Headed t
   unfolding stepAt
   stepAt-headed Down c e = given-headed (down d c) e
   stepAt-headed Right c e = given-headed (right d c) e
-  stepAt-headed (Put k) c e = same-headed (goes stuck _ _ (λ t. stuck≢next) e) h
-  stepAt-headed (Push n) c e = let (q, f, g) = given-next (right d c) (pushing s n) (goes stuck _ _ (λ t. stuck≢next) e) in (p, ap (λ (t : State). t .head) (sym g) ∙ h)
+  stepAt-headed (Put k) c e = same-headed (goes stuck _ _ (λ t. stuck≢next) e) (refl, (p, h))
+  stepAt-headed (Push n) c e = let (q, f, g) = given-next (right d c) (pushing s n) (goes stuck _ _ (λ t. stuck≢next) e) in rw (← g) (refl, (p, h))
   stepAt-headed (Pop n) c e = given-headed (getD (s .pushes) n none) (goes stuck _ _ (λ t. stuck≢next) e)
-  stepAt-headed (Check w) c e = same-headed (goes fails _ _ (λ t. fails≢next) e) h
+  stepAt-headed (Check w) c e = same-headed (goes fails _ _ (λ t. fails≢next) e) (refl, (p, h))
   stepAt-headed (Compare m k) c e = compare-headed _ _ (goes stuck _ _ (λ t. stuck≢next) (goes stuck _ _ (λ t. stuck≢next) e))
 
-pub step-headed : (d : List ℕ) (s : State) (x : Step) {t : State} → step d x s ≡ next t → (q : ℕ) × (t .head ≡ some q)
+step-goes : (d : List ℕ) (s : State) (x : Step) {t : State} → step d x s ≡ next t → (t .chosen ≡ s .chosen) × ((q : ℕ) × (t .head ≡ some q))
 unfolding step stepFrom
-step-headed d s x {t} e = go (s .head) refl e
+step-goes d s x {t} e = go (s .head) refl e
   where
-    go : (o : Option ℕ) → s .head ≡ o → stepFrom d x s o ≡ next t → (q : ℕ) × (t .head ≡ some q)
+    go : (o : Option ℕ) → s .head ≡ o → stepFrom d x s o ≡ next t → (t .chosen ≡ s .chosen) × ((q : ℕ) × (t .head ≡ some q))
     go none f e = absurd (stuck≢next e)
     go (some c) f e = stepAt-headed d s c f x c e
+
+pub step-chosen : (d : List ℕ) (s : State) (x : Step) {t : State} → step d x s ≡ next t → t .chosen ≡ s .chosen
+step-chosen d s x e = step-goes d s x e .0
+
+pub step-headed : (d : List ℕ) (s : State) (x : Step) {t : State} → step d x s ≡ next t → (q : ℕ) × (t .head ≡ some q)
+step-headed d s x e = step-goes d s x e .1
 
 pub initial-safe : (d : List ℕ) → Safe d initial
 initial-safe d =
     record {
+      chosen = all-none;
       head = λ c e. absurd (Option·none-ne-some c e);
       puts = λ k p e. absurd (Option·none-ne-some p (sym (unfilled-get k) ∙ e));
       pushes = λ n c e. absurd (Option·none-ne-some c (sym (unfilled-get n) ∙ e));

@@ -1,5 +1,5 @@
 -- The machine on one query.
-use mathlib.Core.Bool.{Bool, true, false}
+use mathlib.Core.Bool.{Bool, true, false, _||_, not}
 use mathlib.Core.Option.{Option, none, some}
 use mathlib.Core.List.{List, [], _∷_, _++_}
 use Prim.Native.Nat.{ℕ, zero, suc}
@@ -113,10 +113,14 @@ step d x s = stepFrom d x s (s .head)
 abbrev pub starting : List ℕ → State → ℕ → State
 starting d s j = record { chosen = s .chosen ++ (j ∷ []); head = some (startOf d j); puts = s .puts; pushes = s .pushes }
 
--- First with literal j: a ninth cannot be taken. It never fails: that effect, of a literal that is passed over uncounted, is there only for
--- machines that do not take a literal twice
+-- literal j is one of some candidates
+unfoldable pub used : ℕ → List ℕ → Bool
+used j [] = false
+used j (i ∷ is) = eqb i j || used j is
+
+-- First with literal j: a ninth cannot be taken, and a literal that is already used on this path fails, so that it is passed over
 unfoldable pub enter : List ℕ → ℕ → State → Effect State
-enter d j s = require stuck (ltb (length (s .chosen)) maxLiterals) (next (starting d s j))
+enter d j s = require stuck (ltb (length (s .chosen)) maxLiterals) (require fails (not (used j (s .chosen))) (next (starting d s j)))
 
 -- Success with the head, if there is one
 unfoldable pub finishFrom : State → Option ℕ → Effect State

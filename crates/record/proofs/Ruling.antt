@@ -1,6 +1,6 @@
 -- One record, by the clauses of the book before it.
 use mathlib.Core.Path.{_≡_, refl, sym, ap, ap₂, _∙_}
-use mathlib.Core.Logic.{_⊎_, inl, inr}
+use mathlib.Core.Logic.{_≢_, _⊎_, inl, inr}
 use mathlib.Core.Bool.{Bool, true, false}
 use mathlib.Core.Option.{Option, none as nobody, some}
 use mathlib.Core.List.{List, [], _∷_, map, List·Memᴰ, List·Memᴰ·head, List·Memᴰ·tail, List·Memᴰ·eq-of-singleton}
@@ -53,7 +53,7 @@ use Rattle.tree.proofs.Mirror.{mirrors-ins, mirrors-build}
 use Rattle.tree.proofs.Changes.{Inserts, refused, grown, inserts}
 use Rattle.walk.proofs.Kept.{kept-pair, pair-kept, subsumes-finds}
 use Rattle.walk.proofs.Covering.{query-tree, answers, decided-fits, shows-subsumes, finds-subsumed}
-use Rattle.book.proofs.Holds.{Holds, holds-leaves}
+use Rattle.book.proofs.Holds.{Holds, holds-leaves, holds-enough}
 use Rattle.book.proofs.Exact.{holds-few, holds-exact}
 use Rattle.book.proofs.Step.{insertion-is}
 
@@ -197,6 +197,10 @@ ruled {K} {x} (keeps t) =
       grows = λ h. refl;
       stays = λ n. absurd (n (wordsOf (pairOf x ∷ K), refl));
     }
+
+-- the budget is enough
+pub ruled-unspent : {K L : List Pair} {x : Record} {o : Outcome} → Holds treeWords K (treeOf K) → Ruled K x o L → o ≢ Refused 12
+ruled-unspent {x = x} h r e = let (D, over) = reason-spent (r .refused 12 .0 e) refl in omega (arith, holds-enough h (x .words) D)
 
 -- over a book of units
 pub ruled-by-units : {K L : List Pair} {x : Record} {o : Outcome} → Holds treeWords K (treeOf K) → Units K → Ruled K x o L → RuledByUnits K x o

@@ -1,8 +1,9 @@
 -- What the queries of a tree answer, in terms of the clauses that it keeps.
 use mathlib.Core.Path.{_≡_, refl, sym, ap, _∙_}
 use mathlib.Core.Logic.{_⊎_, inl, inr}
-use mathlib.Core.List.{List, [], map}
-use Prim.Native.Nat.{ℕ, _-_, _≤_, _<_}
+use mathlib.Core.List.{List, map}
+use Prim.Native.Nat.{ℕ, _-_, _*_, _≤_, _<_}
+use native.Mathlib.Nat.{mul-le-mul-left}
 use native.Mathlib.Omega.{arith}
 use native.Mathlib.Decide.{decLe}
 use lib.ListN.{length, getD, replicate, length-replicate}
@@ -13,11 +14,10 @@ use Rattle.machine.specs.Machine.{State, initial}
 use Rattle.tree.specs.Forest.{Forest, size, leaves, layout, Formed}
 use Rattle.tree.specs.Entries.{Mirrors, Pair, Sound, entry}
 use Rattle.walk.specs.Walk.{Answer, covered, notCovered, upTo, always, walk}
-use Rattle.walk.specs.Ceiling.{ceiling}
+use Rattle.walk.specs.Ceiling.{ceiling, arrangements}
 use Rattle.walk.specs.Query.{machine, witnessWords, shown, withShown, unanswered, answerBy, query}
 use Rattle.walk.specs.Covering.{most, Subsumed, Shows, countOf, candidates, IsCovered, IsNotCovered, IsSpent, Answers}
 use Rattle.clause.proofs.Apart.{apart}
-use Rattle.clause.proofs.Lists.{mem-index, index-mem}
 use Rattle.tree.proofs.Words.{length-layout, header-layout, region-layout}
 use Rattle.walk.proofs.Paths.{Finds}
 use Rattle.walk.proofs.Search.{Decides, found, nothing}
@@ -25,7 +25,8 @@ use Rattle.walk.proofs.Found.{decides}
 use Rattle.walk.proofs.Smooth.{smooth}
 use Rattle.walk.proofs.Count.{Counts, of-covered, of-notCovered, of-spent, of-broken}
 use Rattle.walk.proofs.Budget.{Capped, as-covered, as-notCovered, over, capped}
-use Rattle.walk.proofs.Bound.{count-bound}
+use Rattle.walk.proofs.Bound.{arrangements-powers, count-bound}
+use Rattle.walk.proofs.Spare.{spares}
 use Rattle.walk.proofs.Encoded.{walkWords-encode}
 use Rattle.walk.proofs.Formed.{formed-full}
 use Rattle.walk.proofs.Kept.{kept-steady, kept-short, finds-shows, subsumes-finds}
@@ -38,7 +39,10 @@ shows-subsumes c d W S =
     record {
       replace = S .replace;
       terms = S .terms;
-      covered = λ l m. let (i, h, e) = mem-index [] m in let (j, f) = S .literal i h in rw (e, f) (index-mem (literals d) (getD W i 0) [] j);
+      place = λ i. getD W i 0;
+      inside = λ i h. S .literal i h .0;
+      apart = S .apart;
+      covered = λ i h. S .literal i h .1;
     }
 
 -- a bound on the count, where there is one, bounds what `countOf` gives
@@ -81,10 +85,14 @@ module _ (K : List Pair) (F : Forest) (S : All Sound K) (R : Mirrors F (map entr
       (p, m, shows-subsumes (p .clause) d (withShown (shown t) W) shows)
 
 module _ (K : List Pair) (F : Forest) (S : All Sound K) (R : Mirrors F (map entry K)) (n : leaves F ≡ length K) (d : List ℕ) (D : Accepted d) where
-  -- the walk without a budget takes no more candidates than the ceiling
-  pub kept-bounded : candidates F d ≤ ceiling (length K) (length (literals d)) (most K)
-  kept-bounded =
-      rw (← n) (counted-le (count-bound (machine d) always F (most K) (R .formed) (formed-full 0 F (R .formed)) (kept-short K F S R) initial))
+  -- the walk without a budget takes no more candidates than the arrangements of literals, for each kept clause, and so no more than the ceiling
+  pub kept-arranged : candidates F d ≤ length K * arrangements (length (literals d)) (most K)
+  kept-arranged =
+      rw (← n)
+      (counted-le (count-bound (machine d) (spares d) always F (most K) (R .formed) (formed-full 0 F (R .formed)) (kept-short K F S R) initial))
+
+  kept-bounded : candidates F d ≤ ceiling (length K) (length (literals d)) (most K)
+  kept-bounded = omega (arith, kept-arranged, mul-le-mul-left (length K) (arrangements-powers (length (literals d)) (length (literals d)) (most K) (omega arith)))
 
   module _ (b : ℕ) (W : List ℕ) (long : witnessWords ≤ length W) (T : List ℕ) where
     -- the walk would take more candidates than the budget
@@ -102,6 +110,7 @@ module _ (K : List Pair) (F : Forest) (S : All Sound K) (R : Mirrors F (map entr
           decides = λ l. absurd (omega arith);
           denies = λ l. absurd (omega arith);
           bounded = kept-bounded;
+          arranged = kept-arranged;
         }
 
     -- the answer from the walk's answer without a budget and within it
@@ -123,6 +132,7 @@ module _ (K : List Pair) (F : Forest) (S : All Sound K) (R : Mirrors F (map entr
           decides = λ l. (λ v. finds-subsumed K F S R d D n t g, λ v. (n, c, is));
           denies = λ l. (λ v. let f = v .1 in apart cc, λ none. absurd (none (finds-subsumed K F S R d D n t g)));
           bounded = kept-bounded;
+          arranged = kept-arranged;
         }
     answers-from (covered n t c) a′ e (found g) (over (of-covered h)) u =
         let all : candidates F d ≡ c = ap countOf e in
@@ -143,6 +153,7 @@ module _ (K : List Pair) (F : Forest) (S : All Sound K) (R : Mirrors F (map entr
           decides = λ l. (λ v. let f = v .2 in apart cc, λ v. absurd (none v));
           denies = λ l. (λ v. none, λ v. (c, is));
           bounded = kept-bounded;
+          arranged = kept-arranged;
         }
     answers-from (notCovered c) a′ e (nothing g) (over (of-notCovered h)) u =
         let all : candidates F d ≡ c = ap countOf e in

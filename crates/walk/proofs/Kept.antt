@@ -77,7 +77,7 @@ module _ (c d : List ℕ) (C : Clause c) (D : Clause d) (w : Words c) where
       long = simp (length-append, length-replicate) (omega (arith, sequence-firsts c C))
 
       go : {js′ : List ℕ} → Result c d js′ (runCode d (sequence c) more initial) → runCode d (sequence c) more initial ≡ stuck → ⊥
-      go (covers M ps a s f q p) g = stuck≢next (sym g ∙ f)
+      go (covers M N ps a s f q p) g = stuck≢next (sym g ∙ f)
       go (misses n f) g = fails≢stuck (sym f ∙ g)
 
   -- a run to the end is shown by the witness
@@ -95,8 +95,8 @@ module _ (c d : List ℕ) (C : Clause c) (D : Clause d) (w : Words c) where
       go : (js′ : List ℕ) → Result c d js′ (runCode d (sequence c) js initial) → Choice c d js′
           → Shows c d (withShown (shown t) W) × Untouched c W (withShown (shown t) W)
       go js′ (misses n f) H = absurd (fails≢next (sym f ∙ ran))
-      go js′ (covers M ps a s f q p) H = (
-        record { replace = M .replace; terms = M .terms; literal = at-literal; position = at-position },
+      go js′ (covers M N ps a s f q p) H = (
+        record { replace = M .replace; terms = M .terms; literal = at-literal; apart = apart; position = at-position },
         record { long = length-withShown (shown t) W; literal = spare-literal; position = spare-position },
       )
         where
@@ -117,18 +117,21 @@ module _ (c d : List ℕ) (C : Clause c) (D : Clause d) (w : Words c) where
               let put : getD (t .puts) k none ≡ none = rw (← same, p) (filled-none ps k (omega (arith, count, length-vars c, C .fits)) (omega (arith, count))) in
               withShown-elsewhere (shown t) W (maxLiterals + k) (shown-position t k ∙ put)
 
+          within : (i : ℕ) → i < length (literals c) → i < length js′
+          within i h = omega (arith, H .each)
+
+          word : (i : ℕ) → i < length (literals c) → getD (withShown (shown t) W) i 0 ≡ getD js′ i 0
+          word i h =
+              let there : i < length (t .chosen) = rw (← same, q) (within i h) in
+              withShown-there (shown t) W i (getD js′ i 0) (omega arith) (shown-literal t i few there ∙ rw (← same, q))
+
+          apart : (i j : ℕ) → i < length (literals c) → j < length (literals c) → getD (withShown (shown t) W) i 0 ≡ getD (withShown (shown t) W) j 0 → i ≡ j
+          apart i j h g e = N i j (within i h) (within j g) (sym (word i h) ∙ e ∙ word j g)
+
           at-literal : (i : ℕ) → i < length (literals c)
               → (getD (withShown (shown t) W) i 0 < length (literals d)) × (inst (M .replace) (getD (literals c) i []) ≡ getD (literals d) (getD (withShown (shown t) W) i 0) [])
           at-literal i h =
-              let i′ : i < length js′ = omega (arith, H .each) in
-              let there : i < length (t .chosen) = rw (← same, q) i′ in
-              let word : getD (withShown (shown t) W) i 0 ≡ getD js′ i 0 =
-              withShown-there (shown t) W i (getD js′ i 0) (omega arith) (shown-literal t i few there ∙ rw (← same, q)) in
-              rw word (
-                all-get js′ (H .valid) i 0 i′,
-                sym (getD-map-lt (inst (M .replace)) (literals c) i [] [] h) ∙ ap (λ l. getD l i []) (M .made)
-                    ∙ getD-map-lt (chosen d) js′ i 0 [] i′,
-              )
+              rw (word i h) (all-get js′ (H .valid) i 0 (within i h), sym (getD-map-lt (inst (M .replace)) (literals c) i [] [] h) ∙ ap (λ l. getD l i []) (M .made) ∙ getD-map-lt (chosen d) js′ i 0 [] (within i h))
 
           at-position : (k : ℕ) → k < length (vars c)
               → (getD (withShown (shown t) W) (maxLiterals + k) 0 < length d) × (M .replace (getD (vars c) k 0) ≡ termAt d (getD (withShown (shown t) W) (maxLiterals + k) 0))

@@ -1,7 +1,7 @@
 -- The ceiling of a walk's count.
 use mathlib.Core.Path.{_≡_}
 use mathlib.Core.Bool.{cond, _&&_}
-use Prim.Native.Nat.{ℕ, zero, suc, _+_, _*_, _^_}
+use Prim.Native.Nat.{ℕ, zero, suc, _+_, _-_, _*_, _^_}
 use lib.Dec.{leb}
 use Rattle.clause.specs.Clause.{maxLiterals}
 use Rattle.tree.specs.Laid.{maxKept}
@@ -18,6 +18,11 @@ powers q (suc m) = powers q m + q ^ suc m
 abbrev pub ceiling : (kept q m : ℕ) → ℕ
 ceiling kept q m = kept * powers q m
 
+-- q + q·(q − 1) + .. of m summands: the ways to take up to m of q literals one after another, none of them twice
+abbrev pub arrangements : ℕ → ℕ → ℕ
+arrangements q zero = zero
+arrangements q (suc m) = q * suc (arrangements (q - 1) m)
+
 -- the greatest ceiling, the full budget
 abbrev pub fullBudget : ℕ
 fullBudget = ceiling maxKept maxLiterals maxLiterals
@@ -25,6 +30,14 @@ fullBudget = ceiling maxKept maxLiterals maxLiterals
 -- a claim: what it comes to
 abbrev pub FullBudget : Type 0
 FullBudget = fullBudget ≡ 19_634_135_040
+
+-- the most arrangements, for the most clauses: a budget that is enough on every tree made by calls
+abbrev pub enoughBudget : ℕ
+enoughBudget = maxKept * arrangements maxLiterals maxLiterals
+
+-- a claim: what it comes to
+abbrev pub EnoughBudget : Type 0
+EnoughBudget = enoughBudget ≡ 112_230_400
 
 -- the ceiling call
 abbrev pub ceilingCall : (kept q m : ℕ) → CeilingAnswer

@@ -2,7 +2,7 @@
 use mathlib.Core.Path.{_≡_}
 use mathlib.Core.Logic.{_↔_, _⊎_}
 use mathlib.Core.List.{List, [], _∷_, List·Memᴰ}
-use Prim.Native.Nat.{ℕ, _+_, _≤_, _<_, max}
+use Prim.Native.Nat.{ℕ, _+_, _*_, _≤_, _<_, max}
 use lib.ListN.{length, getD}
 use Rattle.clause.specs.Lists.{All}
 use Rattle.clause.specs.Clause.{maxLiterals, literals, vars, termAt, IsTerm, inst, Subsumes}
@@ -10,7 +10,7 @@ use Rattle.machine.specs.Machine.{State, initial}
 use Rattle.tree.specs.Forest.{Forest}
 use Rattle.tree.specs.Entries.{Pair}
 use Rattle.walk.specs.Walk.{Answer, covered, notCovered, spent, broken, always, walk}
-use Rattle.walk.specs.Ceiling.{ceiling}
+use Rattle.walk.specs.Ceiling.{ceiling, arrangements}
 use Rattle.walk.specs.Query.{machine, query}
 use Rattle.tree.specs.declared.Refusal.the-variants.{Spent}
 use Rattle.walk.specs.declared.QueryAnswer.the-variants.{Unanswered, Covered, NotCovered}
@@ -28,14 +28,15 @@ Units = All (λ p. length (literals (p .clause)) ≡ 1)
 abbrev pub Subsumed : List Pair → List ℕ → Type 0
 Subsumed K d = (p : Pair) × List·Memᴰ p K × Subsumes (p .clause) d
 
--- the witness words show c subsuming d: one replacement makes each literal of c the literal of d that is given for it, and the variable of
--- each Put the term at the position that is given for it
+-- the witness words show c subsuming d: one replacement makes each literal of c the literal of d that is given for it, no two given the same,
+-- and the variable of each Put the term at the position that is given for it
 pub record Shows (c d witness : List ℕ) : Type 0 where
   pub replace : ℕ → List ℕ
   pub terms : (v : ℕ) → IsTerm (replace v)
   pub literal :
       (i : ℕ) → i < length (literals c)
       → (getD witness i 0 < length (literals d)) × (inst replace (getD (literals c) i []) ≡ getD (literals d) (getD witness i 0) [])
+  pub apart : (i j : ℕ) → i < length (literals c) → j < length (literals c) → getD witness i 0 ≡ getD witness j 0 → i ≡ j
   pub position : (k : ℕ) → k < length (vars c)
       → (getD witness (maxLiterals + k) 0 < length d) × (replace (getD (vars c) k 0) ≡ termAt d (getD witness (maxLiterals + k) 0))
 
@@ -91,3 +92,5 @@ pub record Answers (K : List Pair) (F : Forest) (T d : List ℕ) (b : ℕ) (W : 
   pub denies : candidates F d ≤ b → IsNotCovered T d b W ↔ (Subsumed K d → ⊥)
   -- never more candidates than the ceiling
   pub bounded : candidates F d ≤ ceiling (length K) (length (literals d)) (most K)
+  -- nor, since no literal is used twice on a path, than the arrangements of literals for each kept clause
+  pub arranged : candidates F d ≤ length K * arrangements (length (literals d)) (most K)

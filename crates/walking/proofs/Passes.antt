@@ -1,6 +1,7 @@
 -- The passes over the words below a node: one from each candidate of a First, or one from the state itself.
 use Prim.Native.Nat.{ℕ, zero, suc, _+_, _-_, _≤_, _<_}
 use mathlib.Core.Path.{_≡_, refl, _∙_}
+use mathlib.Core.Bool.{true, false}
 use mathlib.Core.List.{List}
 use native.Mathlib.Omega.{arith}
 use native.Mathlib.Numerals.{add-one}
@@ -8,7 +9,7 @@ use lib.ListN.{length}
 use borrow.Author.Tests.{le-leb, lt-leb, lt-ltb}
 use Rattle.clause.specs.Clause.{maxLiterals, literals}
 use Rattle.clause.proofs.Apart.{apart}
-use Rattle.machine.specs.Machine.{State, enter, require}
+use Rattle.machine.specs.Machine.{State, used, enter, require}
 use Rattle.walk.specs.Walk.{Answer, covered, notCovered, spent, broken, Part, andThen, tries, upTo}
 use Rattle.walk.specs.Query.{machine, shown}
 use Rattle.cells.specs.inner.Cells.{entered, passesOf, passState, stateOf}
@@ -45,17 +46,24 @@ module _ (d : List ℕ) (b : ℕ) (k : State → Part State) (s : State) where
   unfolding runs passState
   runs-plain e m j c h = let n : m - j ≡ suc (m - (j + 1)) = omega arith in rw (e, n, add-one)
 
-  module _ (few : length (s .chosen) < maxLiterals) where
-    pub runs-spent : {above : Above} → above ≡ First → (m j c : ℕ) → j < m → b ≤ c → runs d b above k s (m - j) j c ≡ spent
+  module _ (few : length (s .chosen) < maxLiterals) {above : Above} (e : above ≡ First) (m j c : ℕ) (h : j < m) where
+    -- a literal that is used is passed over
+    pub runs-over : used j (s .chosen) ≡ true → runs d b above k s (m - j) j c ≡ runs d b above k s (m - (j + 1)) (j + 1) c
     unfolding runs enter require
-    runs-spent e m j c h g = let n : m - j ≡ suc (m - (j + 1)) = omega arith in rw (e, n, lt-ltb (length (s .chosen)) maxLiterals few, lt-leb (suc c) b (omega arith))
+    runs-over u = let n : m - j ≡ suc (m - (j + 1)) = omega arith in rw (e, n, lt-ltb (length (s .chosen)) maxLiterals few, u, add-one j)
 
-    pub runs-first : {above : Above} → above ≡ First → (m j c : ℕ) → j < m → c < b
-        → runs d b above k s (m - j) j c ≡ andThen (k (passState d above j s) (c + 1)) (runs d b above k s (m - (j + 1)) (j + 1))
-    unfolding runs enter require passState
-    runs-first e m j c h g =
-        let n : m - j ≡ suc (m - (j + 1)) = omega arith in
-        rw (e, n, lt-ltb (length (s .chosen)) maxLiterals few, le-leb (suc c) b (omega arith), add-one j, add-one c)
+    module _ (u : used j (s .chosen) ≡ false) where
+      pub runs-spent : b ≤ c → runs d b above k s (m - j) j c ≡ spent
+      unfolding runs enter require
+      runs-spent g =
+          let n : m - j ≡ suc (m - (j + 1)) = omega arith in
+          rw (e, n, lt-ltb (length (s .chosen)) maxLiterals few, u, lt-leb (suc c) b (omega arith))
+
+      pub runs-first : c < b → runs d b above k s (m - j) j c ≡ andThen (k (passState d above j s) (c + 1)) (runs d b above k s (m - (j + 1)) (j + 1))
+      unfolding runs enter require passState
+      runs-first g =
+          let n : m - j ≡ suc (m - (j + 1)) = omega arith in
+          rw (e, n, lt-ltb (length (s .chosen)) maxLiterals few, u, le-leb (suc c) b (omega arith), add-one j, add-one c)
 
 -- what is seen of an answer
 pub seen-missed : (a : Answer State) {c : ℕ} → missed c ≡ seen a → a ≡ notCovered c

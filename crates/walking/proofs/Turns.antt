@@ -1,29 +1,32 @@
 -- The passes over the words below a node, as the walk's code takes them: where the node is entered, between two passes, and where a pass begins.
-use Prim.Native.Nat.{ℕ, _+_, _-_, _≤_, _<_}
+use Prim.Native.Nat.{ℕ, _+_, _-_, _%_, _≤_, _<_}
 use mathlib.Core.Path.{_≡_, refl, sym, ap, _∙_}
-use mathlib.Core.Logic.{_⊎_, ⊎-elim}
+use mathlib.Core.Bool.{true, false}
+use mathlib.Core.Logic.{_⊎_, inl, inr, ⊎-elim}
 use mathlib.Core.List.{List}
 use native.Mathlib.Omega.{arith}
 use lib.ListN.{length, getD}
 use Rattle.clause.specs.Clause.{maxLiterals, literals}
+use Rattle.clause.proofs.Lists.{all-weaken}
 use Rattle.clause.proofs.Literals.{accepted}
-use Rattle.machine.specs.Machine.{State}
+use Rattle.machine.specs.Machine.{State, used}
 use Rattle.machine.specs.inner.Safe.{Safe}
 use Rattle.machine.proofs.Safe.{start-in, starting-safe}
 use Rattle.walk.specs.Walk.{Answer, covered, notCovered, broken, Part, andThen, upTo}
 use Rattle.walk.specs.Words.{walkWords}
 use Rattle.walk.specs.Query.{machine}
 use Rattle.clause.specs.inner.Tables.{atCount}
-use Rattle.cells.specs.inner.Cells.{cellCount, noPosition, HasPlace, HasCandidate, stateOf, Walkable}
-use Rattle.cells.specs.inner.Cells.{aboveOf, reserved, candidate, released, keptIn, passHead, passState, passesOf, entered}
+use Rattle.cells.specs.inner.Cells.{cellCount, noPosition, HasPlace, HasCandidate, HasLiterals, stateOf, Walkable}
+use Rattle.cells.specs.inner.Cells.{useLimit, bitsOf, hasBit, usesOf, savedByte, aboveOf, reserved, candidate, released, keptIn, passHead, passState, passesOf, entered}
 use Rattle.cells.specs.declared.Above.{Above}
 use Rattle.cells.specs.declared.Above.the-variants.{First, Step}
 use Rattle.walking.specs.inner.Findings.{Walked}
 use Rattle.walking.specs.declared.End.the-variants.{Missed, Found, Broken, Spent}
 use Rattle.walking.specs.declared.Finding.{Finding}
 use Rattle.cells.proofs.Places.{place-some, above-first, above-step, waiting, waiting-reserve, waiting-next, waiting-release, waiting-size, waiting-few, waiting-state}
+use Rattle.cells.proofs.Bits.{bits-used, low-bit}
 use Rattle.stepping.proofs.Visits.{chosen-length}
-use Rattle.walking.proofs.Passes.{runs, runs-whole, runs-end, runs-first, runs-plain, runs-spent}
+use Rattle.walking.proofs.Passes.{runs, runs-whole, runs-end, runs-over, runs-first, runs-plain, runs-spent}
 use Rattle.walking.proofs.Passes.{then-on, then-broken, then-covered, then-found, walked-missed, walked-spent, walked-broken, walked-found, walked-same}
 
 -- the literal of a pass
@@ -31,14 +34,19 @@ pass-literal : {above : Above} {last q j : ℕ} → above ≡ First → last ≡
 unfolding passesOf
 pass-literal {last = last} {q} {j} e f g h = let z : last ≡ q = f ∙ rw e in omega arith
 
+-- the candidates in the cells are literals
+pub walkable-literals : {d t : List ℕ} {h : ℕ} {l : List ℕ} → Walkable d t h l → HasLiterals l
+walkable-literals {d} R = let f = accepted d (R .whole) .few in (R .few, all-weaken (λ j g. omega (arith, f)) (R .safe .chosen))
+
 -- the next pass
 turn :
     (d : List ℕ) (b : ℕ) (k : State → Part State) (above : Above) (s : State) → (above ≡ First → length (s .chosen) < maxLiterals)
-    → (last j n n′ : ℕ) → j < last → ((above ≡ First) × (n < b) × (n′ ≡ n + 1)) ⊎ ((above ≡ Step) × (n′ ≡ n)) → {u : State} → u ≡ passState d above j s
+    → (last j n n′ : ℕ) → j < last → ((above ≡ First) × (used j (s .chosen) ≡ false) × (n < b) × (n′ ≡ n + 1)) ⊎ ((above ≡ Step) × (n′ ≡ n))
+    → {u : State} → u ≡ passState d above j s
     → runs d b above k s (last - j) j n ≡ andThen (k u n′) (runs d b above k s (last - (j + 1)) (j + 1))
 turn d b k above s few last j n n′ more kind e =
     rw e (⊎-elim
-    (λ w. rw (w .2) (runs-first d b k s (few (w .0)) (w .0) last j n more (w .1)))
+    (λ w. rw (w .3) (runs-first d b k s (few (w .0)) (w .0) last j n more (w .1) (w .2)))
     (λ w. rw (w .1) (runs-plain d b k s (w .0) last j n more))
     kind)
 
@@ -71,34 +79,35 @@ module _ (d t : List ℕ) (h : ℕ) (l : List ℕ) (R : Walkable d t h l) (above
 pub first-few : (h : ℕ) (l : List ℕ) → (h ≡ noPosition → HasPlace l) → {above : Above} → above ≡ aboveOf h → above ≡ First → HasPlace l
 first-few h l room f e = room (above-first h (sym f ∙ e))
 
--- a node is entered: whether it is a First, how many passes there are, and what stood where the candidate is to stand
-pub record Entry (d t words : List ℕ) (b h : ℕ) (l : List ℕ) (n₀ : ℕ) (above : Above) (last kept : ℕ) (l₁ : List ℕ) : Type 0 where
+-- a node is entered: whether it is a First, how many passes there are, and what is saved: the literals used, and what stood where the candidate is to stand
+pub record Entry (d t words : List ℕ) (b h : ℕ) (l : List ℕ) (n₀ : ℕ) (above : Above) (last saved : ℕ) (l₁ : List ℕ) : Type 0 where
   pub ready : Walkable d t h l
   pub room : h ≡ noPosition → HasPlace l
   pub by-head : above ≡ aboveOf h
   pub times : last ≡ passesOf above (getD t atCount 0)
-  pub keeps : kept ≡ keptIn above l
+  pub takes : saved % useLimit ≡ usesOf above l
+  pub keeps : savedByte saved ≡ keptIn above l
   pub reserves : l₁ ≡ reserved above l
 
 -- between two passes: a place for the candidate, and the walk is the passes that are left; without the place the cells are those at the entry
-pub record Between (d words : List ℕ) (b h n₀ : ℕ) (above : Above) (last kept : ℕ) (l₁ cells : List ℕ) (n j : ℕ) : Type 0 where
+pub record Between (d words : List ℕ) (b h n₀ : ℕ) (above : Above) (last saved : ℕ) (l₁ cells : List ℕ) (n j : ℕ) : Type 0 where
   pub inside : j ≤ last
   pub latest : ℕ
   pub place : cells ≡ candidate above latest l₁
   pub same :
-      entered d b above (walkWords (machine d) (upTo b) words) (stateOf h (released above kept l₁)) n₀
-      ≡ runs d b above (walkWords (machine d) (upTo b) words) (stateOf h (released above kept l₁)) (last - j) j n
+      entered d b above (walkWords (machine d) (upTo b) words) (stateOf h (released above (savedByte saved) l₁)) n₀
+      ≡ runs d b above (walkWords (machine d) (upTo b) words) (stateOf h (released above (savedByte saved) l₁)) (last - j) j n
 
 -- a pass begins: its count, its head and its cells
-pub record Begun (d t words : List ℕ) (b h : ℕ) (l : List ℕ) (n₀ : ℕ) (above : Above) (last kept : ℕ) (l₁ cells : List ℕ) (n j n₁ here : ℕ) (out : List ℕ) : Type 0 where
-  pub entry : Entry d t words b h l n₀ above last kept l₁
-  pub between : Between d words b h n₀ above last kept l₁ cells n j
+pub record Begun (d t words : List ℕ) (b h : ℕ) (l : List ℕ) (n₀ : ℕ) (above : Above) (last saved : ℕ) (l₁ cells : List ℕ) (n j n₁ here : ℕ) (out : List ℕ) : Type 0 where
+  pub entry : Entry d t words b h l n₀ above last saved l₁
+  pub between : Between d words b h n₀ above last saved l₁ cells n j
   pub more : j < last
-  pub counted : ((above ≡ First) × (n < b) × (n₁ ≡ n + 1)) ⊎ ((above ≡ Step) × (n₁ ≡ n))
+  pub counted : ((above ≡ First) × (hasBit saved j ≡ false) × (n < b) × (n₁ ≡ n + 1)) ⊎ ((above ≡ Step) × (n₁ ≡ n))
   pub head : here ≡ passHead d above h j
   pub stored : out ≡ candidate above j cells
 
-module _ {d t words : List ℕ} {b h : ℕ} {l : List ℕ} {n₀ : ℕ} {above : Above} {last kept : ℕ} {l₁ : List ℕ} (E : Entry d t words b h l n₀ above last kept l₁) where
+module _ {d t words : List ℕ} {b h : ℕ} {l : List ℕ} {n₀ : ℕ} {above : Above} {last saved : ℕ} {l₁ : List ℕ} (E : Entry d t words b h l n₀ above last saved l₁) where
   abbrev k : State → Part State
   k = walkWords (machine d) (upTo b) words
 
@@ -125,11 +134,21 @@ module _ {d t words : List ℕ} {b h : ℕ} {l : List ℕ} {n₀ : ℕ} {above :
   literal : {j : ℕ} → j < last → above ≡ First → j < length (literals d)
   literal m e = pass-literal e (E .times) (E .ready .tables .count) m
 
-  base : released above kept l₁ ≡ l
+  small : {j : ℕ} → j < last → above ≡ First → j < maxLiterals
+  small m e = omega (arith, literal m e, accepted d (E .ready .whole) .few)
+
+  -- a literal is used where it has its bit
+  by-bit : above ≡ First → {j : ℕ} → j < last → hasBit saved j ≡ used j (s .chosen)
+  unfolding usesOf
+  by-bit e {j} m =
+      let bits : saved % useLimit ≡ bitsOf (s .chosen) = E .takes ∙ rw e in
+      sym (low-bit saved j (small m e)) ∙ ap (λ (n : ℕ). hasBit n j) bits ∙ bits-used (s .chosen) j
+
+  base : released above (savedByte saved) l₁ ≡ l
   base = rw (E .keeps, E .reserves ∙ waiting-reserve above l size few) (waiting-release above l size few (keptIn above l))
 
   -- before the first pass
-  pub entry-start : Between d words b h n₀ above last kept l₁ l₁ n₀ 0
+  pub entry-start : Between d words b h n₀ above last saved l₁ l₁ n₀ 0
   entry-start =
       record {
         inside = omega arith;
@@ -138,7 +157,7 @@ module _ {d t words : List ℕ} {b h : ℕ} {l : List ℕ} {n₀ : ℕ} {above :
         same = sym (runs-whole d b k _ above (E .times ∙ ap (passesOf above) (E .ready .tables .count)) n₀);
       }
 
-  module _ {cells : List ℕ} {n j : ℕ} (B : Between d words b h n₀ above last kept l₁ cells n j) where
+  module _ {cells : List ℕ} {n j : ℕ} (B : Between d words b h n₀ above last saved l₁ cells n j) where
     held : cells ≡ waiting above (B .latest) l
     held = B .place ∙ ap (candidate above (B .latest)) (E .reserves)
 
@@ -154,17 +173,30 @@ module _ {d t words : List ℕ} {b h : ℕ} {l : List ℕ} {n₀ : ℕ} {above :
     pub between-literal : j < last → above ≡ First → HasCandidate cells × (j < length (literals d))
     between-literal m e = (between-room e, literal m e)
 
+    pub between-small : j < last → above ≡ First → j < maxLiterals
+    between-small = small
+
     -- no pass is left
-    pub between-ends : last ≤ j → {out : List ℕ} → out ≡ released above kept cells → Walked (entered d b (aboveOf h) k s n₀) l out (record { end = Missed; count = n })
+    pub between-ends : last ≤ j → {out : List ℕ} → out ≡ released above (savedByte saved) cells → Walked (entered d b (aboveOf h) k s n₀) l out (record { end = Missed; count = n })
     between-ends m o = walked-missed (asked ∙ left ∙ runs-end d b k s above last j n m) (o ∙ rw (E .keeps, held) (waiting-release above l size few (B .latest)))
 
-    -- the budget is spent
-    pub between-spent : above ≡ First → j < last → b ≤ n → Walked (entered d b (aboveOf h) k s n₀) l cells (record { end = Spent; count = n })
-    between-spent e m g = walked-spent n (asked ∙ left ∙ runs-spent d b k s (chosen-few e) e last j n m g) (between-size ∙ sym size)
+    -- literal j is used: it is passed over
+    pub between-over : above ≡ First → j < last → hasBit saved j ≡ true → Between d words b h n₀ above last saved l₁ cells n (j + 1)
+    between-over e m u =
+        record {
+          inside = omega arith;
+          latest = B .latest;
+          place = B .place;
+          same = rw base (left ∙ runs-over d b k s (chosen-few e) e last j n m (sym (by-bit e m) ∙ u));
+        }
 
-module _ {d t words : List ℕ} {b h : ℕ} {l : List ℕ} {n₀ : ℕ} {above : Above} {last kept : ℕ} {l₁ cells : List ℕ} {n j n₁ here : ℕ} {out : List ℕ}
-    (P : Begun d t words b h l n₀ above last kept l₁ cells n j n₁ here out) where
-  abbrev E : Entry d t words b h l n₀ above last kept l₁
+    -- the budget is spent
+    pub between-spent : above ≡ First → j < last → hasBit saved j ≡ false → b ≤ n → Walked (entered d b (aboveOf h) k s n₀) l cells (record { end = Spent; count = n })
+    between-spent e m u g = walked-spent n (asked ∙ left ∙ runs-spent d b k s (chosen-few e) e last j n m (sym (by-bit e m) ∙ u) g) (between-size ∙ sym size)
+
+module _ {d t words : List ℕ} {b h : ℕ} {l : List ℕ} {n₀ : ℕ} {above : Above} {last saved : ℕ} {l₁ cells : List ℕ} {n j n₁ here : ℕ} {out : List ℕ}
+    (P : Begun d t words b h l n₀ above last saved l₁ cells n j n₁ here out) where
+  abbrev E : Entry d t words b h l n₀ above last saved l₁
   E = P .entry
 
   abbrev row : State → Part State
@@ -185,14 +217,17 @@ module _ {d t words : List ℕ} {b h : ℕ} {l : List ℕ} {n₀ : ℕ} {above :
     rw (P .head) (start-inside d t h l (E .ready) above j more (inside E)),
   )
 
+  counted : ((above ≡ First) × (used j (stateOf h l .chosen) ≡ false) × (n < b) × (n₁ ≡ n + 1)) ⊎ ((above ≡ Step) × (n₁ ≡ n))
+  counted = ⊎-elim (λ w. inl (w .0, sym (by-bit E (w .0) (P .more)) ∙ w .1, w .2, w .3)) inr (P .counted)
+
   -- the walk from this pass on
   next : entered d b above row (stateOf h l) n₀ ≡ andThen (row (stateOf here out) n₁) (runs d b above row (stateOf h l) (last - (j + 1)) (j + 1))
   next =
       left E (P .between)
-      ∙ turn d b row above (stateOf h l) (chosen-few E) last j n n₁ (P .more) (P .counted) (rw (P .head, begun) (waiting-state d t h l (E .ready) j above more))
+      ∙ turn d b row above (stateOf h l) (chosen-few E) last j n n₁ (P .more) counted (rw (P .head, begun) (waiting-state d t h l (E .ready) j above more))
 
   -- its row misses
-  pub pass-missed : {c : ℕ} {after : List ℕ} → row (stateOf here out) n₁ ≡ notCovered c → after ≡ out → Between d words b h n₀ above last kept l₁ after c (j + 1)
+  pub pass-missed : {c : ℕ} {after : List ℕ} → row (stateOf here out) n₁ ≡ notCovered c → after ≡ out → Between d words b h n₀ above last saved l₁ after c (j + 1)
   pass-missed e f =
       record {
         inside = let m = P .more in omega arith;

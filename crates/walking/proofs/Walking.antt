@@ -173,7 +173,7 @@ headless d t h l R =
     record {
       whole = R .whole;
       tables = R .tables;
-      safe = record { head = λ p e. absurd (Option·none-ne-some p (sym (place-none refl) ∙ e)); puts = R .safe .puts; pushes = R .safe .pushes };
+      safe = record { chosen = R .safe .chosen; head = λ p e. absurd (Option·none-ne-some p (sym (place-none refl) ∙ e)); puts = R .safe .puts; pushes = R .safe .pushes };
       size = R .size;
       few = R .few;
     }

@@ -4,6 +4,7 @@ use crate::Finding;
 use cells::Above;
 use cells::Path;
 use cells::begin;
+use cells::in_use;
 use cells::passes;
 use cells::release;
 use cells::reserve;
@@ -23,6 +24,7 @@ ghost use Rattle.cells.specs.inner.Cells.{noPosition, HasPlace, Walkable};
 ghost use Rattle.walking.specs.inner.Findings.{walkBelow, walkTop, Walked};
 
 // Walks the words below a node: from each candidate of a First, which hands on no head, or once, siblings in order. After a miss the cells are as before.
+// A First passes over the literals that are used on its path, before it looks at the budget.
 // The last word of a row needs no call: what stands below it is the row from there on, and the trail brings its cell back.
 pub fn walk(
     words: &[u64],
@@ -39,18 +41,22 @@ pub fn walk(
 {
     let above = Above::of(head);
     let last = passes(tables, above);
-    let kept = reserve(cells, above);
+    let saved = reserve(cells, above);
     let mut n = count;
     let mut j = 0;
     'tries: loop {
         if j >= last {
-            release(cells, above, kept);
+            release(cells, above, saved);
             break 'tries Finding {
                 end: End::Missed,
                 count: n,
             };
         }
         if let Above::First = above {
+            if in_use(saved, j) {
+                j += 1;
+                continue 'tries;
+            }
             if n >= budget {
                 break 'tries Finding {
                     end: End::Spent,

@@ -177,7 +177,7 @@ pub fn query(
     answer(code, told[0], cover)
 }
 
-/// The most candidates that a query of q literals can take with so many kept clauses of at most m literals.
+/// A bound: a query of q literals takes no more candidates, with so many kept clauses of at most m literals.
 pub fn ceiling(kept: u64, q: u64, m: u64) -> Result<u64, Refusal> {
     let mut told = [0];
     let code = raw::ceiling(kept, q, m, &mut told);

@@ -8,6 +8,7 @@ use model::calls::Cover;
 use model::instruction::{header, Instruction, Operation};
 use model::laid::well_laid;
 use model::limits::{FULL_BUDGET, KEPT, LITERALS, WITNESS_WORDS};
+use Operation::{Check, Compare, Down, First, Pop, Push, Put, Right};
 
 // Each call on words that need not be a tree.
 fn call_all(tree: &mut [u64], clause: &[u16], random: &mut Random, tally: &mut Tally) {
@@ -81,13 +82,15 @@ const LEAST: [(&str, u64); 12] = [
     ("well laid", 5_000),
 ];
 
+// What the words of a tree do, the commoner ones more than once.
+const ANY: [Operation; 11] = [
+    First, Down, Down, Right, Put, Put, Push, Pop, Check, Check, Compare,
+];
+const FIRSTS: [Operation; 5] = [First, First, First, First, Check];
+
 // An instruction over the query's symbols; few numbers, so that Pops and Compares find them filled.
-fn any_instruction(random: &mut Random) -> Instruction {
-    use Operation::*;
-    let operations = [
-        First, Down, Down, Right, Put, Put, Push, Pop, Check, Check, Compare,
-    ];
-    let operation = random.of(&operations);
+fn any_instruction(operations: &[Operation], random: &mut Random) -> Instruction {
+    let operation = random.of(operations);
     let operand = match operation {
         First | Down | Right => 0,
         Check => random.of(&[0x9001, 0x8801, 0x8001, 0x0001, 0x0803, 0x4000, 0x1_9001]),
@@ -98,10 +101,23 @@ fn any_instruction(random: &mut Random) -> Instruction {
     Instruction::new(operation, operand)
 }
 
-// Adds a row of siblings and all below it, with true extents; `laid` if siblings rise and every leaf is a Success.
-fn grow(words: &mut Vec<u64>, depth: usize, laid: bool, random: &mut Random) {
+// How a tree is made: of which operations, how deep; `laid` if siblings rise and every leaf is a Success.
+#[derive(Clone, Copy)]
+struct Shape {
+    operations: &'static [Operation],
+    depth: usize,
+    laid: bool,
+}
+
+// Adds a row of siblings and all below it, with true extents.
+fn grow(words: &mut Vec<u64>, shape: Shape, random: &mut Random) {
+    let Shape {
+        operations,
+        depth,
+        laid,
+    } = shape;
     let mut row: Vec<Instruction> = (0..random.of(&[1, 1, 1, 1, 2, 3]))
-        .map(|_| any_instruction(random))
+        .map(|_| any_instruction(operations, random))
         .collect();
     if depth == 0 || random.one_in(6) {
         let number = random.below(4) as u32;
@@ -120,21 +136,22 @@ fn grow(words: &mut Vec<u64>, depth: usize, laid: bool, random: &mut Random) {
         words.push(0);
         let leaf = instruction.operation == Operation::Success;
         if !leaf && (laid || depth > 0 && !random.one_in(8)) {
-            grow(words, depth.saturating_sub(1), laid, random);
+            let depth = depth.saturating_sub(1);
+            grow(words, Shape { depth, ..shape }, random);
         }
         words[at] = instruction.pack(words.len() - at);
     }
 }
 
-// A tree of any instructions, mostly with a First at the top.
-fn any_tree(laid: bool, random: &mut Random) -> Vec<u64> {
+// A tree of any instructions, with a First at the top or any word.
+fn any_tree(shape: Shape, first: bool, random: &mut Random) -> Vec<u64> {
     let mut words = vec![0];
-    if random.one_in(8) {
-        grow(&mut words, 1 + random.below(9), laid, random);
-    } else {
+    if first {
         words.push(0);
-        grow(&mut words, 1 + random.below(9), laid, random);
-        words[1] = Instruction::new(Operation::First, 0).pack(words.len() - 1);
+    }
+    grow(&mut words, shape, random);
+    if first {
+        words[1] = Instruction::new(First, 0).pack(words.len() - 1);
     }
     let success = |&&word: &&u64| word >> 60 == 0;
     words[0] = header(words.len() - 1, words[1..].iter().filter(success).count());
@@ -154,11 +171,44 @@ fn trees_of_any_instructions() {
         &[0x9001, 0x0803, 0x0001, 0x0001, 0x8001],
     ];
     for i in 0..60_000 {
-        let mut tree = any_tree(i % 2 == 0, &mut random);
+        let first = !random.one_in(8);
+        let shape = Shape {
+            operations: &ANY,
+            depth: 1 + random.below(9),
+            laid: i % 2 == 0,
+        };
+        let mut tree = any_tree(shape, first, &mut random);
         let clause = random.of(&queries);
         call_all(&mut tree, clause, &mut random, &mut tally);
     }
     tally.assert_least(&LEAST);
+}
+
+// Firsts below Firsts, and queries of 1 to 8 literals, most of them equal: literals run out, or the ninth First is met, which alone is broken.
+#[test]
+fn trees_of_firsts() {
+    let mut random = Random(5);
+    let mut tally = Tally::default();
+    for i in 0..30_000 {
+        let shape = Shape {
+            operations: &FIRSTS,
+            depth: 1 + random.below(12),
+            laid: i % 2 == 0,
+        };
+        let mut tree = any_tree(shape, true, &mut random);
+        let literals = (0..1 + random.below(LITERALS)).flat_map(|_| {
+            let literal: &[u16] = random.of(&[&[0x8001], &[0x8001], &[0x8801, 0x4000]]);
+            literal.iter().copied()
+        });
+        let clause: Vec<u16> = literals.collect();
+        call_all(&mut tree, &clause, &mut random, &mut tally);
+    }
+    tally.assert_least(&[
+        ("queries covered", 1_000),
+        ("queries not covered", 1_000),
+        ("queries refused 2", 100),
+        ("queries refused 12", 1_000),
+    ]);
 }
 
 #[test]

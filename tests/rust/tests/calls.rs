@@ -1,10 +1,12 @@
-//! Document 01's trial rows, every refusal with its values, and told words that are too few.
+//! Document 01's trial rows with the counts of F-3, every refusal with its values, and told words that are too few.
 use code_tree::{ceiling, fresh, insert, query, raw, remove, Cover, Refusal, WITNESS_WORDS};
 
 const P3: u16 = 0x9801;
 const P2: u16 = 0x9001;
 const P1: u16 = 0x8801;
 const Q1: u16 = 0x8802;
+const Q2: u16 = 0x9002;
+const P0: u16 = 0x8001;
 const F: u16 = 0x0803;
 const A: u16 = 0x0001;
 const B: u16 = 0x0002;
@@ -81,28 +83,77 @@ fn starred_rows() {
     );
     let pxqx = tree(24, &[PXQX]);
     let three = &[P1, A, P1, B, Q1, B];
+    for budget in [100, 6] {
+        assert_eq!(
+            ask(&pxqx, three, budget),
+            (covered(1, 6), shown(&[1, 2], &[3, 5]))
+        );
+    }
     assert_eq!(
-        ask(&pxqx, three, 100),
-        (covered(1, 8), shown(&[1, 2], &[3, 5]))
-    );
-    assert_eq!(
-        ask(&pxqx, three, 8),
-        (covered(1, 8), shown(&[1, 2], &[3, 5]))
-    );
-    assert_eq!(
-        ask(&pxqx, three, 7),
-        (Err(Refusal::Spent { count: 7 }), shown(&[], &[]))
+        ask(&pxqx, three, 5),
+        (Err(Refusal::Spent { count: 5 }), shown(&[], &[]))
     );
     assert_eq!(
         ask(&pxqx, &[P1, A, Q1, B], 100),
-        (not_covered(4), shown(&[], &[]))
+        (not_covered(3), shown(&[], &[]))
     );
-    assert_eq!(answer(&tree(24, &[LONG]), SHORT, 100), covered(1, 2));
+    assert_eq!(answer(&tree(24, &[LONG]), SHORT, 100), not_covered(1));
     assert_eq!(answer(&tree(24, &[SHORT]), LONG, 100), covered(1, 2));
     assert_eq!(
         answer(&tree(24, &[&[P1, A]]), &[P1, X], 100),
         not_covered(1)
     );
+}
+
+// A query that takes just so many candidates: with one less in its budget it is spent.
+fn expect_count(kept: &[&[u16]], clause: &[u16], answer: Result<Cover, Refusal>, witness: &[u16]) {
+    let words = tree(90, kept);
+    let (Ok(Cover::Covered { count, .. }) | Ok(Cover::NotCovered { count })) = answer else {
+        panic!("{answer:?} has no count");
+    };
+    for budget in [count, count + 1, u64::MAX] {
+        assert_eq!(ask(&words, clause, budget), (answer, witness.to_vec()));
+    }
+    for budget in [count - 1, count / 2] {
+        let spent = Err(Refusal::Spent { count: budget });
+        assert_eq!(ask(&words, clause, budget), (spent, shown(&[], &[])));
+    }
+}
+
+// Each literal of a kept clause falls on a literal of its own, equal ones being two; one that is used is passed over, uncounted.
+#[test]
+fn own_literals() {
+    let none = shown(&[], &[]);
+    expect_count(&[PXQX], &[P1, A, Q1, B], not_covered(3), &none);
+    // no literal is left for the second First: at a budget of 1, too, it is not spent
+    expect_count(&[PXQX], &[P1, A], not_covered(1), &none);
+    expect_count(&[LONG], SHORT, not_covered(1), &none);
+    let pxpy: &[u16] = &[P1, X, P1, Y];
+    let twice = shown(&[0, 1], &[1, 3]);
+    expect_count(&[pxpy], &[P1, A, P1, A], covered(1, 2), &twice);
+    expect_count(&[pxpy], &[P1, A], not_covered(1), &none);
+    // the second literal retakes what the first one gave back
+    let chain: &[u16] = &[P1, X, P1, Y, Q2, X, Y];
+    let swapped = shown(&[1, 0, 2], &[3, 1, 5, 6]);
+    expect_count(&[chain], &[P1, A, P1, B, Q2, B, A], covered(1, 7), &swapped);
+    expect_count(&[chain], &[P1, A, P1, B, Q2, B, B], not_covered(9), &none);
+    // what the branch of P(x) used is free in that of P(a)
+    let branches: [&[u16]; 2] = [&[P1, A, Q1, B], &[P1, X, Q1, A]];
+    let second = shown(&[0, 1], &[]);
+    expect_count(&branches, &[P1, A, Q1, B], covered(1, 3), &second);
+}
+
+// Equal literals by number: a kept clause covers a query with as many of them or more, and none with fewer.
+#[test]
+fn equal_literals() {
+    let literals = |n: u16| shown(&(0..n).collect::<Vec<_>>(), &[]);
+    expect_count(&[&[P0; 8]], &[P0; 8], covered(1, 8), &literals(8));
+    expect_count(&[&[P0; 7]], &[P0; 8], covered(1, 7), &literals(7));
+    expect_count(&[&[P0; 7]], &[P0; 7], covered(1, 7), &literals(7));
+    let tried = 7 + 42 + 210 + 840 + 2_520 + 5_040 + 5_040;
+    expect_count(&[&[P0; 8]], &[P0; 7], not_covered(tried), &literals(0));
+    expect_count(&[&[P0; 8], &[P0; 7]], &[P0; 7], covered(2, 7), &literals(7));
+    expect_count(&[&[P0; 2]], &[P0], not_covered(1), &literals(0));
 }
 
 #[test]
@@ -275,9 +326,9 @@ fn told_by_queries() {
     let pxqx = tree(24, &[PXQX]);
     let header = vec![9 << 32, 0];
     let rows: [(&[u64], &[u16], u64, usize, u64, &[u64]); 8] = [
-        (&pxqx, &[P1, A, P1, B, Q1, B], 100, 72, 0, &[1, 1, 8]),
-        (&pxqx, &[P1, A, Q1, B], 100, 72, 0, &[0, 0, 4]),
-        (&pxqx, &[P1, A, P1, B, Q1, B], 7, 72, 12, &[7]),
+        (&pxqx, &[P1, A, P1, B, Q1, B], 100, 72, 0, &[1, 1, 6]),
+        (&pxqx, &[P1, A, Q1, B], 100, 72, 0, &[0, 0, 3]),
+        (&pxqx, &[P1, A, P1, B, Q1, B], 5, 72, 12, &[5]),
         (&pxqx, &[P2, A], 7, 72, 4, &[2]),
         (&pxqx, &[0x8001; 9], 7, 72, 5, &[8]),
         (&pxqx, &[], 7, 72, 3, &[]),

@@ -2,11 +2,13 @@
 mod drawn;
 mod sheet;
 
+use drawn::repeated::repeating_page;
 use drawn::tally::Tally;
 use drawn::units::unit_page;
 use drawn::{Random, STYLES};
 use model::pages::{pages, record, record_counting};
-use model::program::{output, records, Outcome};
+use model::program::{output, records, Outcome, Record, Ruling};
+use sheet::strikes::expect_strikes;
 use sheet::units::expect_units;
 use sheet::{expect_sheet, Report};
 use std::fs::{read, read_dir, read_to_string, remove_file, write, File};
@@ -358,14 +360,23 @@ fn sheets_add_up() {
     }
 }
 
-// What is claimed of the lines of a page of units, by the printed text and the matcher. Then every byte.
-fn expect_unit_page(page: &[u8], what: &str, tally: &mut Tally) {
+// What is claimed of the lines of a page, by the printed text and the matcher. Then every byte.
+fn expect_lines(
+    page: &[u8],
+    claim: impl Fn(&[Ruling], &[Record], &str),
+    what: &str,
+) -> Vec<Ruling> {
     let text = printed([page].into_iter());
     let rulings = Report::of(&text).rulings;
-    expect_units(&rulings, &records(page), what);
+    claim(&rulings, &records(page), what);
     expect_same(&text, &output(page), what);
+    rulings
+}
+
+// A page on which no clause but units is kept.
+fn expect_unit_page(page: &[u8], what: &str, tally: &mut Tally) {
     tally.count("pages");
-    for (_, outcome) in &rulings {
+    for (_, outcome) in expect_lines(page, expect_units, what) {
         tally.count(&match outcome {
             Outcome::Kept { .. } => "kept".to_string(),
             Outcome::Struck { candidates, .. } => format!("struck at literal {candidates}"),
@@ -426,6 +437,27 @@ fn pages_of_units() {
         expect_unit_page(&page, &format!("page of {numbered} units"), &mut tally);
     }
     tally.assert_least(&LEAST_OF_UNITS);
+}
+
+// Kept, struck and refused by the ordinary matcher, on the stored pages and where most literals are repeated.
+#[test]
+fn pages_of_repeated_literals() {
+    let (mut random, mut tally) = (Random(17), Tally::default());
+    for (name, page) in pages() {
+        expect_lines(&page, expect_strikes, name);
+    }
+    for i in 0..200 {
+        let page = repeating_page(&mut random, 5 + i % 50);
+        let what = format!("page {i} of repeated literals");
+        for (_, outcome) in expect_lines(&page, expect_strikes, &what) {
+            tally.count(match outcome {
+                Outcome::Kept { .. } => "kept",
+                Outcome::Struck { .. } => "struck",
+                Outcome::Refused { .. } => "refused",
+            });
+        }
+    }
+    tally.assert_least(&[("kept", 950), ("struck", 4_300)]);
 }
 
 // More strikes by one clause than 16 bits count, and three times as many candidates.

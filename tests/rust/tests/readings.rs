@@ -1,7 +1,7 @@
 //! The points that are easy to read otherwise (docs/DECISIONS.md), each on a small input: library and model have to answer as decided.
 mod beside;
 
-use beside::Asked;
+use beside::{Asked, UNWRITTEN};
 use model::calls::Cover;
 use model::instruction::{header, Instruction, Operation};
 use model::limits::WITNESS_WORDS;
@@ -95,16 +95,15 @@ fn inserted(tree: &mut [u64], text: &str, number: u32) -> String {
 
 #[test]
 fn reading() {
-    let eight = "P0 P0 P0 P0 P0 P0 P0 P0";
     let rows = [
         ("P1", "refused 4 1"),
         ("P1 f", "refused 4 2"),
         ("P1 P1 a", "refused 4 1"),
         ("P1 4800", "refused 4 1"),
-        (&format!("{eight} P1"), "refused 5 8"),
-        (&format!("{eight} P0 x"), "refused 5 8"),
+        (&format!("{EIGHT} P1"), "refused 5 8"),
+        (&format!("{EIGHT} P0 x"), "refused 5 8"),
         ("P0 P0 P0 P0 P0 P0 P0 P1 P0", "refused 4 8"),
-        (&format!("{eight} a"), "refused 4 8"),
+        (&format!("{EIGHT} a"), "refused 4 8"),
         (&"x ".repeat(65), "refused 3"),
         ("", "refused 3"),
         (&"P0 ".repeat(64), "refused 5 8"),
@@ -194,12 +193,27 @@ fn well_laid() {
 // Nine Firsts, one below the other.
 const NINTH: &str = "First 0/10, First 0/9, First 0/8, First 0/7, First 0/6, First 0/5, First 0/4, First 0/3, First 0/2, Success 1/1";
 
+// Two Firsts, one below the other, with and without a comparison of what stands at the two heads.
+const TWO: &str = "First 0/3, First 0/2, Success 1/1";
+const TWO_ALIKE: &str = "First 0/6, Put 0/5, First 0/4, Put 1/3, Compare 0.1/2, Success 1/1";
+
+const EIGHT: &str = "P0 P0 P0 P0 P0 P0 P0 P0";
+const SEVEN: &str = "P0 P0 P0 P0 P0 P0 P0";
+
 // A tree, a query, a budget and the answer.
 type Row = (&'static str, &'static str, u64, &'static str);
 
-const WALKS: [Row; 19] = [
-    (NINTH, "P0", 8, "refused 2"),
-    (NINTH, "P0", 7, "refused 12 7"),
+const WALKS: [Row; 37] = [
+    // W-1, F3-2: a ninth First is met only where a query has eight literals, and then it is broken, also with the budget used up
+    (NINTH, EIGHT, 100, "refused 2"),
+    (NINTH, EIGHT, 8, "refused 2"),
+    (NINTH, EIGHT, 7, "refused 12 7"),
+    (NINTH, SEVEN, 13_699, "not covered 13699"),
+    (NINTH, SEVEN, 13_698, "refused 12 13698"),
+    (NINTH, "P0", 8, "not covered 1"),
+    (NINTH, "P0", 1, "not covered 1"),
+    (NINTH, "P0", 0, "refused 12 0"),
+    // W-2 to W-13
     (
         "First 0/4, Check Q0/1, Check P0/3, Success 1/1",
         "P0",
@@ -246,13 +260,40 @@ const WALKS: [Row; 19] = [
         9,
         "covered 1 1",
     ),
+    // W-14, W-15: two literals, each on one of its own
+    (TWO_ALIKE, "P0 Q0", 4, "not covered 4"),
+    (TWO_ALIKE, "P0 Q0", 3, "refused 12 3"),
+    (TWO_ALIKE, "P0 P0", 2, "covered 1 2"),
+    (TWO_ALIKE, "P0 P0", 1, "refused 12 1"),
+    (TWO, "P0", 9, "not covered 1"),
+    (TWO, "P0 Q0", 2, "covered 1 2"),
+    (TWO, "P0 Q0", 1, "refused 12 1"),
+    // F3-1: with no literal left a First is neither broken nor spent, and the word beside it is next
+    (TWO, "P0", 1, "not covered 1"),
+    (TWO, "P0", 0, "refused 12 0"),
     (
-        "First 0/6, Put 0/5, First 0/4, Put 1/3, Compare 0.1/2, Success 1/1",
-        "P0 Q0",
-        9,
-        "covered 1 2",
+        "First 0/5, First 0/2, Success 1/1, Check P0/2, Success 2/1",
+        "P0",
+        1,
+        "covered 2 1",
     ),
-    ("First 0/3, First 0/2, Success 1/1", "P0", 9, "covered 1 2"),
+    // a literal that is used below a First is free below the one beside it, and again at the next literal above
+    (
+        "First 0/6, First 0/2, Check Q0/1, First 0/3, Check P0/2, Success 1/1",
+        "P0 P0",
+        3,
+        "covered 1 3",
+    ),
+    (
+        "First 0/3, First 0/2, Check Q0/1",
+        "P0 P0",
+        4,
+        "not covered 4",
+    ),
+    // a fault below a First that has no literal left is not met
+    ("First 0/3, First 0/2, Put 99/1", "P0", 9, "not covered 1"),
+    ("First 0/3, First 0/2, Put 99/1", "P0 P0", 9, "refused 2"),
+    // a word before a candidate, steps that cannot be taken, a Success with another extent
     ("Put 0/2, Success 1/1", "P0", 9, "refused 2"),
     ("First 0/3, Put 64/2, Success 1/1", "P0", 9, "refused 2"),
     ("First 0/3, Down 0/2, Success 1/1", "P0", 9, "refused 2"),
@@ -262,7 +303,42 @@ const WALKS: [Row; 19] = [
 #[test]
 fn walking() {
     for (text, query, budget, answer) in WALKS {
-        assert_eq!(ask(&tree(text), query, budget), answer, "{text}");
+        let asked = ask(&tree(text), query, budget);
+        assert_eq!(asked, answer, "{text} for {query}");
+    }
+}
+
+// A kept clause, a query, a budget, the answer and the literals that are written.
+type KeptRow = (
+    &'static str,
+    &'static str,
+    u64,
+    &'static str,
+    &'static [u16],
+);
+
+const KEPT_ONE: [KeptRow; 8] = [
+    // F3-1
+    ("P1 x Q1 x", "P1 a", 1, "not covered 1", &[]),
+    ("P1 x Q1 x", "P1 a", 0, "refused 12 0", &[]),
+    // F3-3: used by place
+    ("P1 x P1 y", "P1 a P1 a", 2, "covered 1 2", &[0, 1]),
+    ("P1 x P1 y", "P1 a P1 a", 1, "refused 12 1", &[]),
+    ("P1 x P1 y", "P1 a", 9, "not covered 1", &[]),
+    ("P1 x P1 x", "P1 a P1 b P1 a", 3, "covered 1 3", &[0, 2]),
+    ("P1 x P1 x", "P1 a P1 b P1 a", 2, "refused 12 2", &[]),
+    ("P1 x P1 x", "P1 a P1 b", 4, "not covered 4", &[]),
+];
+
+#[test]
+fn own_literals() {
+    for (kept, query, budget, answer, literals) in KEPT_ONE {
+        let mut words = [0; 40];
+        assert_eq!(inserted(&mut words, kept, 1), "kept");
+        let asked = beside::query(&words, &clause(query), budget, WITNESS_WORDS);
+        assert_eq!(said(&asked), answer, "{kept} for {query}");
+        let written = asked.witness[..8].iter().take_while(|&&i| i != UNWRITTEN);
+        assert!(written.eq(literals), "literals of {kept} for {query}");
     }
 }
 

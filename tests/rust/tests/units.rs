@@ -37,7 +37,8 @@ impl Set<'_> {
     // A query at each budget up to one over its literals, at the full one and at the largest.
     fn query_units(&mut self, clause: &[u16]) {
         let Ok(query) = read(clause) else {
-            return self.query(clause);
+            self.query(clause);
+            return;
         };
         let predicted = self.predict(&query);
         let literals = query.len() as u64;
@@ -261,8 +262,8 @@ fn by_hand() {
     expect_answers(&tree, &missed, &of_units);
     expect_answers(&tree, &struck, &[spent(0), spent(1), covered]);
     assert_eq!(beside::insert(&mut tree, &[p, x, q, x, a], 3), Ok(()));
-    let mut with_double: Vec<_> = (0..9).map(spent).collect();
-    with_double.push(not_covered(9));
+    let mut with_double: Vec<_> = (0..7).map(spent).collect();
+    with_double.push(not_covered(7));
     expect_answers(&tree, &missed, &with_double);
     assert_eq!(beside::remove(&mut tree, 3), Ok(()));
     expect_answers(&tree, &missed, &of_units);

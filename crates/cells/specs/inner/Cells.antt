@@ -2,10 +2,12 @@
 use mathlib.Core.Path.{_≡_}
 use mathlib.Core.Bool.{Bool, cond}
 use mathlib.Core.Option.{Option, none, some}
-use mathlib.Core.List.{List, map}
+use mathlib.Core.List.{List, [], _∷_, map}
 use Prim.Native.Nat.{ℕ, _+_, _-_, _/_, _%_, _^_, _≤_, _<_}
+use lib.Bits.{bitOr}
 use lib.Dec.{eqb}
 use lib.ListN.{length, getD, take, drop, set}
+use Rattle.clause.specs.Lists.{All}
 use Rattle.clause.specs.Clause.{Accepted, literals, startOf, maxLiterals}
 use Rattle.clause.specs.Positions.{jump, rights}
 use Rattle.clause.specs.inner.Tables.{atEnds, atSiblings, atCount}
@@ -36,6 +38,10 @@ cellCount = 256
 abbrev pub noPosition : ℕ
 noPosition = 255
 
+-- the literals of a query as bits are below this
+abbrev pub useLimit : ℕ
+useLimit = 2 ^ maxLiterals
+
 -- an undo is the index of a cell, times this, and the byte that it held
 abbrev pub undoBase : ℕ
 undoBase = cellCount
@@ -59,6 +65,10 @@ HasPlace l = countIn l < maxLiterals
 abbrev pub HasCandidate : List ℕ → Type 0
 HasCandidate l = (1 ≤ countIn l) × (countIn l ≤ maxLiterals)
 
+-- its candidates can be literals
+abbrev pub HasLiterals : List ℕ → Type 0
+HasLiterals l = (countIn l ≤ maxLiterals) × All (λ j. j < maxLiterals) (take (countIn l) l)
+
 -- the position that a cell holds
 unfoldable pub positionIn : ℕ → Option ℕ
 positionIn x = cond (eqb x noPosition) none (some x)
@@ -78,7 +88,7 @@ pub record Tables (d l : List ℕ) : Type 0 where
   pub rights : (p : ℕ) → p < length d → getD l (atSiblings + p) 0 ≡ rights d p
   pub count : getD l atCount 0 ≡ length (literals d)
 
--- an accepted query with its tables, and a state whose positions lie in it
+-- an accepted query with its tables, and a state whose candidates and positions lie in it
 pub record Walkable (d t : List ℕ) (head : ℕ) (cells : List ℕ) : Type 0 where
   pub whole : Accepted d
   pub tables : Tables d t
@@ -117,6 +127,20 @@ pub record Skipped (words : List ℕ) (at wanted : ℕ) (r : ℕ) : Type 0 where
 unfoldable pub aboveOf : ℕ → Above
 aboveOf h = cond (eqb h noPosition) First Step
 
+-- some literals as a number: a bit for each
+unfoldable pub bitsOf : List ℕ → ℕ
+bitsOf [] = 0
+bitsOf (j ∷ js) = bitOr (2 ^ j) (bitsOf js)
+
+-- whether literal j is one of them
+abbrev pub hasBit : (bits j : ℕ) → Bool
+hasBit m j = eqb (m / 2 ^ j % 2) 1
+
+-- the literals that are used on the path, which a First is to pass over
+unfoldable pub usesOf : Above → List ℕ → ℕ
+usesOf First l = bitsOf (take (countIn l) l)
+usesOf Step l = 0
+
 -- the cells with one candidate more, whatever it is, below a First
 unfoldable pub reserved : Above → List ℕ → List ℕ
 reserved First l = set l countAt (countIn l + 1)
@@ -136,6 +160,10 @@ released Step kept l = l
 unfoldable pub keptIn : Above → List ℕ → ℕ
 keptIn First l = getD l (countIn l) 0
 keptIn Step l = 0
+
+-- it is saved above the literals that are used
+abbrev pub savedByte : ℕ → ℕ
+savedByte m = m / useLimit % undoBase
 
 -- how many passes are made over the words: below a First one for each literal of the query, below a step one
 unfoldable pub passesOf : Above → ℕ → ℕ

@@ -84,7 +84,7 @@ pub fn query(
     Ok(Cover::Covered { number, count })
 }
 
-/// The most candidates of a walk: kept × (q + q² + .. + q^m).
+/// A bound on the candidates of a walk: kept × (q + q² + .. + q^m).
 pub fn ceiling(kept: u64, q: u64, m: u64) -> Result<u64, Refusal> {
     let literals = 1..=LITERALS as u64;
     let sizes = kept <= KEPT as u64 && literals.contains(&q) && literals.contains(&m);

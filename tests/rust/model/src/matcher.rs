@@ -3,16 +3,24 @@ use crate::limits::LITERALS;
 use crate::reader::Term;
 use crate::words::is_variable;
 
-/// Whether one replacement of c's variables by terms turns each literal of c into a literal of d.
+/// Whether one replacement of c's variables by terms turns each literal of c into the literal of d at a place that is chosen for it, no place
+/// chosen twice. Equal literals of d are at places of their own.
 pub fn subsumes(c: &[Term], d: &[Term]) -> bool {
     search(c, d).0
 }
 
-/// Whether c subsumes d, and how many literals of d were tried by taking c's in order, d's from the first upward.
+/// Whether c subsumes d, and how many places of d were tried by taking c's literals in order, for each the places from the first upward; one
+/// that is taken is not tried.
 pub fn search(c: &[Term], d: &[Term]) -> (bool, u64) {
-    let mut tries = 0;
-    let found = falls(c, d, &mut Vec::new(), &mut tries);
-    (found, tries)
+    let mut choice = Choice::default();
+    let found = choice.falls(c, d);
+    (found, choice.tries)
+}
+
+/// The most tries for m literals in a clause of q: q + q × (q − 1) + .., a term for each literal.
+pub fn most_tries(q: u64, m: u64) -> u64 {
+    let choices = (1..=m.min(q)).map(|i| (0..i).map(|taken| q - taken).product::<u64>());
+    choices.sum()
 }
 
 /// The place of the first literal of d that one of these units, clauses of a single literal, falls on.
@@ -30,22 +38,33 @@ pub fn unit_candidates(units: &[&Term], query: &[Term]) -> u64 {
 // For each variable that was met, in order, the term that it met; a variable met again is there again.
 type Replaced<'a> = Vec<(u16, &'a Term)>;
 
-// Whether the literals can fall on some of d, the terms for variables met before being given.
-fn falls<'a>(
-    literals: &[Term],
-    d: &'a [Term],
-    replaced: &mut Replaced<'a>,
-    tries: &mut u64,
-) -> bool {
-    let Some((literal, rest)) = literals.split_first() else {
-        return true;
-    };
-    let before = replaced.len();
-    d.iter().any(|target| {
-        *tries += 1;
-        replaced.truncate(before);
-        fits(literal, target, replaced) && falls(rest, d, replaced, tries)
-    })
+// What is chosen for the literals so far: the terms for their variables, and their places; and the tries of all.
+#[derive(Default)]
+struct Choice<'a> {
+    replaced: Replaced<'a>,
+    taken: Vec<usize>,
+    tries: u64,
+}
+
+impl<'a> Choice<'a> {
+    // Whether further literals can fall on places of d that are not taken.
+    fn falls(&mut self, literals: &[Term], d: &'a [Term]) -> bool {
+        let Some((literal, rest)) = literals.split_first() else {
+            return true;
+        };
+        let met = self.replaced.len();
+        (0..d.len()).any(|place| {
+            if self.taken.contains(&place) {
+                return false;
+            }
+            self.tries += 1;
+            self.taken.push(place);
+            let found = fits(literal, &d[place], &mut self.replaced) && self.falls(rest, d);
+            self.taken.pop();
+            self.replaced.truncate(met);
+            found
+        })
+    }
 }
 
 // Whether the replacement, with more terms for variables not met before, turns the pattern into the target.
@@ -69,13 +88,15 @@ pub fn same(a: &Term, b: &Term) -> bool {
             .all(|(a, b)| same(a, b))
 }
 
-/// Whether a witness shows that c subsumes d: the literal for each literal of c, the position for each place of a variable.
+/// Whether a witness shows that c subsumes d: a literal for each literal of c, no two the same, and the position for each place of a variable.
 pub fn shows(c: &[Term], d: &[Term], witness: &[u16]) -> bool {
+    let chosen = &witness[..c.len()];
+    let apart = (1..chosen.len()).all(|i| !chosen[..i].contains(&chosen[i]));
     let mut replaced = Vec::new();
-    let falls = c.iter().zip(witness).all(|(literal, &i)| {
+    let falls = c.iter().zip(chosen).all(|(literal, &i)| {
         let target = d.get(i as usize);
         target.is_some_and(|target| fits(literal, target, &mut replaced))
     });
     let mut positions = replaced.iter().zip(&witness[LITERALS..]);
-    falls && positions.all(|((_, term), &position)| position as usize == term.at)
+    apart && falls && positions.all(|((_, term), &position)| position as usize == term.at)
 }

@@ -55,6 +55,7 @@ pub fn pages() -> Vec<Page> {
         ("all-eighths", all_eighths()),
         ("cut-strike", cut_strike()),
         ("units", units()),
+        ("factors", factors()),
     ];
     pages.extend(cut_pages());
     pages
@@ -174,18 +175,20 @@ fn behind(others: u32, literal: &[u16]) -> Vec<u16> {
     [&vec![P0; others as usize], literal].concat()
 }
 
-// Literals Q of each of these terms, then one of five terms.
-fn ones_and_five(ones: &[u16], five: &[u16; 5]) -> Vec<u16> {
-    let ones = ones.iter().flat_map(|&term| [p(1, 2), term]);
-    ones.chain([p(5, 3)]).chain(*five).collect()
+// Literals Q of these pairs of terms.
+fn pairs(pairs: impl IntoIterator<Item = (u16, u16)>) -> Vec<u16> {
+    let literals = pairs.into_iter().map(|(a, b)| [p(2, 2), a, b]);
+    literals.flatten().collect()
 }
 
-// A clause that strikes thousands of records, and one that strikes three, of more than 65,536 candidates each: only the last choice fits.
+// A clause that strikes thousands of records, and one that strikes three, of more than 65,536 candidates each: only with its first literal on
+// their last does its last one fit, on their first.
 fn thousands() -> Vec<u8> {
-    let variables = [0, 1, 2, 3, 4].map(|i| word(VARIABLE, 0, i));
-    let searching = ones_and_five(&variables, &variables);
-    let constants = [0, 1, 2, 3, 4, 5, 6].map(constant);
-    let searched = ones_and_five(&constants, &[constant(6); 5]);
+    let variable = |i| word(VARIABLE, 0, i);
+    let any = (0..7).map(|i| (variable(i), variable(7 + i)));
+    let searching = pairs(any.chain([(X, X)]));
+    let others = (0..6).map(|i| (constant(i), B));
+    let searched = pairs([(A, A)].into_iter().chain(others).chain([(A, B)]));
     let mut page = [record(500, &[P1, X]), record(400, &searching)].concat();
     for n in 0..4500 {
         if n % 1500 == 7 {
@@ -267,4 +270,42 @@ fn units() -> Vec<u8> {
     page.extend(record(6, &[P0]));
     page.extend(record(7, &clause));
     page
+}
+
+// Clauses that leave their factors standing: each literal of a kept clause needs one of its own in what it strikes, equal ones at two places
+// being two.
+fn factors() -> Vec<u8> {
+    let (q, r, s, t, u) = (p(1, 2), p(0, 3), p(1, 4), p(2, 5), p(0, 6));
+    let clauses: [&[u16]; 24] = [
+        // P(x),P(y), instances of its factor P(x) and of itself, alone and among others; then the factor, which strikes all of these
+        &[P1, X, P1, Y],
+        &[P1, A],
+        &[P1, B, P1, B],
+        &[P1, B, P0],
+        &[P1, B, P0, P1, A],
+        &[P1, X],
+        &[P1, B],
+        &[P1, B, P1, B],
+        // the clause of document 02, its factor, an instance of this, and the clause once more
+        &[P2, X, F, Y, P2, Z, F, F, Z],
+        &[P2, Y, F, F, Y],
+        &[P2, A, F, F, A],
+        &[P2, X, F, Y, P2, Z, F, F, Z],
+        // by number
+        &[r, r, r],
+        &[r, r],
+        &[r, r, r],
+        &[r],
+        &[u; 8],
+        &[u; 7],
+        &[u; 8],
+        // used literals are passed over, and given back after a miss
+        &[q, X, q, Y, t, X, Y],
+        &[q, A, q, B, t, B, A],
+        &[q, A, t, A, A],
+        &[s, A, q, B, q, A, q, B, t, B, B],
+        &[t, A, A, q, B, q, A],
+    ];
+    let numbered = clauses.iter().zip(1..);
+    numbered.flat_map(|(words, n)| record(n, words)).collect()
 }

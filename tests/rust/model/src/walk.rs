@@ -153,7 +153,8 @@ impl Walk<'_> {
         Ok(())
     }
 
-    // First takes the query's literals from 0 upward, each counted as a candidate.
+    // First takes the query's literals from 0 upward, each counted as a candidate. One that is used on this path is passed over: it is not
+    // counted, and no budget is spent on it.
     fn first(&mut self, below: Range<usize>, mut state: State) -> Result<(), Stop> {
         let i = state.literals;
         if i == LITERALS {
@@ -161,6 +162,9 @@ impl Walk<'_> {
         }
         state.literals += 1;
         for candidate in 0..self.literals.len() {
+            if state.candidates[..i].contains(&(candidate as u8)) {
+                continue;
+            }
             if self.count == self.budget {
                 return Err(Stop::Refused(Refusal::Spent(self.count)));
             }

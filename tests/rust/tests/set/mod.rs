@@ -7,7 +7,7 @@ use model::book::Book;
 use model::calls::Cover;
 use model::compiler::sequence;
 use model::limits::{FULL_BUDGET, LITERALS, WITNESS_WORDS};
-use model::matcher::{same, search, shows, subsumes, unit_candidates};
+use model::matcher::{most_tries, same, search, shows, subsumes, unit_candidates};
 use model::reader::{read, Term};
 use model::refusal::Refusal;
 use model::words::arity;
@@ -78,8 +78,8 @@ impl<'a> Set<'a> {
         beside::query(&self.tree, clause, budget, witness_words)
     }
 
-    /// A query at the full budget, then at others.
-    pub fn query(&mut self, clause: &[u16]) {
+    /// A query at the full budget, whose answer is given, then at others.
+    pub fn query(&mut self, clause: &[u16]) -> Asked {
         let full = self.ask(clause, FULL_BUDGET);
         match full.answer {
             Err(_) => {
@@ -92,9 +92,10 @@ impl<'a> Set<'a> {
                 self.judge(&literals, cover, &full.witness);
                 self.judge_count(&literals, cover.count());
                 self.judge_count_of_units(&literals, cover);
-                self.query_again(clause, &full, cover.count());
+                self.query_at_others(clause, &full, cover.count());
             }
         }
+        full
     }
 
     // Covered or not by the ordinary matcher; the witness by the definition of subsumption.
@@ -119,18 +120,22 @@ impl<'a> Set<'a> {
     }
 
     fn judge_count(&mut self, query: &[Term], count: u64) {
-        let (kept, most) = (self.book.pairs.len(), self.book.most_literals());
+        let (kept, most) = (self.book.pairs.len() as u64, self.book.most_literals());
+        let (q, m) = (query.len() as u64, most as u64);
         let ceiling = match most {
             0 => 0,
-            _ => beside::ceiling(kept as u64, query.len() as u64, most as u64).unwrap(),
+            _ => beside::ceiling(kept, q, m).unwrap(),
         };
-        assert!(count <= ceiling);
+        let tries = kept * most_tries(q, m);
+        assert!(count <= tries && tries <= ceiling);
         if let [only] = &self.book.pairs[..] {
             assert_eq!(search(&only.literals, query).1, count);
             self.tally.count("counts with one clause kept");
         }
         self.tally
             .count_if("counts at the ceiling", count == ceiling);
+        let short = count == tries && tries < ceiling;
+        self.tally.count_if("counts at the most tries", short);
     }
 
     // Where only units are kept, one or more, the count is told by the matcher; not covered, it is the query's literals.
@@ -147,27 +152,33 @@ impl<'a> Set<'a> {
         }
     }
 
-    // With a budget of the count or more all is as with the full one; with less it is spent, and nothing is written.
-    fn query_again(&mut self, clause: &[u16], full: &Asked, count: u64) {
+    fn query_at_others(&mut self, clause: &[u16], full: &Asked, count: u64) {
         for budget in [count, count + 1, u64::MAX] {
-            let asked = self.ask(clause, budget);
-            assert_eq!(asked.answer, full.answer);
-            assert_eq!(
-                asked.witness[..WITNESS_WORDS],
-                full.witness[..WITNESS_WORDS]
-            );
-            let covered = matches!(asked.answer, Ok(Cover::Covered { .. }));
-            self.tally.count_if("small budgets covered", covered);
-            self.tally.count_if("small budgets not covered", !covered);
+            self.query_again(clause, full, budget);
         }
         if count > 0 {
             for budget in [count - 1, self.random.next() % count] {
-                let asked = self.ask(clause, budget);
-                assert_eq!(asked.answer, Err(Refusal::Spent(budget)));
-                assert!(asked.unwritten());
-                self.tally.count("small budgets spent");
+                self.query_again(clause, full, budget);
             }
         }
+    }
+
+    /// An accepted query at another budget: with its count or more all is as with the full one; with less it is spent, and nothing is written.
+    pub fn query_again(&mut self, clause: &[u16], full: &Asked, budget: u64) {
+        let asked = self.ask(clause, budget);
+        if full.answer.is_ok_and(|cover| budget < cover.count()) {
+            assert_eq!(asked.answer, Err(Refusal::Spent(budget)));
+            assert!(asked.unwritten());
+            return self.tally.count("small budgets spent");
+        }
+        assert_eq!(asked.answer, full.answer);
+        assert_eq!(
+            asked.witness[..WITNESS_WORDS],
+            full.witness[..WITNESS_WORDS]
+        );
+        let covered = matches!(asked.answer, Ok(Cover::Covered { .. }));
+        self.tally.count_if("small budgets covered", covered);
+        self.tally.count_if("small budgets not covered", !covered);
     }
 
     fn count_kept(&mut self, clause: &[u16]) {

@@ -1,4 +1,5 @@
 //! A printed text read back, and what is claimed of its tally sheet: it fits the lines above it and the records of the input.
+pub mod strikes;
 pub mod units;
 
 use model::program::{Outcome, Ruling};

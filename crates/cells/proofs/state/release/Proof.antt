@@ -1,4 +1,5 @@
 -- `release` meets its contract.
+use mathlib.Core.Path.{refl}
 use native.Mathlib.Omega.{arith}
 use Rattle.cells.specs.inner.Cells.{released}
 use borrow.Author.Needs.{needs}
@@ -17,6 +18,9 @@ sub-chosen c = omega (arith, c .before .before .before .pre .1 (c .before .enum-
 cast-slot : tie.Need-cast-slot
 cast-slot c = omega (arith, c .before .before .before .pre .1 (c .before .enum-told .given .1))
 
+cast-cells : tie.Need-cast-cells
+cast-cells c = search needs
+
 element-write-cells : tie.Need-element-write-cells
 element-write-cells c = omega (arith, c .before .before .before .pre .1 (c .before .enum-told .given .1))
 
@@ -28,7 +32,7 @@ enum-told-2 c = search needs
 
 returns : tie.Need-returns
 unfolding released
-returns c = rw (c .before .enum-told .given .1)
+returns c = rw (c .before .enum-told .given .1) refl
 
 returns-2 : tie.Need-returns-2
 unfolding released
@@ -42,6 +46,7 @@ release-spec =
     element-copy-out-chosen
     sub-chosen
     cast-slot
+    cast-cells
     element-write-cells
     element-write-cells-2
     enum-told-2

@@ -1,56 +1,81 @@
 -- `reserve` meets its contract.
-use Prim.Native.Nat.{_+_}
+use mathlib.Core.Path.{_≡_, _∙_}
+use Prim.Native.Nat.{_+_, _*_, _/_, _%_}
 use native.Mathlib.Omega.{arith}
 use lib.Seq.{getD-set-other}
-use Rattle.cells.specs.inner.Cells.{countAt, countIn, reserved, keptIn}
 use borrow.Author.Needs.{needs}
+use Rattle.cells.specs.inner.Cells.{countAt, countIn, reserved, keptIn, usesOf}
+use Rattle.cells.proofs.Bits.{taken-low}
 use Rattle.cells.proofs.state.reserve.Statement.{statement}
 use Rattle.cells.proofs.state.reserve.Tie as tie
 
 enum-told : tie.Need-enum-told
 enum-told c = search needs
 
+used-requires : tie.Need-used-requires
+used-requires c κs = search needs
+
 element-copy-out-chosen : tie.Need-element-copy-out-chosen
 element-copy-out-chosen c = search needs
 
 cast-slot : tie.Need-cast-slot
-cast-slot c = omega (arith, c .before .before .before .pre .1 (c .before .enum-told .given .1))
+cast-slot c = search needs
 
 add-cells : tie.Need-add-cells
-add-cells c = omega (arith, c .before .before .before .pre .1 (c .before .enum-told .given .1))
+add-cells c = search needs
 
 element-write-cells : tie.Need-element-write-cells
 element-write-cells c = search needs
 
-element-copy-out-result : tie.Need-element-copy-out-result
-element-copy-out-result c = omega (arith, c .before .before .before .pre .1 (c .before .enum-told .given .1))
+element-copy-out-wide : tie.Need-element-copy-out-wide
+element-copy-out-wide c = search needs
+
+wide-requires : tie.Need-wide-requires
+wide-requires c κs = search needs
+
+mul-result : tie.Need-mul-result
+mul-result c = search needs
+
+add-result : tie.Need-add-result
+add-result c = let s = c .before .before .before .before .before .before .before in
+    record { fits = omega (arith, c .wide .ensures .1, c .before .before .before .used .ensures, taken-low (s .args .cells .now) (s .pre .0) (s .pre .1)) }
 
 enum-told-2 : tie.Need-enum-told-2
 enum-told-2 c = search needs
 
 returns : tie.Need-returns
-unfolding reserved keptIn
+unfolding reserved keptIn usesOf
 returns c =
-    let t = c .before .before .enum-told .given .1 in
-    let s = c .before .before .before .before in
+    let s = c .before .before .before .before .before .before .before in
+    let t = c .before .before .before .before .before .enum-told .given .1 in
+    let u = c .before .before .before .used in
     let l = s .args .cells .now in
     let n = countIn l in
-    (rw t (getD-set-other l countAt n (n + 1) 0 (λ e. omega (arith, s .pre .1 t))), rw t)
+    let low = taken-low l (s .pre .0) (s .pre .1) in
+    let bits : (c .wide .result * 256 + u .result) % 256 ≡ u .result = omega (arith, u .ensures, low) in
+    let high : (c .wide .result * 256 + u .result) / 256 ≡ c .wide .result = omega (arith, u .ensures, low) in
+    let byte : (c .wide .result * 256 + u .result) / 256 % 256 ≡ c .wide .result = rw high (omega (arith, c .wide .ensures .1)) in
+    let kept = getD-set-other l countAt n (n + 1) 0 (λ e. omega (arith, s .pre .1 .0)) in
+    (bits ∙ u .ensures ∙ rw t, byte ∙ c .wide .ensures .0 ∙ rw t kept, rw t)
 
 returns-2 : tie.Need-returns-2
-unfolding reserved keptIn
-returns-2 c = (rw (c .enum-told2 .given .1), rw (c .enum-told2 .given .1))
+unfolding reserved keptIn usesOf
+returns-2 c = let t = c .enum-told2 .given .1 in (rw t, rw t, rw t)
 
 pub reserve-spec : {M : Type 1} → statement M
 reserve-spec =
     tie.close
     (tie.spec
     enum-told
+    used-requires
     element-copy-out-chosen
     cast-slot
     add-cells
     element-write-cells
-    element-copy-out-result
+    element-copy-out-wide
+    wide-requires
+    mul-result
+    add-result
     enum-told-2
     returns
     returns-2)

@@ -1,5 +1,5 @@
 -- `walk` meets its contract. Over the passes the invariant is `Between`, along a row `Walking`.
-use mathlib.Core.Path.{_≡_, _∙_}
+use mathlib.Core.Path.{_≡_, sym, _∙_}
 use mathlib.Core.Logic.{_⊎_, inl, inr, ⊎-elim}
 use mathlib.Core.List.{[], _∷_}
 use Prim.Native.Nat.{ℕ, _-_, _≤_, _<_}
@@ -14,13 +14,14 @@ use Rattle.walking.specs.declared.End.the-variants.{Missed}
 use Rattle.stepping.specs.declared.Go.the-variants.{Tries}
 use Rattle.walking.proofs.Walking.{Walking, Meeting, Lower, tail-less, walking-start, walking-end, met-size, met-back, undo-small}
 use Rattle.walking.proofs.Walking.{node-stuck, node-hit, node-fails, node-plain, node-last, node-inside, node-ends, node-missed, fits-fails, call-fits, call-ready}
-use Rattle.walking.proofs.Turns.{Entry, Between, Begun, first-few, entry-start, between-size, between-room, between-literal, between-ends, between-spent}
+use Rattle.walking.proofs.Turns.{walkable-literals, Entry, Between, Begun, first-few, entry-start, between-size, between-room, between-literal, between-small, between-over, between-ends, between-spent}
 use Rattle.walking.proofs.Turns.{begun-ready, pass-missed, pass-broken, pass-found, pass-ends}
 use Rattle.walking.proofs.below.walk.Reads as walk
 use Rattle.walking.proofs.below.walk.Kinds as walk-kinds
 use Rattle.walking.proofs.below.+walk.Lts-walk as walk-lts
 use Rattle.cells.proofs.begin.Reads as begin-reads
 use Rattle.cells.proofs.Above.of.Reads as above-reads
+use Rattle.cells.proofs.in_use.Reads as in-use-reads
 use Rattle.cells.proofs.passes.Reads as passes-reads
 use Rattle.cells.proofs.release.Reads as release-reads
 use Rattle.cells.proofs.reserve.Reads as reserve-reads
@@ -55,6 +56,8 @@ rs t = (
   reserve-reads.Learnt,
   release-reads.Asked,
   release-reads.Learnt,
+  in-use-reads.Asked,
+  in-use-reads.Learnt,
   begin-reads.Asked,
   begin-reads.Learnt,
   wanted-reads.Asked,
@@ -79,18 +82,18 @@ rs t = (
 
 -- along a row
 abbrev walk-Inv-loop : walk-lts.InvT-loop
-walk-Inv-loop words query tables cells₀ head count budget above last kept n₀ j here₀ trail₀ left start rest₀ cells n here trail rest =
+walk-Inv-loop words query tables cells₀ head count budget above last saved n₀ j here₀ trail₀ left start rest₀ cells n here trail rest =
     Walking query tables words budget (stateOf here₀ cells₀) n₀ cells₀ cells n here trail rest × (here < length query)
 
 abbrev walk-μ-loop : walk-lts.MeasureT-loop
-walk-μ-loop words query tables cells₀ head count budget above last kept n₀ j here₀ trail₀ left start rest₀ cells n here trail rest = length rest
+walk-μ-loop words query tables cells₀ head count budget above last saved n₀ j here₀ trail₀ left start rest₀ cells n here trail rest = length rest
 
 -- over the passes
 abbrev walk-Inv-tries : walk-lts.InvT-tries
-walk-Inv-tries words query tables cells₀ head count budget above last kept n₀ j₀ cells n j = Between query words budget head n₀ above last kept cells₀ cells n j
+walk-Inv-tries words query tables cells₀ head count budget above last saved n₀ j₀ cells n j = Between query words budget head n₀ above last saved cells₀ cells n j
 
 abbrev walk-μ-tries : walk-lts.MeasureT-tries
-walk-μ-tries words query tables cells₀ head count budget above last kept n₀ j₀ cells n j = last - j
+walk-μ-tries words query tables cells₀ head count budget above last saved n₀ j₀ cells n j = last - j
 
 module _ (t : ℕ) where
   -- a place of the walk, or what is needed there
@@ -137,8 +140,9 @@ module _ (t : ℕ) where
         room = p .1;
         by-head = c .before .before .before .of .ensures;
         times = c .before .before .passes .ensures;
-        keeps = c .reserve .ensures .0;
-        reserves = c .reserve .ensures .1;
+        takes = c .reserve .ensures .0;
+        keeps = c .reserve .ensures .1;
+        reserves = c .reserve .ensures .2;
       }
 
   -- a pass begins
@@ -154,7 +158,7 @@ module _ (t : ℕ) where
         entry = entry (passes c .before);
         between = passes c .tries .inv;
         more = c .before .before .before .if1 .left;
-        counted = ⊎-elim (λ w. inl (w .1 .given .1, w .2 .left, w .3)) (λ w. inr (w .1 .given .1, w .2)) (c .before .before .match .came);
+        counted = ⊎-elim (λ w. inl (w .1 .given .1, sym (w .2 .ensures) ∙ w .3 .left, w .4 .left, w .5)) (λ w. inr (w .1 .given .1, w .2)) (c .before .before .match .came);
         head = c .begin .ensures .0;
         stored = c .begin .ensures .1;
       }
@@ -202,7 +206,8 @@ module _ (t : ℕ) where
   walk-reserve-requires : At walk-lts.Need-reserve-requires
   walk-reserve-requires c κs =
       let s = c .before .before .before .before .before in
-      (s .pre .1 .0 .size, first-few (s .args .head) (s .args .cells .now) (s .pre .1 .1) (c .before .before .of .ensures))
+      let r = s .pre .1 .0 in
+      (r .size, walkable-literals r, first-few (s .args .head) (s .args .cells .now) (s .pre .1 .1) (c .before .before .of .ensures))
 
   walk-tries-holds : At walk-lts.Need-tries-holds
   walk-tries-holds c = entry-start (entry c)
@@ -212,6 +217,24 @@ module _ (t : ℕ) where
 
   walk-enum-told : At walk-lts.Need-enum-told
   walk-enum-told c = search needs
+
+  walk-in-use-requires : At walk-lts.Need-in-use-requires
+  walk-in-use-requires c κs =
+      let p = c .before .before .before in
+      between-small (entry (p .before)) (p .tries .inv) (c .before .before .if1 .left) (c .enum-told .given .1)
+
+  walk-add-j : At walk-lts.Need-add-j
+  walk-add-j c = search needs
+
+  walk-tries-less : At walk-lts.Need-tries-less
+  walk-tries-less c = search needs
+
+  walk-tries-again : At walk-lts.Need-tries-again
+  walk-tries-again c =
+      let u = c .before in
+      let e = u .before .before .before in
+      let p = e .before in
+      between-over (entry (p .before)) (p .tries .inv) (u .before .enum-told .given .1) (e .if1 .left) (sym (u .in-use .ensures) ∙ c .if2 .taken)
 
   walk-add-n : At walk-lts.Need-add-n
   walk-add-n c = search needs
@@ -312,13 +335,13 @@ module _ (t : ℕ) where
   walk-loop-again-2 c =
       let w = word (c .before .before .before .before) in
       let g = c .before .before .enum-told7 .given .1 in
-      (node-plain w g (c .before .if3 .taken), node-inside w (inl g))
+      (node-plain w g (c .before .if4 .taken), node-inside w (inl g))
 
   walk-enum-told-8 : At walk-lts.Need-enum-told-8
   walk-enum-told-8 c = search needs
 
   walk-trace-requires : At walk-lts.Need-trace-requires
-  walk-trace-requires c κs = (c .if5 .taken, undo-small (word (c .before .before .before .before)))
+  walk-trace-requires c κs = (c .if6 .taken, undo-small (word (c .before .before .before .before)))
 
   walk-sub-rest-4 : At walk-lts.Need-sub-rest-4
   walk-sub-rest-4 c = search needs
@@ -337,7 +360,7 @@ module _ (t : ℕ) where
       let f = c .before .before .before in
       let w = word (f .before .before .before) in
       let g = f .before .enum-told8 .given .1 in
-      (node-last w g (f .if4 .taken) (c .before .before .if5 .taken) (c .before .trace .ensures), node-inside w (inr g))
+      (node-last w g (f .if5 .taken) (c .before .before .if6 .taken) (c .before .trace .ensures), node-inside w (inr g))
 
   walk-sub-walk : At walk-lts.Need-sub-walk
   walk-sub-walk c = called c .0
@@ -405,14 +428,14 @@ module _ (t : ℕ) where
   walk-unwind-requires : At walk-lts.Need-unwind-requires
   walk-unwind-requires c κs = c .before .before .loop .inv .0 .ready .size
 
-  walk-add-j : At walk-lts.Need-add-j
-  walk-add-j c = search needs
+  walk-add-j-2 : At walk-lts.Need-add-j-2
+  walk-add-j-2 c = search needs
 
-  walk-tries-less : At walk-lts.Need-tries-less
-  walk-tries-less c = search needs
+  walk-tries-less-2 : At walk-lts.Need-tries-less-2
+  walk-tries-less-2 c = search needs
 
-  walk-tries-again : At walk-lts.Need-tries-again
-  walk-tries-again c =
+  walk-tries-again-2 : At walk-lts.Need-tries-again-2
+  walk-tries-again-2 c =
       let r = c .before .before .before in
       let w = r .loop .inv .0 in
       pass-missed (begun (pass r)) (walking-end w (c .before .before .loop-test .left)) (c .unwind .ensures ∙ w .undo)
@@ -422,10 +445,10 @@ module _ (t : ℕ) where
 
   walk-returns-2 : At walk-lts.Need-returns-2
   walk-returns-2 c =
-      let w = c .before in
-      let e = w .before .before in
+      let u = c .before .before in
+      let e = u .before .before .before in
       let p = e .before in
-      between-spent (entry (p .before)) (p .tries .inv) (w .enum-told .given .1) (e .if1 .left) (c .if2 .taken)
+      between-spent (entry (p .before)) (p .tries .inv) (u .before .enum-told .given .1) (e .if1 .left) (sym (u .in-use .ensures) ∙ c .before .if2 .left) (c .if3 .taken)
 
   walk-returns-3 : At walk-lts.Need-returns-3
   walk-returns-3 c = let w = c .before .before in pass-broken (begun (pass (row w))) (met-size (word w)) _ (node-stuck (word w) (c .enum-told3 .given .1))
@@ -445,7 +468,7 @@ module _ (t : ℕ) where
 
 pub +walk-spec : {M : Type 1} → statement M
 +walk-spec = close μ-walk λ t. walk-lts.spec (rs t) (walk-at t) walk.Post walk-Inv-loop walk-μ-loop walk-Inv-tries walk-μ-tries
-    (walk-of-requires t) (walk-passes-requires t) (walk-reserve-requires t) (walk-tries-holds t) (walk-release-requires t) (walk-enum-told t) (walk-add-n t) (walk-enum-told-2 t)
+    (walk-of-requires t) (walk-passes-requires t) (walk-reserve-requires t) (walk-tries-holds t) (walk-release-requires t) (walk-enum-told t) (walk-in-use-requires t) (walk-add-j t) (walk-tries-less t) (walk-tries-again t) (walk-add-n t) (walk-enum-told-2 t)
     (walk-begin-requires t) (walk-wanted-requires t) (walk-skip-requires t) (walk-sub-start t) (walk-mul-rest t) (walk-sub-rest t)
     (walk-part-rest-start t) (walk-part-rest-end t) (walk-loop-holds t) (walk-shared-slice-read-w t) (walk-meet-requires t) (walk-extent-requires t)
     (walk-enum-told-3 t) (walk-enum-told-4 t) (walk-operand-requires t) (walk-enum-told-5 t) (walk-mul-rest-2 t) (walk-sub-rest-2 t)
@@ -454,5 +477,5 @@ pub +walk-spec : {M : Type 1} → statement M
     (walk-trace-requires t) (walk-sub-rest-4 t) (walk-part-rest-start-4 t) (walk-part-rest-end-4 t) (walk-loop-less-3 t) (walk-loop-again-3 t)
     (walk-sub-walk t) (walk-part-walk-start t) (walk-part-walk-end t) (walk-walk-requires t) (walk-enum-told-9 t) (walk-restore-requires t)
     (walk-wanted-requires-2 t) (walk-skip-requires-2 t) (walk-sub-next t) (walk-mul-rest-3 t) (walk-sub-rest-5 t) (walk-part-rest-start-5 t)
-    (walk-part-rest-end-5 t) (walk-loop-less-4 t) (walk-loop-again-4 t) (walk-unwind-requires t) (walk-add-j t) (walk-tries-less t)
-    (walk-tries-again t) (walk-returns t) (walk-returns-2 t) (walk-returns-3 t) (walk-returns-4 t) (walk-returns-5 t)
+    (walk-part-rest-end-5 t) (walk-loop-less-4 t) (walk-loop-again-4 t) (walk-unwind-requires t) (walk-add-j-2 t) (walk-tries-less-2 t)
+    (walk-tries-again-2 t) (walk-returns t) (walk-returns-2 t) (walk-returns-3 t) (walk-returns-4 t) (walk-returns-5 t)
