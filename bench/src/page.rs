@@ -1,4 +1,4 @@
-//! A page: records in, lines and tally sheet out (document 01, "The program").
+//! A page: records in, lines and tally sheet out (document 01, "The program"; F-1 of document 02).
 use std::io::{self, Read, Write};
 
 /// What becomes of a record.

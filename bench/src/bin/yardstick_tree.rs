@@ -1,5 +1,5 @@
-//! The program of document 01 in plain safe Rust: the same tree words, walk, lines and sheet. It trusts its own tree: no test of
-//! foreign words on a step, no well-laid test on insertion, no witness.
+//! The program of documents 01 and 02 in plain safe Rust: the same tree words, walk, lines and sheet. It trusts its own tree: no test
+//! of foreign words on a step, no well-laid test on insertion, no witness.
 use std::io;
 use yardsticks::clause::Clause;
 use yardsticks::code::*;

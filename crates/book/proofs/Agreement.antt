@@ -12,7 +12,7 @@ use Rattle.machine.specs.Instr.{key}
 use Rattle.machine.specs.Machine.{State, initial}
 use Rattle.tree.specs.Entries.{Listed, Pair, entry}
 use Rattle.walk.specs.Walk.{Answer, covered, notCovered, spent, broken, upTo, walk}
-use Rattle.walk.specs.Ceiling.{fullBudget}
+use Rattle.walk.specs.Ceiling.{fullBudget, enoughBudget}
 use Rattle.walk.specs.Query.{machine, witnessWords, shown, withShown, answerBy, query}
 use Rattle.walk.specs.Covering.{Subsumed, candidates, IsCovered, IsNotCovered, Answers}
 use Rattle.book.specs.Book.{Call, sliceOf, bookOf, treeOf}
@@ -42,9 +42,12 @@ module _ (T : List ℕ) (xs : List Call) (R : Run T xs) where
   holds : Holds (length T) (bookOf (length T) xs) (laid T xs R .tree)
   holds = laid T xs R .holds
 
-  -- no query takes more candidates than the full budget
-  enough : (d : List ℕ) → Accepted d → candidates (treeOf (bookOf (length T) xs)) d ≤ fullBudget
-  enough d D = le-trans (rw (holds-tree holds) (holds-enough holds d D)) enough-full
+  -- no query takes more candidates than `enoughBudget`, and so none more than the full budget
+  enough : (d : List ℕ) → Accepted d → candidates (treeOf (bookOf (length T) xs)) d ≤ enoughBudget
+  enough d D = rw (holds-tree holds) (holds-enough holds d D)
+
+  full : (d : List ℕ) → Accepted d → candidates (treeOf (bookOf (length T) xs)) d ≤ fullBudget
+  full d D = le-trans (enough d D) enough-full
 
   module _ (d : List ℕ) (D : Accepted d) (W : List ℕ) (long : witnessWords ≤ length W) where
     at-full : Answers (bookOf (length T) xs) (treeOf (bookOf (length T) xs)) (sliceOf T xs) d fullBudget W
@@ -52,14 +55,14 @@ module _ (T : List ℕ) (xs : List Call) (R : Run T xs) where
 
     -- at the full budget a query is covered or not
     decided : IsCovered (sliceOf T xs) d fullBudget W ⊎ IsNotCovered (sliceOf T xs) d fullBudget W
-    decided = fits-decided at-full (enough d D)
+    decided = fits-decided at-full (full d D)
 
     -- it is covered exactly if a kept clause subsumes it
     is-covered : IsCovered (sliceOf T xs) d fullBudget W ↔ Subsumed (bookOf (length T) xs) d
-    is-covered = at-full .decides (enough d D)
+    is-covered = at-full .decides (full d D)
 
   alone : Alone T xs
-  alone = record { decided = decided; walked = walked T xs R }
+  alone = record { enough = enough; decided = decided; walked = walked T xs R }
 
 -- ---- two lists
 

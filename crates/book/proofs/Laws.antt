@@ -39,7 +39,7 @@ number n K = (
 )
 
 -- clauses with the same keys are variants
-same-keys : (c : List ℕ) → Accepted c → Words c → (p : Pair) → Sound p → keys c ≡ keys (p .clause) → Variants c (p .clause)
+pub same-keys : (c : List ℕ) → Accepted c → Words c → (p : Pair) → Sound p → keys c ≡ keys (p .clause) → Variants c (p .clause)
 same-keys c C w p s e = keys-same (sequence-plain c (accepted c C) w) (sequence-plain (p .clause) (accepted (p .clause) (s .accepted)) (s .words)) e
 
 variant : (c : List ℕ) (K : List Pair) → Accepted c → Words c → All Sound K

@@ -14,9 +14,9 @@ use Rattle.tree.specs.Forest.{layout, Has, ins, del}
 use Rattle.tree.specs.Laid.{maxKept, decode}
 use Rattle.tree.specs.Entries.{Mirrors, Pair, entry}
 use Rattle.walk.specs.Walk.{upTo, walk}
-use Rattle.walk.specs.Ceiling.{ceiling, fullBudget, ceilingCall}
+use Rattle.walk.specs.Ceiling.{ceiling, fullBudget, enoughBudget, ceilingCall}
 use Rattle.walk.specs.Query.{machine, witnessWords, withShown, answerBy, walkSlice, query}
-use Rattle.walk.specs.Covering.{Units, IsCovered, IsNotCovered, IsSpent, Answers}
+use Rattle.walk.specs.Covering.{candidates, Units, IsCovered, IsNotCovered, IsSpent, Answers}
 use Rattle.tree.specs.Calls.{fresh, insertion, removal}
 use Rattle.book.specs.Table.{ready, kept, removed, returned, saidCeiling, called, asked}
 use Rattle.book.specs.Refusals.{firstOf, freshRows, ceilingRows, insertRows, removeRows, queryRows, finished, unlessRefused, unlessSaid, walkResult}
@@ -85,6 +85,8 @@ pub record Same (S T d : List ℕ) (b : ℕ) : Type 0 where
 
 -- what is claimed of one list's queries at the full budget, and of the walk
 pub record Alone (T : List ℕ) (xs : List Call) : Type 0 where
+  -- no accepted query takes more candidates than `enoughBudget`, which is less than the full one
+  pub enough : (d : List ℕ) → Accepted d → candidates (treeOf (bookOf (length T) xs)) d ≤ enoughBudget
   -- at the full budget every accepted query is answered covered or not covered
   pub decided : (d : List ℕ) → Accepted d → (W : List ℕ) → witnessWords ≤ length W
       → IsCovered (sliceOf T xs) d fullBudget W ⊎ IsNotCovered (sliceOf T xs) d fullBudget W

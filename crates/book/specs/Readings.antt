@@ -102,7 +102,8 @@ walking =
     ∷ (answerOn (at 1 0 4 ∷ at 4 0 3 ∷ at 8 0 2 ∷ at 0 1 1 ∷ []) (P₀ ∷ []) 9 ≡ Covered 1 1)
     ∷ (answerOn (at 1 0 6 ∷ at 4 0 5 ∷ at 1 0 4 ∷ at 4 1 3 ∷ at 8 1 2 ∷ at 0 1 1 ∷ []) (P₀ ∷ P₀ ∷ []) 9 ≡ Covered 1 2)
     ∷ (answerOn (at 1 0 6 ∷ at 4 0 5 ∷ at 1 0 4 ∷ at 4 1 3 ∷ at 8 1 2 ∷ at 0 1 1 ∷ []) (P₀ ∷ Q₀ ∷ []) 9 ≡ NotCovered 4)
-    ∷ (answerOn (at 1 0 3 ∷ at 1 0 2 ∷ at 0 1 1 ∷ []) (P₀ ∷ Q₀ ∷ []) 9 ≡ Covered 1 2) ∷ (answerOn (at 1 0 3 ∷ at 1 0 2 ∷ at 0 1 1 ∷ []) (P₀ ∷ []) 9 ≡ NotCovered 1)
+    ∷ (answerOn (at 1 0 3 ∷ at 1 0 2 ∷ at 0 1 1 ∷ []) (P₀ ∷ Q₀ ∷ []) 9 ≡ Covered 1 2)
+    ∷ (answerOn (at 1 0 3 ∷ at 1 0 2 ∷ at 0 1 1 ∷ []) (P₀ ∷ []) 9 ≡ NotCovered 1)
     -- a First with no literal left over takes nothing and counts nothing, at a used-up budget too; equal literals at two places are two
     ∷ (ask pxqx (P₁ ∷ a ∷ []) 1 0 0 ≡ record { answer = NotCovered 1; literals = []; positions = [] })
     ∷ (ask pxpy (P₁ ∷ a ∷ P₁ ∷ a ∷ []) 9 2 2 ≡ record { answer = Covered 1 2; literals = 0 ∷ 1 ∷ []; positions = 1 ∷ 3 ∷ [] })

@@ -86,7 +86,7 @@ module _ (l : List ℕ) (size : length l ≡ cellCount) (L : HasLiterals l) wher
     pub candidate-small : getD l (i - 1) 0 < maxLiterals
     candidate-small = rw (getD-take (countIn l) l (i - 1) 0 (omega arith)) at (all-get taken (L .1) (i - 1) 0 (omega (arith, length-taken)))
 
-    pub bits-more : {bits : ℕ} → bits ≡ bitsOf (drop i taken) → bitOr bits (1 * 2 ^ getD l (i - 1) 0 % 2 ^ 64) ≡ bitsOf (drop (i - 1) taken)
+    pub bits-more : {bits : ℕ} → bits ≡ bitsOf (drop i taken) → bitOr bits (1 * 2 ^ getD l (i - 1) 0 % 2 ^ 32) ≡ bitsOf (drop (i - 1) taken)
     unfolding bitsOf
     bits-more {bits} e =
         let c = getD l (i - 1) 0 in
@@ -94,5 +94,5 @@ module _ (l : List ℕ) (size : length l ≡ cellCount) (L : HasLiterals l) wher
         let onward : suc (i - 1) ≡ i = omega arith in
         let more : drop (i - 1) taken ≡ c ∷ drop i taken =
         drop-cons taken (i - 1) 0 (omega (arith, length-taken)) ∙ ap₂ (λ (x : ℕ) (n : ℕ). x ∷ drop n taken) there onward in
-        let bit : 1 * 2 ^ c % 2 ^ 64 ≡ 2 ^ c = shl-exact {a = 1} 1 c 64 (omega arith) (omega (arith, candidate-small)) ∙ omega arith in
+        let bit : 1 * 2 ^ c % 2 ^ 32 ≡ 2 ^ c = shl-exact {a = 1} 1 c 32 (omega arith) (omega (arith, candidate-small)) ∙ omega arith in
         rw (bit, more, ← e) (or-comm bits (2 ^ c))

@@ -48,7 +48,10 @@ impl Path {
     pub const BEFORE: usize = Path::NONE;
 
     // The literals of a query as bits are below this.
-    pub const USES: u64 = 1 << Clause::LITERALS;
+    pub const USES: u32 = 1 << Clause::LITERALS;
+
+    // Bytes are below this.
+    pub const BYTES: u32 = Path::CELLS as u32;
 
     // An undo is the index of a cell, times this, and the byte that it held.
     pub const UNDO: u64 = Path::CELLS as u64;

@@ -65,11 +65,11 @@ pub fn unwind(cells: &mut [u8; Path::CELLS], trail: u64)
 }
 
 // The literals that are used on the path, a bit for each.
-fn used(cells: &[u8; Path::CELLS]) -> u64
+fn used(cells: &[u8; Path::CELLS]) -> u32
     requires { ⌜ (length (now cells) ≡ cellCount) × HasLiterals (now cells) ⌝ }
     ensures { λ r. ⌜ r ≡ bitsOf (take (countIn (now (cells .entry))) (now (cells .entry))) ⌝ }
 {
-    let mut bits: u64 = 0;
+    let mut bits: u32 = 0;
     let mut i = cells[Path::CHOSEN] as usize;
     while i > 0 {
         i -= 1;
@@ -79,7 +79,7 @@ fn used(cells: &[u8; Path::CELLS]) -> u64
 }
 
 // Makes place for a candidate, below a First: what stood there, times `Path::USES`, and the literals that are used on its path.
-pub fn reserve(cells: &mut [u8; Path::CELLS], above: Above) -> u64
+pub fn reserve(cells: &mut [u8; Path::CELLS], above: Above) -> u32
     requires { ⌜ (length (now cells) ≡ cellCount) × HasLiterals (now cells) × (above ≡ First → HasPlace (now cells)) ⌝ }
     ensures { λ r. ⌜ (r % useLimit ≡ usesOf above (now (cells .entry))) × (savedByte r ≡ keptIn above (now (cells .entry)))
         × (now (cells .exit) ≡ reserved above (now (cells .entry))) ⌝ }
@@ -90,14 +90,14 @@ pub fn reserve(cells: &mut [u8; Path::CELLS], above: Above) -> u64
             let chosen = cells[Path::CHOSEN];
             let slot = chosen as usize;
             cells[Path::CHOSEN] = chosen + 1;
-            wide(cells[slot]) as u64 * Path::USES + bits
+            wide(cells[slot]) as u32 * Path::USES + bits
         }
         Above::Step => 0,
     }
 }
 
 // Whether a First passes over a literal, by what its reserve gave.
-pub fn in_use(saved: u64, j: usize) -> bool
+pub fn in_use(saved: u32, j: usize) -> bool
     requires { ⌜ j < maxLiterals ⌝ }
     ensures { λ r. ⌜ r ≡ hasBit saved j ⌝ }
 {
@@ -128,7 +128,7 @@ pub fn begin(
 }
 
 // Takes the place of the candidate away again, by what its reserve gave.
-pub fn release(cells: &mut [u8; Path::CELLS], above: Above, saved: u64)
+pub fn release(cells: &mut [u8; Path::CELLS], above: Above, saved: u32)
     requires { ⌜ (length (now cells) ≡ cellCount) × (above ≡ First → HasCandidate (now cells)) ⌝ }
     ensures { λ _. ⌜ now (cells .exit) ≡ released above (savedByte saved) (now (cells .entry)) ⌝ }
 {
@@ -136,14 +136,14 @@ pub fn release(cells: &mut [u8; Path::CELLS], above: Above, saved: u64)
         Above::First => {
             let chosen = cells[Path::CHOSEN] - 1;
             let slot = chosen as usize;
-            cells[slot] = (saved / Path::USES % Path::UNDO) as u8;
+            cells[slot] = (saved / Path::USES % Path::BYTES) as u8;
             cells[Path::CHOSEN] = chosen;
         }
         Above::Step => {}
     }
 }
 
-// How many passes are made over the words: below a First one for each literal of the query, below a step one.
+// How many literals are gone through: below a First the query's, of which those in use get no pass; below a step one pass is made.
 pub fn passes(tables: &[u8; Clause::TABLES], above: Above) -> usize
     ensures { λ r. ⌜ r ≡ passesOf above (getD (now (tables .entry)) atCount 0) ⌝ }
 {

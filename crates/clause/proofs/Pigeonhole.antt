@@ -6,9 +6,10 @@ use native.Mathlib.Decide.{ℕ-discrete}
 use native.Mathlib.Omega.{arith}
 use lib.Dec.{eqb}
 use borrow.Author.Tests.{eq-eqb, ne-eqb}
+use Rattle.clause.specs.Lists.{Injective}
 
 -- n + 1 different numbers below m + 1: n of them can be moved below m
-module _ (n m : ℕ) (f : ℕ → ℕ) (low : (i : ℕ) → i < suc n → f i < suc m) (apart : (i j : ℕ) → i < suc n → j < suc n → f i ≡ f j → i ≡ j) where
+module _ (n m : ℕ) (f : ℕ → ℕ) (low : (i : ℕ) → i < suc n → f i < suc m) (apart : Injective (suc n) f) where
   -- the last of them takes the place of m
   moved : ℕ → ℕ
   moved i = cond (eqb (f i) m) (f n) (f i)
@@ -31,7 +32,7 @@ module _ (n m : ℕ) (f : ℕ → ℕ) (low : (i : ℕ) → i < suc n → f i < 
       go (yes e) = let ne : f n ≡ m → ⊥ = λ z. not-last i h (e ∙ sym z) in rw (moved-top i e) (omega (arith, low n (omega arith)))
       go (no ne) = rw (moved-other i ne) (omega (arith, low i (omega arith)))
 
-  moved-apart : (i j : ℕ) → i < n → j < n → moved i ≡ moved j → i ≡ j
+  moved-apart : Injective n moved
   moved-apart i j h g e = go (ℕ-discrete (f i) m) (ℕ-discrete (f j) m)
     where
       go : Dec (f i ≡ m) → Dec (f j ≡ m) → i ≡ j
@@ -41,7 +42,7 @@ module _ (n m : ℕ) (f : ℕ → ℕ) (low : (i : ℕ) → i < suc n → f i < 
       go (no x) (no y) = apart i j (omega arith) (omega arith) (sym (moved-other i x) ∙ e ∙ moved-other j y)
 
 -- n different numbers below m are no more than m
-pub few-places : (n m : ℕ) (f : ℕ → ℕ) → ((i : ℕ) → i < n → f i < m) → ((i j : ℕ) → i < n → j < n → f i ≡ f j → i ≡ j) → n ≤ m
+pub few-places : (n m : ℕ) (f : ℕ → ℕ) → ((i : ℕ) → i < n → f i < m) → Injective n f → n ≤ m
 few-places zero m f low apart = omega arith
 few-places (suc n) zero f low apart = absurd (omega (arith, low 0 (omega arith)))
 few-places (suc n) (suc m) f low apart =

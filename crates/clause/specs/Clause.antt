@@ -6,7 +6,7 @@ use Prim.Native.Nat.{ℕ, zero, suc, _+_, _<_}
 use lib.ListN.{length, getD, take, drop}
 use lib.Dec.{ltb}
 use Rattle.clause.specs.Word.{arity, Sort, symbol, variable, head, wrong, sort, ifHead, ifVariable}
-use Rattle.clause.specs.Lists.{All}
+use Rattle.clause.specs.Lists.{All, Injective}
 use Rattle.clause.specs.declared.Fault.{Fault}
 use Rattle.clause.specs.declared.Fault.the-variants.{BadLength, Bad, Ninth}
 use Rattle.clause.specs.declared.Shape.{Shape}
@@ -125,5 +125,5 @@ pub record Subsumes (c d : List ℕ) : Type 0 where
   pub place : ℕ → ℕ
   pub inside : (i : ℕ) → i < length (literals c) → place i < length (literals d)
   -- no two fall on the same
-  pub apart : (i j : ℕ) → i < length (literals c) → j < length (literals c) → place i ≡ place j → i ≡ j
+  pub apart : Injective (length (literals c)) place
   pub covered : (i : ℕ) → i < length (literals c) → inst replace (getD (literals c) i []) ≡ getD (literals d) (place i) []

@@ -4,7 +4,6 @@ use mathlib.Core.Bool.{Bool, true, false, _&&_}
 use mathlib.Core.List.{List, [], _∷_, _++_}
 use Prim.Native.Nat.{ℕ, zero, suc, _<_}
 use lib.Dec.{eqb}
-use lib.ListN.{length, getD}
 
 -- P holds of every element
 pub data All {ℓ κ} {A : Type ℓ} (P : A → Type κ) : List A → Type (ℓ ⊔ κ) where
@@ -16,9 +15,9 @@ pub data Each {ℓ κ} {A : Type ℓ} (R : A → A → Type κ) : List A → Typ
   nobody : Each R []
   besides : {x : A} {xs : List A} → All (R x) xs → Each R xs → Each R (x ∷ xs)
 
--- no number stands at two places
-abbrev pub Differ : List ℕ → Type 0
-Differ l = (i j : ℕ) → i < length l → j < length l → getD l i 0 ≡ getD l j 0 → i ≡ j
+-- below n a function takes no value twice
+abbrev pub Injective : {A : Type 0} → ℕ → (ℕ → A) → Type 0
+Injective n f = (i j : ℕ) → i < n → j < n → f i ≡ f j → i ≡ j
 
 -- all of some statements hold
 abbrev pub Hold : List (Type 0) → Type 0

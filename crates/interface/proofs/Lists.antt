@@ -10,7 +10,7 @@ use Rattle.tree.specs.Calls.{fresh}
 use Rattle.tree.specs.declared.Refusal.the-variants.{Spent}
 use Rattle.tree.specs.declared.CallAnswer.{CallAnswer}
 use Rattle.tree.specs.declared.CallAnswer.the-variants.{Ready, Kept, Removed}
-use Rattle.walk.specs.Ceiling.{fullBudget}
+use Rattle.walk.specs.Ceiling.{fullBudget, enoughBudget}
 use Rattle.walk.specs.Query.{witnessWords, query}
 use Rattle.walk.specs.Covering.{IsCovered, IsNotCovered, IsSpent, Answers}
 use Rattle.walk.specs.declared.QueryAnswer.{QueryAnswer}
@@ -97,7 +97,7 @@ module _ (T d : List ℕ) (b : ℕ) (W ts : List ℕ) (long : 3 ≤ length ts) w
   )
 
 module _ {K : List Pair} {T d : List ℕ} {b : ℕ} {W : List ℕ} (A : Answers K (treeOf K) T d b W) where
-  module _ (ts : List ℕ) (long : 3 ≤ length ts) (enough : needed K d ≤ fullBudget) where
+  module _ (ts : List ℕ) (long : 3 ≤ length ts) (enough : needed K d ≤ enoughBudget) where
     says-covered : IsCovered T d b W → SaysCovered (ctQuery T d b W ts) ts (needed K d)
     says-covered u = let (n, c, e) = u in (n, says T d b W ts long (Covered n (needed K d)) .1 (rw (← A .counts n c e) e))
 
@@ -150,8 +150,7 @@ pub ct-demand2 : CtDemand2
 ct-demand2 T xs R d W ts P b =
     let ys : List Call = callsMade xs in
     let r : Run T ys = run-of T xs R in
-    let full = decided-fits (demand2 T ys r d (P .clause) fullBudget W (P .witness)) (demand3 T ys T ys r r .one .decided d (P .clause) W (P .witness)) in
-    rw (tree-words T xs) (ct-answers (demand2 T ys r d (P .clause) b W (P .witness)) ts (P .told) full)
+    rw (tree-words T xs) (ct-answers (demand2 T ys r d (P .clause) b W (P .witness)) ts (P .told) (demand3 T ys T ys r r .one .enough d (P .clause)))
 
 -- ---- two lists
 

@@ -10,7 +10,7 @@ use Rattle.clause.specs.Clause.{Accepted, literals}
 use Rattle.tree.specs.Forest.{layout}
 use Rattle.tree.specs.Entries.{Pair}
 use Rattle.tree.specs.Calls.{fresh, insertion, removal}
-use Rattle.walk.specs.Ceiling.{ceiling, arrangements, fullBudget, ceilingCall}
+use Rattle.walk.specs.Ceiling.{ceiling, arrangements, fullBudget, enoughBudget, ceilingCall}
 use Rattle.walk.specs.Query.{witnessWords, withShown, query}
 use Rattle.walk.specs.Covering.{most, Units, Subsumed, Shows, Untouched, candidates}
 use Rattle.book.specs.Book.{Call, insert, remove, Fit, AllFit, bookStep, bookOf, treeOf}
@@ -100,8 +100,8 @@ pub record CtAnswers (K : List Pair) (d : List ℕ) (b : ℕ) (W ts : List ℕ) 
   pub covered : SaysCovered r ts (needed K d) ↔ ((needed K d ≤ b) × Subsumed K d)
   pub not-covered : SaysNot r ts (needed K d) ↔ ((needed K d ≤ b) × (Subsumed K d → ⊥))
   pub spent : SaysSpent r ts b ↔ (b < needed K d)
-  -- the full budget never is, and no query takes more candidates than the ceiling
-  pub enough : needed K d ≤ fullBudget
+  -- no query takes more candidates than `enoughBudget`, which is less than the full budget; nor than the ceiling
+  pub enough : needed K d ≤ enoughBudget
   pub bounded : needed K d ≤ ceiling (length K) (length (literals d)) (most K)
   -- nor than the arrangements of literals for each kept clause
   pub arranged : needed K d ≤ length K * arrangements (length (literals d)) (most K)

@@ -1,11 +1,11 @@
--- A clause subsumes a query exactly if its sequence runs to the end with some choice of the query's literals, no two of them the same.
+-- A clause subsumes a query exactly if its sequence runs to the end with some choice of the query's literals; then no two of them are the same.
 use mathlib.Core.Path.{_≡_, refl, sym, ap, _∙_}
 use mathlib.Core.List.{List, [], map, flatten}
 use Prim.Native.Nat.{ℕ, _<_}
 use native.Mathlib.Omega.{arith}
 use lib.ListN.{length, getD, length-map}
 use lib.Seq.{ext-getD}
-use Rattle.clause.specs.Lists.{none as all-none, Differ, numbersBelow}
+use Rattle.clause.specs.Lists.{none as all-none, numbersBelow}
 use Rattle.clause.specs.Clause.{Accepted, literals, IsTerm, inst, Subsumes, vars}
 use Rattle.machine.specs.Compile.{sequence, Variants}
 use Rattle.machine.specs.Instr.{Instr}
@@ -20,7 +20,7 @@ use Rattle.machine.proofs.Effects.{fails≢next}
 use Rattle.machine.proofs.Compares.{all-upTo}
 use Rattle.machine.proofs.Agree.{Agree, no-more}
 use Rattle.machine.proofs.Table.{filled, length-unfilled}
-use Rattle.machine.proofs.Used.{differ-none}
+use Rattle.machine.proofs.Used.{Differ, differ-none}
 use Rattle.machine.proofs.Fits.{chosen, places, fits-replaces, replaces-fits}
 use Rattle.machine.proofs.Run.{Ended, succeeds, mismatch, AboutToMatch, run-literals}
 
@@ -29,6 +29,12 @@ pub record Makes (c d js : List ℕ) : Type 0 where
   pub replace : ℕ → List ℕ
   pub terms : (v : ℕ) → IsTerm (replace v)
   pub made : map (inst replace) (literals c) ≡ map (chosen d) js
+
+-- each literal of c then becomes the chosen one
+pub made-at : {c d js : List ℕ} (M : Makes c d js) (i : ℕ) → i < length (literals c) → i < length js
+    → inst (M .replace) (getD (literals c) i []) ≡ getD (literals d) (getD js i 0) []
+made-at {c} {d} {js} M i h g =
+    sym (getD-map-lt (inst (M .replace)) (literals c) i [] [] h) ∙ ap (λ l. getD l i []) (M .made) ∙ getD-map-lt (chosen d) js i 0 [] g
 
 -- with these literals the sequence runs to the end, its puts being where the replacing terms are, and the literals all differ; or it fails, and
 -- there is no replacement or two of them are the same
@@ -102,7 +108,7 @@ module _ (c d : List ℕ) (C : Clause c) (D : Clause d) where
   subsumes-matched S = go (runs c d C D (picks c d S) (picked c d S))
     where
       go : Result c d (picks c d S) (run d (sequence c) (picks c d S) initial) → Matched c d
-      go (covers M N ps a s e q p) = record { choices = picks c d S; choice = picked c d S; apart = N; state = s; ran = e }
+      go (covers M N ps a s e q p) = record { choices = picks c d S; choice = picked c d S; state = s; ran = e }
       go (misses n e) = absurd (n (picks-make c d S) (picks-differ c d S))
 
   pub matched-subsumes : Matched c d → Subsumes c d
@@ -119,8 +125,7 @@ module _ (c d : List ℕ) (C : Clause c) (D : Clause d) where
             place = λ i. getD (K .choices) i 0;
             inside = λ i h. all-get (K .choices) (K .choice .valid) i 0 (within i h);
             apart = λ i j h g. N i j (within i h) (within j g);
-            covered =
-                λ i h. sym (getD-map-lt (inst (M .replace)) (literals c) i [] [] h) ∙ ap (λ l. getD l i []) (M .made) ∙ getD-map-lt (chosen d) (K .choices) i 0 [] (within i h);
+            covered = λ i h. made-at M i h (within i h);
           }
       go (misses n e) = absurd (fails≢next (sym e ∙ K .ran))
 
@@ -139,7 +144,6 @@ variants-subsume c d A B v =
     record {
       choices = M .choices;
       choice = record { each = alike ∙ M .choice .each; valid = M .choice .valid };
-      apart = M .apart;
       state = M .state;
       ran = ap (λ (s : List Instr). run d s (M .choices) initial) v ∙ M .ran;
     }

@@ -6,13 +6,12 @@ use mathlib.Core.List.{List, [], _∷_, _++_, flatten, append-nil, append-assoc}
 use Prim.Native.Nat.{ℕ, _+_, _≤_, _<_}
 use native.Mathlib.Omega.{arith}
 use lib.ListN.{length, length-append}
-use borrow.Author.Tests.{lt-ltb}
-use Rattle.clause.specs.Lists.{All, also, Differ}
+use Rattle.clause.specs.Lists.{All, also}
 use Rattle.clause.specs.Word.{sort, ifVariable}
 use Rattle.clause.specs.Clause.{literals, maxLiterals, startOf, vars}
 use Rattle.machine.specs.Instr.{Instr, First}
 use Rattle.machine.specs.Compile.{ended, inside, closing, opening, begun, wayFrom, putsAfter, sequenceFrom}
-use Rattle.machine.specs.Machine.{slots, State, Effect, next, fails, require, starting, used, start, enter, finishFrom, finish, run}
+use Rattle.machine.specs.Machine.{slots, State, Effect, next, fails, starting, used, start, finishFrom, finish, run}
 use Rattle.clause.proofs.Lists.{all-get, length-snoc}
 use Rattle.clause.proofs.Skip.{shaped-enough}
 use Rattle.clause.specs.Accepted.{IsLiteral}
@@ -25,7 +24,7 @@ use Rattle.machine.proofs.Compares.{GoesIf, holds, refuted, goes-if-fro
 use Rattle.machine.proofs.Replace.{length-vars, match-length}
 use Rattle.machine.proofs.Table.{filled, filled-more, filled-get}
 use Rattle.clause.proofs.Apart.{apart}
-use Rattle.machine.proofs.Used.{differ-more, differ-used}
+use Rattle.machine.proofs.Used.{Differ, differ-more, differ-used, enter-new, enter-used}
 use Rattle.machine.proofs.Fits.{literal-match, FitsChosen, fits-none, fits-also, places}
 
 -- the variables put after some words
@@ -42,13 +41,13 @@ sequence-first w ws puts from n = refl
 
 module _ (d : List ℕ) (sequence : List Instr) (s : State) (j : ℕ) (js : List ℕ) (h : length (s .chosen) < maxLiterals) where
   run-first : used j (s .chosen) ≡ false → run d (First ∷ sequence) (j ∷ js) s ≡ run d sequence js (starting d s j)
-  unfolding run start enter require
-  run-first u = rw (lt-ltb (length (s .chosen)) maxLiterals h, u)
+  unfolding run start
+  run-first u = rw (enter-new d j s h u)
 
   -- with a literal that is already used it fails
   run-used : used j (s .chosen) ≡ true → run d (First ∷ sequence) (j ∷ js) s ≡ fails
-  unfolding run start enter require
-  run-used u = rw (lt-ltb (length (s .chosen)) maxLiterals h, u)
+  unfolding run start
+  run-used u = rw (enter-used d j s h u)
 
 run-success : (d js : List ℕ) (s : State) (c : ℕ) → s .head ≡ some c → run d [] js s ≡ next s
 unfolding run finish finishFrom
@@ -123,7 +122,8 @@ module _ (d : List ℕ) (D : Clause d) where
           pushes = B .pushes;
         }
 
-    module _ (u : used j (s .chosen) ≡ false) (o : Effect State) (ps : List ℕ) (f : flat d l (startOf d j) ≡ some ps) (A : After d (flatten ls) (length puts) js (starting d s j) (length puts) (putsAll puts l) o ps) where
+    module _ (u : used j (s .chosen) ≡ false) (o : Effect State) (ps : List ℕ) (f : flat d l (startOf d j) ≡ some ps)
+        (A : After d (flatten ls) (length puts) js (starting d s j) (length puts) (putsAll puts l) o ps) where
       stored-more : A .state .puts ≡ filled (poss ++ ps)
       stored-more = A .stored ∙ rw (B .stored, B .equal) (filled-more poss ps)
 

@@ -114,45 +114,44 @@ module _ (d : List ℕ) (D : Clause d) (s : State) (S : Safe d s) where
       go (some c) f e = stepAt-safe x c (S .head c f) e
 
 -- a step that goes on leaves the candidates, and a head
+pub record Leaves (s t : State) : Type 0 where
+  pub candidates : t .chosen ≡ s .chosen
+  pub position : ℕ
+  pub there : t .head ≡ some position
+
 module _ (d : List ℕ) (s : State) (p : ℕ) (h : s .head ≡ some p) where
-  abbrev Headed : State → Type 0
-  Headed t = (t .chosen ≡ s .chosen) × ((q : ℕ) × (t .head ≡ some q))
+  given-leaves : (o : Option ℕ) {t : State} → given o (headed s) ≡ next t → Leaves s t
+  given-leaves o e = let (q, f, g) = given-next o (headed s) e in rw (← g) (record { candidates = refl; position = q; there = refl })
 
-  given-headed : (o : Option ℕ) {t : State} → given o (headed s) ≡ next t → Headed t
-  given-headed o e = let (q, f, g) = given-next o (headed s) e in rw (← g) (refl, (q, refl))
+  -- with the head where it was
+  same-leaves : {t u : State} → next u ≡ next t → u .chosen ≡ s .chosen → u .head ≡ some p → Leaves s t
+  same-leaves {t} {u} e c f = let g : u ≡ t = cc in rw (← g) (record { candidates = c; position = p; there = f })
 
-  same-headed : {t u : State} → next u ≡ next t → Headed u → Headed t
-  same-headed {t} {u} e f = let g : u ≡ t = cc in rw g at f
-
-  compare-headed : (a b : Option ℕ) {t : State} → compareTerms d s a b ≡ next t → Headed t
+  compare-leaves : (a b : Option ℕ) {t : State} → compareTerms d s a b ≡ next t → Leaves s t
   unfolding compareTerms
-  compare-headed none b e = absurd (stuck≢next e)
-  compare-headed (some a) none e = absurd (stuck≢next e)
-  compare-headed (some a) (some b) e = same-headed (goes fails _ _ (λ t. fails≢next) e) (refl, (p, h))
+  compare-leaves none b e = absurd (stuck≢next e)
+  compare-leaves (some a) none e = absurd (stuck≢next e)
+  compare-leaves (some a) (some b) e = same-leaves (goes fails _ _ (λ t. fails≢next) e) refl h
 
-  stepAt-headed : (x : Step) (c : ℕ) {t : State} → stepAt d x s c ≡ next t → Headed t
+  stepAt-leaves : (x : Step) (c : ℕ) {t : State} → stepAt d x s c ≡ next t → Leaves s t
   unfolding stepAt
-  stepAt-headed Down c e = given-headed (down d c) e
-  stepAt-headed Right c e = given-headed (right d c) e
-  stepAt-headed (Put k) c e = same-headed (goes stuck _ _ (λ t. stuck≢next) e) (refl, (p, h))
-  stepAt-headed (Push n) c e = let (q, f, g) = given-next (right d c) (pushing s n) (goes stuck _ _ (λ t. stuck≢next) e) in rw (← g) (refl, (p, h))
-  stepAt-headed (Pop n) c e = given-headed (getD (s .pushes) n none) (goes stuck _ _ (λ t. stuck≢next) e)
-  stepAt-headed (Check w) c e = same-headed (goes fails _ _ (λ t. fails≢next) e) (refl, (p, h))
-  stepAt-headed (Compare m k) c e = compare-headed _ _ (goes stuck _ _ (λ t. stuck≢next) (goes stuck _ _ (λ t. stuck≢next) e))
+  stepAt-leaves Down c e = given-leaves (down d c) e
+  stepAt-leaves Right c e = given-leaves (right d c) e
+  stepAt-leaves (Put k) c e = same-leaves (goes stuck _ _ (λ t. stuck≢next) e) refl h
+  stepAt-leaves (Push n) c e =
+      let (q, f, g) = given-next (right d c) (pushing s n) (goes stuck _ _ (λ t. stuck≢next) e) in
+      rw (← g) (record { candidates = refl; position = p; there = h })
+  stepAt-leaves (Pop n) c e = given-leaves (getD (s .pushes) n none) (goes stuck _ _ (λ t. stuck≢next) e)
+  stepAt-leaves (Check w) c e = same-leaves (goes fails _ _ (λ t. fails≢next) e) refl h
+  stepAt-leaves (Compare m k) c e = compare-leaves _ _ (goes stuck _ _ (λ t. stuck≢next) (goes stuck _ _ (λ t. stuck≢next) e))
 
-step-goes : (d : List ℕ) (s : State) (x : Step) {t : State} → step d x s ≡ next t → (t .chosen ≡ s .chosen) × ((q : ℕ) × (t .head ≡ some q))
+pub step-leaves : (d : List ℕ) (s : State) (x : Step) {t : State} → step d x s ≡ next t → Leaves s t
 unfolding step stepFrom
-step-goes d s x {t} e = go (s .head) refl e
+step-leaves d s x {t} e = go (s .head) refl e
   where
-    go : (o : Option ℕ) → s .head ≡ o → stepFrom d x s o ≡ next t → (t .chosen ≡ s .chosen) × ((q : ℕ) × (t .head ≡ some q))
+    go : (o : Option ℕ) → s .head ≡ o → stepFrom d x s o ≡ next t → Leaves s t
     go none f e = absurd (stuck≢next e)
-    go (some c) f e = stepAt-headed d s c f x c e
-
-pub step-chosen : (d : List ℕ) (s : State) (x : Step) {t : State} → step d x s ≡ next t → t .chosen ≡ s .chosen
-step-chosen d s x e = step-goes d s x e .0
-
-pub step-headed : (d : List ℕ) (s : State) (x : Step) {t : State} → step d x s ≡ next t → (q : ℕ) × (t .head ≡ some q)
-step-headed d s x e = step-goes d s x e .1
+    go (some c) f e = stepAt-leaves d s c f x c e
 
 pub initial-safe : (d : List ℕ) → Safe d initial
 initial-safe d =

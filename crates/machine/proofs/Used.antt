@@ -1,20 +1,22 @@
--- Literals that are used on a path, and lists of numbers that all differ.
-use mathlib.Core.Path.{_≡_, refl, sym, _∙_}
-use mathlib.Core.Bool.{Bool, true, false, _||_}
+-- Literals that are used on a path, lists of numbers that all differ, and what a First does with them.
+use mathlib.Core.Path.{_≡_, refl, sym, ap, _∙_}
+use mathlib.Core.Bool.{Bool, true, false, not, _||_, or-false, or-true, or-assoc}
 use mathlib.Core.List.{List, [], _∷_, _++_}
 use Prim.Native.Nat.{ℕ, zero, suc, _+_, _<_}
 use native.Mathlib.Decide.{decLt}
 use native.Mathlib.Omega.{arith}
-use lib.Dec.{eqb}
+use lib.Dec.{eqb, ltb}
 use lib.ListN.{length, getD, length-append, List·getD-append}
 use lib.Seq.{getD-append-seam}
-use borrow.Author.Tests.{eqb-true, eqb-false}
-use Rattle.clause.specs.Lists.{Differ}
+use borrow.Author.Tests.{eq-eqb, ne-eqb, eqb-true, eqb-false, lt-ltb}
+use Rattle.clause.specs.Lists.{Injective}
+use Rattle.clause.specs.Clause.{maxLiterals}
 use Rattle.clause.proofs.Lists.{length-snoc}
-use Rattle.machine.specs.Machine.{used}
+use Rattle.machine.specs.Machine.{State, next, fails, stuck, require, starting, used, enter}
+use Rattle.machine.proofs.Effects.{fails≢next, stuck≢next}
 
 -- a used number has a place
-pub used-place : (j : ℕ) (l : List ℕ) → used j l ≡ true → (i : ℕ) × (i < length l) × (getD l i 0 ≡ j)
+used-place : (j : ℕ) (l : List ℕ) → used j l ≡ true → (i : ℕ) × (i < length l) × (getD l i 0 ≡ j)
 unfolding used
 used-place j [] e = let z : _≡_ {A = ℕ} 0 1 = cc in absurd (omega arith)
 used-place j (x ∷ l) e = go (eqb x j) refl e (used-place j l)
@@ -25,7 +27,7 @@ used-place j (x ∷ l) e = go (eqb x j) refl e (used-place j l)
     go false f e ih = let (i, h, g) = ih e in (suc i, omega arith, g)
 
 -- one that is not used has none
-pub unused-place : (j : ℕ) (l : List ℕ) → used j l ≡ false → (i : ℕ) → i < length l → getD l i 0 ≡ j → ⊥
+unused-place : (j : ℕ) (l : List ℕ) → used j l ≡ false → (i : ℕ) → i < length l → getD l i 0 ≡ j → ⊥
 unfolding used
 unused-place j [] e i h g = omega arith
 unused-place j (x ∷ l) e i h g = go (eqb x j) refl e i h g (unused-place j l)
@@ -35,6 +37,22 @@ unused-place j (x ∷ l) e i h g = go (eqb x j) refl e i h g (unused-place j l)
     go true f e i h g ih = let z : _≡_ {A = ℕ} 0 1 = cc in omega arith
     go false f e zero h g ih = eqb-false x j f g
     go false f e (suc i) h g ih = ih e i (omega arith) g
+
+-- a literal is used after it is taken, any other as before
+used-snoc : (i : ℕ) (js : List ℕ) (j : ℕ) → used i (js ++ (j ∷ [])) ≡ (used i js || eqb j i)
+unfolding used
+used-snoc i [] j = or-false (eqb j i)
+used-snoc i (k ∷ js) j = rw (used-snoc i js j) (sym (or-assoc (eqb k i) (used i js) (eqb j i)))
+
+pub used-other : (i : ℕ) (js : List ℕ) (j : ℕ) → (j ≡ i → ⊥) → used i (js ++ (j ∷ [])) ≡ used i js
+used-other i js j n = used-snoc i js j ∙ rw (ne-eqb j i n) (or-false (used i js))
+
+pub used-same : (js : List ℕ) (j : ℕ) → used j (js ++ (j ∷ [])) ≡ true
+used-same js j = used-snoc j js j ∙ rw (eq-eqb j j refl) (or-true (used j js))
+
+-- no number stands at two places
+abbrev pub Differ : List ℕ → Type 0
+Differ l = Injective (length l) (λ i. getD l i 0)
 
 -- no numbers differ
 pub differ-none : Differ []
@@ -67,3 +85,27 @@ differ-used l j js u D =
     let same : i ≡ length l =
     D i (length l) (omega arith) (omega arith) (List·getD-append l (j ∷ js) 0 i h ∙ e ∙ sym (getD-append-seam l j js 0)) in
     omega arith
+
+-- ---- the next candidate
+
+-- where there is room, a literal that is not used is taken, and one that is used is passed over
+module _ (d : List ℕ) (j : ℕ) (s : State) (few : length (s .chosen) < maxLiterals) where
+  pub enter-new : used j (s .chosen) ≡ false → enter d j s ≡ next (starting d s j)
+  unfolding enter require
+  enter-new u = rw (lt-ltb (length (s .chosen)) maxLiterals few, u)
+
+  pub enter-used : used j (s .chosen) ≡ true → enter d j s ≡ fails
+  unfolding enter require
+  enter-used u = rw (lt-ltb (length (s .chosen)) maxLiterals few, u)
+
+-- one that is taken was not used, and is then the latest
+pub entered-new : (d : List ℕ) (j : ℕ) (s : State) {t : State} → enter d j s ≡ next t
+    → (used j (s .chosen) ≡ false) × (t .chosen ≡ s .chosen ++ (j ∷ []))
+unfolding enter require
+entered-new d j s {t} e = go (ltb (length (s .chosen)) maxLiterals) (used j (s .chosen)) refl e
+  where
+    go : (b u : Bool) → used j (s .chosen) ≡ u → require stuck b (require fails (not u) (next (starting d s j))) ≡ next t
+        → (used j (s .chosen) ≡ false) × (t .chosen ≡ s .chosen ++ (j ∷ []))
+    go false u f e = absurd (stuck≢next e)
+    go true true f e = absurd (fails≢next e)
+    go true false f e = let g : starting d s j ≡ t = cc in (f, ap (λ (t : State). t .chosen) (sym g))

@@ -1,23 +1,20 @@
 -- One record, by the clauses of the book before it.
 use mathlib.Core.Path.{_≡_, refl, sym, ap, ap₂, _∙_}
-use mathlib.Core.Logic.{_≢_, _⊎_, inl, inr}
+use mathlib.Core.Logic.{_⊎_, inl, inr}
 use mathlib.Core.Bool.{Bool, true, false}
 use mathlib.Core.Option.{Option, none as nobody, some}
-use mathlib.Core.List.{List, [], _∷_, map, List·Memᴰ, List·Memᴰ·head, List·Memᴰ·tail, List·Memᴰ·eq-of-singleton}
+use mathlib.Core.List.{List, [], _∷_, map, List·Memᴰ, List·Memᴰ·head, List·Memᴰ·tail}
 use Prim.Native.Nat.{ℕ, _≤_, _<_}
 use native.Mathlib.Omega.{arith}
 use lib.Dec.{leb}
 use lib.ListN.{length, getD, replicate, length-replicate}
 use borrow.Author.Tests.{leb-true, leb-false}
-use Rattle.clause.specs.Lists.{none, also}
-use Rattle.clause.specs.Word.{Words}
-use Rattle.clause.specs.Clause.{shape, Accepted, Subsumes}
+use Rattle.clause.specs.Clause.{shape, Accepted}
 use Rattle.machine.specs.Compile.{keys}
 use Rattle.machine.specs.Machine.{State, initial}
 use Rattle.tree.specs.Forest.{Forest, size, leaves, layout, ins, find, holder, Has, Body, Free}
 use Rattle.tree.specs.Laid.{maxKept, usedOf}
-use Rattle.tree.specs.Entries.{Pair, Sound, entry, Mirrors, build}
-use Rattle.tree.specs.inner.Books.{Apart}
+use Rattle.tree.specs.Entries.{Pair, entry}
 use Rattle.tree.specs.Changes.{Change, refuse, change, insertInto}
 use Rattle.tree.specs.Calls.{Called, changed}
 use Rattle.tree.specs.Refusal.{codeOf}
@@ -39,7 +36,6 @@ use Rattle.walk.specs.declared.QueryAnswer.the-variants.{Unanswered, Covered, N
 use Rattle.record.specs.declared.Outcome.{Outcome}
 use Rattle.record.specs.declared.Outcome.the-variants.{Kept, Struck, Refused}
 use Rattle.clause.proofs.Literals.{accepted}
-use Rattle.clause.proofs.Order.{subsumes-refl}
 use Rattle.clause.proofs.Lists.{all-mem}
 use Rattle.clause.proofs.Apart.{apart}
 use Rattle.machine.proofs.Codes.{sequence-plain}
@@ -49,34 +45,19 @@ use Rattle.tree.proofs.Delete.{find-none, find-some}
 use Rattle.tree.proofs.Held.{Holding, holding}
 use Rattle.tree.proofs.Count.{book-size}
 use Rattle.tree.proofs.InsertWords.{ins-leaves}
-use Rattle.tree.proofs.Mirror.{mirrors-ins, mirrors-build}
+use Rattle.tree.proofs.Mirror.{mirrors-ins}
 use Rattle.tree.proofs.Changes.{Inserts, refused, grown, inserts}
-use Rattle.walk.proofs.Kept.{kept-pair, pair-kept, subsumes-finds}
-use Rattle.walk.proofs.Covering.{query-tree, answers, decided-fits, shows-subsumes, finds-subsumed}
+use Rattle.walk.proofs.Kept.{kept-pair, pair-kept}
+use Rattle.walk.proofs.Covering.{query-tree, answers, decided-fits, shows-subsumes}
 use Rattle.book.proofs.Holds.{Holds, holds-leaves, holds-enough}
 use Rattle.book.proofs.Exact.{holds-few, holds-exact}
 use Rattle.book.proofs.Step.{insertion-is}
+use Rattle.book.proofs.Laws.{same-keys}
+use Rattle.machine.proofs.Matching.{variants-subsume}
 
 -- the witness of every query is long enough
 witness-long : witnessWords ≤ length {A = ℕ} (replicate witnessWords 0)
 witness-long = rw (length-replicate {A = ℕ} witnessWords 0) (omega arith)
-
--- ---- a variant of a clause is subsumed by it
-
--- the only clause that there is
-lone : (p : Pair) (d : List ℕ) → Subsumed (p ∷ []) d → Subsumes (p .clause) d
-lone p d (r, m, s) = rw (List·Memᴰ·eq-of-singleton m) at s
-
-variant-subsumed : (p : Pair) (d : List ℕ) → Sound p → Accepted d → Words d → keys d ≡ keys (p .clause) → Subsumes (p .clause) d
-variant-subsumed p d s D w e =
-    let q : Pair = record { number = p .number; clause = d } in
-    let F : Forest = build (map entry (p ∷ [])) in
-    let b = plain-body (sequence-plain (p .clause) (accepted (p .clause) (s .accepted)) (s .words)) in
-    let a : Apart (map entry (p ∷ [])) = record { body = b; number = s .number; new = λ m k. k; rest = tt } in
-    let R : Mirrors F (map entry (p ∷ [])) = mirrors-build (map entry (p ∷ [])) a in
-    let Q : Mirrors F (map entry (q ∷ [])) = rw e R in
-    let (t, f) = subsumes-finds (q ∷ []) F (also (record { accepted = D; words = w; number = s .number }) none) Q d D q (List·Memᴰ·head refl) (subsumes-refl d) in
-    lone p d (finds-subsumed (p ∷ []) F (also s none) R d D (p .number) t f)
 
 -- ---- the cases exclude each other
 
@@ -125,14 +106,15 @@ module _ {K : List Pair} {x : Record} where
   reason-only (over-budget a b) (no-room v n k s) = absurd (omega (arith, v .decided .fits))
   reason-only (over-budget a b) (over-budget c d) = refl
 
-  reason-code : {c : ℕ} → Reason K x c → List·Memᴰ c (3 ∷ 4 ∷ 5 ∷ 7 ∷ 10 ∷ 11 ∷ 12 ∷ [])
-  reason-code (faulty BadLength e) = List·Memᴰ·head refl
-  reason-code (faulty (Bad at) e) = List·Memᴰ·tail (List·Memᴰ·head refl)
-  reason-code (faulty (Ninth at) e) = List·Memᴰ·tail (List·Memᴰ·tail (List·Memᴰ·head refl))
-  reason-code (number-taken u m) = List·Memᴰ·tail (List·Memᴰ·tail (List·Memᴰ·tail (List·Memᴰ·head refl)))
-  reason-code (list-full u m l) = List·Memᴰ·tail (List·Memᴰ·tail (List·Memᴰ·tail (List·Memᴰ·tail (List·Memᴰ·head refl))))
-  reason-code (no-room u m l r) = List·Memᴰ·tail (List·Memᴰ·tail (List·Memᴰ·tail (List·Memᴰ·tail (List·Memᴰ·tail (List·Memᴰ·head refl)))))
-  reason-code (over-budget a b) = List·Memᴰ·tail (List·Memᴰ·tail (List·Memᴰ·tail (List·Memᴰ·tail (List·Memᴰ·tail (List·Memᴰ·tail (List·Memᴰ·head refl))))))
+  -- where the budget is enough, the other codes are left
+  reason-code : (Accepted (x .words) → candidates (treeOf K) (x .words) ≤ budget) → {c : ℕ} → Reason K x c → List·Memᴰ c (3 ∷ 4 ∷ 5 ∷ 7 ∷ 10 ∷ 11 ∷ [])
+  reason-code f (faulty BadLength e) = List·Memᴰ·head refl
+  reason-code f (faulty (Bad at) e) = List·Memᴰ·tail (List·Memᴰ·head refl)
+  reason-code f (faulty (Ninth at) e) = List·Memᴰ·tail (List·Memᴰ·tail (List·Memᴰ·head refl))
+  reason-code f (number-taken u m) = List·Memᴰ·tail (List·Memᴰ·tail (List·Memᴰ·tail (List·Memᴰ·head refl)))
+  reason-code f (list-full u m l) = List·Memᴰ·tail (List·Memᴰ·tail (List·Memᴰ·tail (List·Memᴰ·tail (List·Memᴰ·head refl))))
+  reason-code f (no-room u m l r) = List·Memᴰ·tail (List·Memᴰ·tail (List·Memᴰ·tail (List·Memᴰ·tail (List·Memᴰ·tail (List·Memᴰ·head refl)))))
+  reason-code f (over-budget a b) = absurd (omega (arith, f a))
 
   -- 12 comes from an accepted clause with more candidates than the budget
   reason-spent : {c : ℕ} → Reason K x c → c ≡ 12 → Accepted (x .words) × (budget < candidates (treeOf K) (x .words))
@@ -170,7 +152,6 @@ ruled {K} {x} (refuses {c = c} r) =
       strikes = λ n k. (λ e. absurd (struck-code n k c (sym e)), λ s. absurd (reason-subsumed r (s .decided) (striking s)));
       kept = λ u. (λ e. absurd (kept-code u c (sym e)), λ t. absurd (reason-takes r (t .0)));
       refused = λ d. (λ e. let i : c ≡ d = cc in rw i at r, λ q. ap Refused (reason-only r q));
-      codes = λ d e. let i : c ≡ d = cc in rw i at (reason-code r);
       grows = λ k. absurd (kept-code (k .0) c (sym (k .1)));
       stays = λ n. refl;
     }
@@ -183,7 +164,6 @@ ruled {K} {x} (strikes {n = n} {k = k} s) =
       );
       kept = λ u. (λ e. absurd (kept-struck u n k (sym e)), λ t. absurd (t .0 .uncovered .unsubsumed (striking s)));
       refused = λ d. (λ e. absurd (struck-code n k d e), λ q. absurd (reason-subsumed q (s .decided) (striking s)));
-      codes = λ d e. absurd (struck-code n k d e);
       grows = λ h. absurd (kept-struck (h .0) n k (sym (h .1)));
       stays = λ m. refl;
     }
@@ -193,14 +173,14 @@ ruled {K} {x} (keeps t) =
       strikes = λ n k. (λ e. absurd (kept-struck (wordsOf (pairOf x ∷ K)) n k e), λ s. absurd (t .uncovered .unsubsumed (striking s)));
       kept = λ u. (λ e. let i : wordsOf (pairOf x ∷ K) ≡ u = cc in (t, sym i), λ s. ap Kept (sym (s .1)));
       refused = λ d. (λ e. absurd (kept-code (wordsOf (pairOf x ∷ K)) d e), λ q. absurd (reason-takes q t));
-      codes = λ d e. absurd (kept-code (wordsOf (pairOf x ∷ K)) d e);
       grows = λ h. refl;
       stays = λ n. absurd (n (wordsOf (pairOf x ∷ K), refl));
     }
 
--- the budget is enough
-pub ruled-unspent : {K L : List Pair} {x : Record} {o : Outcome} → Holds treeWords K (treeOf K) → Ruled K x o L → o ≢ Refused 12
-ruled-unspent {x = x} h r e = let (D, over) = reason-spent (r .refused 12 .0 e) refl in omega (arith, holds-enough h (x .words) D)
+-- the codes; the budget is enough
+pub ruled-codes : {K L : List Pair} {x : Record} {o : Outcome} → Holds treeWords K (treeOf K) → Ruled K x o L
+    → (code : ℕ) → o ≡ Refused code → List·Memᴰ code (3 ∷ 4 ∷ 5 ∷ 7 ∷ 10 ∷ 11 ∷ [])
+ruled-codes {x = x} h r code e = reason-code (λ D. omega (arith, holds-enough h (x .words) D)) (r .refused code .0 e)
 
 -- over a book of units
 pub ruled-by-units : {K L : List Pair} {x : Record} {o : Outcome} → Holds treeWords K (treeOf K) → Units K → Ruled K x o L → RuledByUnits K x o
@@ -251,7 +231,7 @@ module _ (K : List Pair) (F : Forest) (h : Holds treeWords K F) (x : Record) (f 
   held-subsumed : (m : ℕ) → Has F (keys (x .words)) m → Subsumed K (x .words)
   held-subsumed m w =
       let (p, k, i, j) = kept-pair K (keys (x .words)) m (h .keeps .mirrors .paths (keys (x .words)) m .0 w) in
-      (p, k, variant-subsumed p (x .words) (all-mem (h .sound) k) (q, s) (f .0) i)
+      (p, k, variants-subsume (p .clause) (x .words) (all-mem (h .sound) k .accepted) (q, s) (sym (same-keys (x .words) (q, s) (f .0) p (all-mem (h .sound) k) i)))
 
   -- the larger tree has as many words as there are beginnings
   larger-size : Free (keys (x .words)) F → size (ins (keys (x .words)) (x .number) F) ≡ wordsOf (pairOf x ∷ K)

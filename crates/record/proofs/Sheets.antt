@@ -17,7 +17,7 @@ use Rattle.tree.specs.declared.CallAnswer.the-variants.{Ready}
 use Rattle.clause.proofs.Order.{subsumes-refl}
 use Rattle.book.proofs.Holds.{holds-empty, fresh-layout, holds-numbers, holds-clauses}
 use Rattle.record.proofs.Reading.{complete, input-fits}
-use Rattle.record.proofs.Ruling.{Fate, ruled, ruled-unspent, ruled-by-units}
+use Rattle.record.proofs.Ruling.{Fate, ruled, ruled-codes, ruled-by-units}
 use Rattle.record.proofs.Rows.{book-append, Standing, standing-after, Made, made, rows-records, made-first, made-last, made-row, made-fit, Fated}
 use Rattle.record.proofs.Rows.{fated, fated-first, fated-last, fated-row, kept-book, kept-count, threeOf, counted-three, rows-counted}
 use Rattle.record.proofs.Rows.{kept-mem, mem-kept, StruckBy, fate-struck, struck-book}
@@ -94,7 +94,7 @@ module _ {rs : List Row} (m : Made freshSlice rs) (f : Fated [] rs) (a : RowAt r
         stands = stands made-before;
         ruled = ruled fate-here;
         earlier = λ n k e. earlier-row (a .before) (fated-first (a .before) (a .this ∷ a .after) [] fated-here) (a .this .of) n (fate-struck fate-here n k e);
-        unspent = ruled-unspent (standing made-before .holds) (ruled fate-here);
+        codes = ruled-codes (standing made-before .holds) (ruled fate-here);
         units = λ u. ruled-by-units (standing made-before .holds) u (ruled fate-here);
       }
 

@@ -91,9 +91,8 @@ pub record Ruled (K : List Pair) (x : Record) (o : Outcome) (L : List Pair) : Ty
   pub strikes : (n k : ℕ) → (o ≡ Struck n k) ↔ Strikes K x n k
   -- kept exactly if the book takes it, with the used words
   pub kept : (u : ℕ) → (o ≡ Kept u) ↔ (Takes K x × (u ≡ wordsOf (pairOf x ∷ K)))
-  -- refused exactly for a reason, and never with another code
+  -- refused exactly for a reason
   pub refused : (code : ℕ) → (o ≡ Refused code) ↔ Reason K x code
-  pub codes : (code : ℕ) → o ≡ Refused code → List·Memᴰ code (3 ∷ 4 ∷ 5 ∷ 7 ∷ 10 ∷ 11 ∷ 12 ∷ [])
   -- the book has one pair more exactly where it is kept
   pub grows : IsKept o → L ≡ pairOf x ∷ K
   pub stays : (IsKept o → ⊥) → L ≡ K
@@ -104,5 +103,5 @@ pub record RuledByUnits (K : List Pair) (x : Record) (o : Outcome) : Type 0 wher
   pub exact : 1 ≤ length K → IsKept o → candidates (treeOf K) (x .words) ≡ length (literals (x .words))
   -- struck: the count on its line is at most that
   pub at-most : (n k : ℕ) → o ≡ Struck n k → k ≤ length (literals (x .words))
-  -- so 12 is never its code
+  -- so 12 is never its code, however many literals a clause may have
   pub enough : o ≢ Refused 12

@@ -70,8 +70,8 @@ pub record RowClaims {rs : List Row} (a : RowAt rs) : Type 0 where
   pub ruled : Ruled (bookAfter (a .before)) (a .this .of) (a .this .outcome) (bookAfter (a .before ++ (a .this ∷ [])))
   -- where it is struck, an earlier row says that the number was kept, and the clause of that row subsumes this one's
   pub earlier : (n k : ℕ) → a .this .outcome ≡ Struck n k → KeptCovers (a .before) n (a .this .of)
-  -- and 12 is never its code: the budget is enough for every query that can come
-  pub unspent : a .this .outcome ≢ Refused 12
+  -- the codes with which it can be refused; 12 is none of them, since the budget is enough for every query that can come
+  pub codes : (code : ℕ) → a .this .outcome ≡ Refused code → List·Memᴰ code (3 ∷ 4 ∷ 5 ∷ 7 ∷ 10 ∷ 11 ∷ [])
   -- where the book before it has units only: how many candidates its query takes
   pub units : Units (bookAfter (a .before)) → RuledByUnits (bookAfter (a .before)) (a .this .of) (a .this .outcome)
 

@@ -8,7 +8,7 @@ use native.Mathlib.Omega.{arith}
 use lib.ListN.{length, getD, take, replicate, length-append, length-replicate, drop-of-length-le}
 use lib.Seq.{length-take-le}
 use native.Mathlib.Decide.{decLt}
-use Rattle.clause.specs.Lists.{All}
+use Rattle.clause.specs.Lists.{All, Injective}
 use Rattle.clause.specs.Clause.{maxLiterals, Accepted, literals, vars, term, termAt, skip, Shaped, inst, Subsumes}
 use Rattle.machine.specs.Instr.{First, key}
 use Rattle.machine.specs.Compile.{sequence, keys}
@@ -18,12 +18,12 @@ use Rattle.tree.specs.Forest.{Forest, empty, node, Has}
 use Rattle.tree.specs.Entries.{Listed, Mirrors, Pair, Sound, entry}
 use Rattle.walk.specs.Query.{machine, witnessWords, shown, withShown}
 use Rattle.walk.specs.Covering.{most, Shows, Untouched}
-use Rattle.clause.proofs.Lists.{all-append, all-take, all-replicate, all-mem, all-get, some-mem, getD-map-lt}
+use Rattle.clause.proofs.Lists.{all-append, all-take, all-replicate, all-mem, all-get, some-mem}
 use Rattle.clause.proofs.Literals.{Clause, accepted, some-literal}
 use Rattle.machine.proofs.Agree.{agree-get, agree-length}
 use Rattle.machine.proofs.Table.{filled-get, filled-none}
 use Rattle.machine.proofs.Fits.{chosen}
-use Rattle.machine.proofs.Matching.{Result, covers, misses, runs, subsumes-matched}
+use Rattle.machine.proofs.Matching.{Result, covers, misses, made-at, runs, subsumes-matched}
 use Rattle.machine.proofs.Codes.{firsts as firstsOf, sequence-plain, sequence-firsts, sequence-begins}
 use Rattle.machine.proofs.Effects.{fails≢next, stuck≢next, fails≢stuck}
 use Rattle.machine.proofs.Candidates.{run-enough, run-take, run-stuck}
@@ -125,13 +125,13 @@ module _ (c d : List ℕ) (C : Clause c) (D : Clause d) (w : Words c) where
               let there : i < length (t .chosen) = rw (← same, q) (within i h) in
               withShown-there (shown t) W i (getD js′ i 0) (omega arith) (shown-literal t i few there ∙ rw (← same, q))
 
-          apart : (i j : ℕ) → i < length (literals c) → j < length (literals c) → getD (withShown (shown t) W) i 0 ≡ getD (withShown (shown t) W) j 0 → i ≡ j
+          apart : Injective (length (literals c)) (λ i. getD (withShown (shown t) W) i 0)
           apart i j h g e = N i j (within i h) (within j g) (sym (word i h) ∙ e ∙ word j g)
 
           at-literal : (i : ℕ) → i < length (literals c)
               → (getD (withShown (shown t) W) i 0 < length (literals d)) × (inst (M .replace) (getD (literals c) i []) ≡ getD (literals d) (getD (withShown (shown t) W) i 0) [])
           at-literal i h =
-              rw (word i h) (all-get js′ (H .valid) i 0 (within i h), sym (getD-map-lt (inst (M .replace)) (literals c) i [] [] h) ∙ ap (λ l. getD l i []) (M .made) ∙ getD-map-lt (chosen d) js′ i 0 [] (within i h))
+              rw (word i h) (all-get js′ (H .valid) i 0 (within i h), made-at M i h (within i h))
 
           at-position : (k : ℕ) → k < length (vars c)
               → (getD (withShown (shown t) W) (maxLiterals + k) 0 < length d) × (M .replace (getD (vars c) k 0) ≡ termAt d (getD (withShown (shown t) W) (maxLiterals + k) 0))

@@ -74,12 +74,12 @@ module _ {S : Type 0} where
   decides-attempt G below stuck c h = absurd h
 
 module _ (M : Machine) where
-  -- a goal behind one of the n candidates from j on
+  -- a goal behind one of n literals from j on
   abbrev pub Among : ℕ → ℕ → (M .State → Goal (M .State)) → M .State → Goal (M .State)
   Among n j G s m t = (k : ℕ) × (j ≤ k) × (k < j + n) × Behind (M .enter k s) G m t
 
   module _ (G : M .State → Goal (M .State)) (below : M .State → Part (M .State)) (s : M .State) where
-    -- the candidates decide the goal behind them
+    -- the literals decide the goal behind them
     decides-tries :
         (n j c : ℕ) → ((k : ℕ) → j ≤ k → k < j + n → Goes (λ t. (c : ℕ) → Decides (G t) (below t c)) (M .enter k s))
         → Decides (Among n j G s) (tries M always below s n j c)

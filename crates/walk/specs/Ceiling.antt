@@ -18,7 +18,7 @@ powers q (suc m) = powers q m + q ^ suc m
 abbrev pub ceiling : (kept q m : ℕ) → ℕ
 ceiling kept q m = kept * powers q m
 
--- q + q·(q − 1) + .. of m summands: the ways to take up to m of q literals one after another, none of them twice
+-- q + q·(q − 1) + .. of m summands: the ways to take 1 to m of q literals one after another, none of them twice
 abbrev pub arrangements : ℕ → ℕ → ℕ
 arrangements q zero = zero
 arrangements q (suc m) = q * suc (arrangements (q - 1) m)

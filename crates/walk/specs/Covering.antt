@@ -4,7 +4,7 @@ use mathlib.Core.Logic.{_↔_, _⊎_}
 use mathlib.Core.List.{List, [], _∷_, List·Memᴰ}
 use Prim.Native.Nat.{ℕ, _+_, _*_, _≤_, _<_, max}
 use lib.ListN.{length, getD}
-use Rattle.clause.specs.Lists.{All}
+use Rattle.clause.specs.Lists.{All, Injective}
 use Rattle.clause.specs.Clause.{maxLiterals, literals, vars, termAt, IsTerm, inst, Subsumes}
 use Rattle.machine.specs.Machine.{State, initial}
 use Rattle.tree.specs.Forest.{Forest}
@@ -36,7 +36,7 @@ pub record Shows (c d witness : List ℕ) : Type 0 where
   pub literal :
       (i : ℕ) → i < length (literals c)
       → (getD witness i 0 < length (literals d)) × (inst replace (getD (literals c) i []) ≡ getD (literals d) (getD witness i 0) [])
-  pub apart : (i j : ℕ) → i < length (literals c) → j < length (literals c) → getD witness i 0 ≡ getD witness j 0 → i ≡ j
+  pub apart : Injective (length (literals c)) (λ i. getD witness i 0)
   pub position : (k : ℕ) → k < length (vars c)
       → (getD witness (maxLiterals + k) 0 < length d) × (replace (getD (vars c) k 0) ≡ termAt d (getD witness (maxLiterals + k) 0))
 

@@ -60,7 +60,7 @@ abbrev pub always : ℕ → Bool
 always c = true
 
 module _ (M : Machine) (allow : ℕ → Bool) where
-  -- n candidates from literal j on, each from the state s
+  -- n literals from j on, each tried from the state s
   abbrev pub tries : (M .State → Part (M .State)) → M .State → ℕ → ℕ → Part (M .State)
   tries below s zero j c = notCovered c
   tries below s (suc n) j c = andThen (attempt allow (M .enter j s) below c) (tries below s n (suc j))

@@ -6,10 +6,11 @@ use mathlib.Core.List.{List}
 use native.Mathlib.Omega.{arith}
 use native.Mathlib.Numerals.{add-one}
 use lib.ListN.{length}
-use borrow.Author.Tests.{le-leb, lt-leb, lt-ltb}
+use borrow.Author.Tests.{le-leb, lt-leb}
 use Rattle.clause.specs.Clause.{maxLiterals, literals}
 use Rattle.clause.proofs.Apart.{apart}
-use Rattle.machine.specs.Machine.{State, used, enter, require}
+use Rattle.machine.specs.Machine.{State, used}
+use Rattle.machine.proofs.Used.{enter-new, enter-used}
 use Rattle.walk.specs.Walk.{Answer, covered, notCovered, spent, broken, Part, andThen, tries, upTo}
 use Rattle.walk.specs.Query.{machine, shown}
 use Rattle.cells.specs.inner.Cells.{entered, passesOf, passState, stateOf}
@@ -49,21 +50,19 @@ module _ (d : List ℕ) (b : ℕ) (k : State → Part State) (s : State) where
   module _ (few : length (s .chosen) < maxLiterals) {above : Above} (e : above ≡ First) (m j c : ℕ) (h : j < m) where
     -- a literal that is used is passed over
     pub runs-over : used j (s .chosen) ≡ true → runs d b above k s (m - j) j c ≡ runs d b above k s (m - (j + 1)) (j + 1) c
-    unfolding runs enter require
-    runs-over u = let n : m - j ≡ suc (m - (j + 1)) = omega arith in rw (e, n, lt-ltb (length (s .chosen)) maxLiterals few, u, add-one j)
+    unfolding runs
+    runs-over u = let n : m - j ≡ suc (m - (j + 1)) = omega arith in rw (e, n, enter-used d j s few u, add-one j)
 
     module _ (u : used j (s .chosen) ≡ false) where
       pub runs-spent : b ≤ c → runs d b above k s (m - j) j c ≡ spent
-      unfolding runs enter require
-      runs-spent g =
-          let n : m - j ≡ suc (m - (j + 1)) = omega arith in
-          rw (e, n, lt-ltb (length (s .chosen)) maxLiterals few, u, lt-leb (suc c) b (omega arith))
+      unfolding runs
+      runs-spent g = let n : m - j ≡ suc (m - (j + 1)) = omega arith in rw (e, n, enter-new d j s few u, lt-leb (suc c) b (omega arith))
 
       pub runs-first : c < b → runs d b above k s (m - j) j c ≡ andThen (k (passState d above j s) (c + 1)) (runs d b above k s (m - (j + 1)) (j + 1))
-      unfolding runs enter require passState
+      unfolding runs passState
       runs-first g =
           let n : m - j ≡ suc (m - (j + 1)) = omega arith in
-          rw (e, n, lt-ltb (length (s .chosen)) maxLiterals few, u, le-leb (suc c) b (omega arith), add-one j, add-one c)
+          rw (e, n, enter-new d j s few u, le-leb (suc c) b (omega arith), add-one j, add-one c)
 
 -- what is seen of an answer
 pub seen-missed : (a : Answer State) {c : ℕ} → missed c ≡ seen a → a ≡ notCovered c

@@ -85,7 +85,7 @@ pub record Entry (d t words : List ℕ) (b h : ℕ) (l : List ℕ) (n₀ : ℕ) 
   pub room : h ≡ noPosition → HasPlace l
   pub by-head : above ≡ aboveOf h
   pub times : last ≡ passesOf above (getD t atCount 0)
-  pub takes : saved % useLimit ≡ usesOf above l
+  pub uses : saved % useLimit ≡ usesOf above l
   pub keeps : savedByte saved ≡ keptIn above l
   pub reserves : l₁ ≡ reserved above l
 
@@ -134,14 +134,14 @@ module _ {d t words : List ℕ} {b h : ℕ} {l : List ℕ} {n₀ : ℕ} {above :
   literal : {j : ℕ} → j < last → above ≡ First → j < length (literals d)
   literal m e = pass-literal e (E .times) (E .ready .tables .count) m
 
-  small : {j : ℕ} → j < last → above ≡ First → j < maxLiterals
+  pub small : {j : ℕ} → j < last → above ≡ First → j < maxLiterals
   small m e = omega (arith, literal m e, accepted d (E .ready .whole) .few)
 
   -- a literal is used where it has its bit
   by-bit : above ≡ First → {j : ℕ} → j < last → hasBit saved j ≡ used j (s .chosen)
   unfolding usesOf
   by-bit e {j} m =
-      let bits : saved % useLimit ≡ bitsOf (s .chosen) = E .takes ∙ rw e in
+      let bits : saved % useLimit ≡ bitsOf (s .chosen) = E .uses ∙ rw e in
       sym (low-bit saved j (small m e)) ∙ ap (λ (n : ℕ). hasBit n j) bits ∙ bits-used (s .chosen) j
 
   base : released above (savedByte saved) l₁ ≡ l
@@ -172,9 +172,6 @@ module _ {d t words : List ℕ} {b h : ℕ} {l : List ℕ} {n₀ : ℕ} {above :
 
     pub between-literal : j < last → above ≡ First → HasCandidate cells × (j < length (literals d))
     between-literal m e = (between-room e, literal m e)
-
-    pub between-small : j < last → above ≡ First → j < maxLiterals
-    between-small = small
 
     -- no pass is left
     pub between-ends : last ≤ j → {out : List ℕ} → out ≡ released above (savedByte saved) cells → Walked (entered d b (aboveOf h) k s n₀) l out (record { end = Missed; count = n })

@@ -17,7 +17,7 @@ use Rattle.clause.proofs.Literals.{accepted, some-literal}
 use Rattle.machine.specs.Instr.{Instr, First, Do, Success, instrOf}
 use Rattle.machine.specs.Machine.{State, Effect, next, fails, stuck, enter, step, finish}
 use Rattle.machine.specs.inner.Safe.{Safe}
-use Rattle.machine.proofs.Safe.{step-safe, step-headed}
+use Rattle.machine.proofs.Safe.{step-safe, Leaves, step-leaves}
 use Rattle.tree.specs.Laid.{keyOf, extentOf}
 use Rattle.walk.specs.Walk.{Answer, covered, notCovered, spent, broken, Part, andThen, attempt, tries, upTo}
 use Rattle.walk.specs.Words.{extends, walkWords}
@@ -152,8 +152,8 @@ module _ (d t : List ℕ) (h : ℕ) (l : List ℕ) (R : Walkable d t h l) (w roo
   pub visit-inside : Lower (v .go) → v .head < length d
   visit-inside g =
       let s = stateOf h l in
-      let (q, e) = below-by d s (stateOf (v .head) m) {P = (q : ℕ) × (positionIn (v .head) ≡ some q)} (instrOf (keyOf w)) (λ x f. step-headed d s x f) (below-met g) in
-      go q e (ℕ-discrete (v .head) noPosition)
+      let L = below-by d s (stateOf (v .head) m) {P = Leaves s (stateOf (v .head) m)} (instrOf (keyOf w)) (λ x f. step-leaves d s x f) (below-met g) in
+      go (L .position) (L .there) (ℕ-discrete (v .head) noPosition)
     where
       go : (q : ℕ) → positionIn (v .head) ≡ some q → Dec (v .head ≡ noPosition) → v .head < length d
       go q e (yes z) = absurd (Option·none-ne-some q (sym (place-none z) ∙ e))

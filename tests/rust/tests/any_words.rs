@@ -5,9 +5,10 @@ mod drawn;
 use drawn::tally::Tally;
 use drawn::{Random, STYLES};
 use model::calls::Cover;
-use model::instruction::{header, Instruction, Operation};
+use model::instruction::{header, used, Instruction, Operation};
 use model::laid::well_laid;
 use model::limits::{FULL_BUDGET, KEPT, LITERALS, WITNESS_WORDS};
+use model::reader::read;
 use Operation::{Check, Compare, Down, First, Pop, Push, Put, Right};
 
 // Each call on words that need not be a tree.
@@ -17,7 +18,12 @@ fn call_all(tree: &mut [u64], clause: &[u16], random: &mut Random, tally: &mut T
         let asked = beside::query(tree, clause, budget, WITNESS_WORDS);
         match asked.answer {
             Ok(Cover::Covered { .. }) => tally.count("queries covered"),
-            Ok(Cover::NotCovered { .. }) => tally.count("queries not covered"),
+            Ok(Cover::NotCovered { .. }) => {
+                tally.count("queries not covered");
+                let literals = read(clause).expect("an accepted query").len();
+                let row = &tree[1..=used(tree[0])];
+                tally.count_if("not covered, literals run out", runs_out(row, literals));
+            }
             Err(_) => {
                 assert!(asked.unwritten());
                 tally.answer("queries", "", asked.answer);
@@ -28,6 +34,20 @@ fn call_all(tree: &mut [u64], clause: &[u16], random: &mut Random, tally: &mut T
     tally.answer("removals", "made", removal);
     let insertion = beside::insert(tree, clause, random.below(7) as u32);
     tally.answer("insertions", "kept", insertion);
+}
+
+// Whether a First stands below as many Firsts as there are literals, and below nothing else: in a walk to the end it is met with all of them used.
+fn runs_out(row: &[u64], literals: usize) -> bool {
+    let mut at = 0;
+    while at < row.len() {
+        let (instruction, extent) = Instruction::unpack(row[at]).expect("a walked word");
+        let below = &row[at + 1..at + extent];
+        if instruction.operation == First && (literals == 0 || runs_out(below, literals - 1)) {
+            return true;
+        }
+        at += extent;
+    }
+    false
 }
 
 // Changes a word: a bit, all of it, its fields, its extent by one; or swaps it with the next.
@@ -206,6 +226,7 @@ fn trees_of_firsts() {
     tally.assert_least(&[
         ("queries covered", 1_000),
         ("queries not covered", 1_000),
+        ("not covered, literals run out", 5_000),
         ("queries refused 2", 100),
         ("queries refused 12", 1_000),
     ]);

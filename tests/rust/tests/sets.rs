@@ -5,6 +5,8 @@ mod set;
 
 use drawn::tally::Tally;
 use drawn::{Random, Style, STYLES};
+use model::limits::{ENOUGH_BUDGET, KEPT, LITERALS};
+use model::matcher::most_tries;
 use model::words::{word, FUNCTION, NEGATIVE, POSITIVE, VARIABLE};
 use set::Set;
 
@@ -105,4 +107,12 @@ fn random_sets() {
         fill(length, &mut random, &mut tally);
     }
     tally.assert_least(&LEAST);
+}
+
+// The most clauses, each with the most tries.
+#[test]
+fn enough_budget() {
+    let literals = LITERALS as u64;
+    let tries = KEPT as u64 * most_tries(literals, literals);
+    assert_eq!(tries, ENOUGH_BUDGET);
 }

@@ -43,7 +43,10 @@ impl Set<'_> {
         let predicted = self.predict(&query);
         let literals = query.len() as u64;
         for budget in (0..=literals + 1).chain([FULL_BUDGET, u64::MAX]) {
-            let asked = self.ask(clause, budget);
+            let asked = match budget {
+                FULL_BUDGET => self.ask_full(clause),
+                _ => self.ask(clause, budget),
+            };
             if predicted.candidates > budget {
                 assert_eq!(asked.answer, Err(Refusal::Spent(budget)));
                 assert!(asked.unwritten());
@@ -128,7 +131,7 @@ impl Set<'_> {
         let (double, query) = ([&first[..], &second].concat(), [first, third].concat());
         self.insert(&double, 1000);
         if self.book.pairs.len() > 1 && self.book.most_literals() == 2 {
-            let answer = self.ask(&query, FULL_BUDGET).answer;
+            let answer = self.ask_full(&query).answer;
             let other = matches!(answer, Ok(Cover::NotCovered { count }) if count != 2);
             self.tally
                 .count_if("not covered, not q, with two literals", other);

@@ -65,7 +65,7 @@ HasPlace l = countIn l < maxLiterals
 abbrev pub HasCandidate : List ℕ → Type 0
 HasCandidate l = (1 ≤ countIn l) × (countIn l ≤ maxLiterals)
 
--- its candidates can be literals
+-- the candidates are below the most literals
 abbrev pub HasLiterals : List ℕ → Type 0
 HasLiterals l = (countIn l ≤ maxLiterals) × All (λ j. j < maxLiterals) (take (countIn l) l)
 
@@ -127,7 +127,7 @@ pub record Skipped (words : List ℕ) (at wanted : ℕ) (r : ℕ) : Type 0 where
 unfoldable pub aboveOf : ℕ → Above
 aboveOf h = cond (eqb h noPosition) First Step
 
--- some literals as a number: a bit for each
+-- some literals as a number, a bit for each
 unfoldable pub bitsOf : List ℕ → ℕ
 bitsOf [] = 0
 bitsOf (j ∷ js) = bitOr (2 ^ j) (bitsOf js)
@@ -161,11 +161,11 @@ unfoldable pub keptIn : Above → List ℕ → ℕ
 keptIn First l = getD l (countIn l) 0
 keptIn Step l = 0
 
--- it is saved above the literals that are used
+-- the byte in what `reserve` gives, above the used literals
 abbrev pub savedByte : ℕ → ℕ
-savedByte m = m / useLimit % undoBase
+savedByte m = m / useLimit % cellCount
 
--- how many passes are made over the words: below a First one for each literal of the query, below a step one
+-- how many literals are gone through: below a First the query's, of which those in use get no pass; below a step one pass is made
 unfoldable pub passesOf : Above → ℕ → ℕ
 passesOf First n = n
 passesOf Step n = 1

@@ -1,6 +1,6 @@
 //! Document 01 with the changes F-1 to F-3 of document 02 in plain Rust, written from their words and with nothing of the proved code.
 //! The tests hold the proved calls and the program against it, and it makes the expected lines of tests/pages and crates/cases.
-//! A change of it is made here first.
+//! A change of documents 01 and 02 is made here first.
 
 pub mod book;
 pub mod calls;

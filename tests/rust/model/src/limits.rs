@@ -1,4 +1,4 @@
-//! The limits of document 01, each named once.
+//! The limits of document 01 and the budgets that follow from them, each named once.
 
 /// The most words of a clause.
 pub const CLAUSE_WORDS: usize = 64;
@@ -21,6 +21,9 @@ pub const KEPT: usize = 1_024;
 
 /// The ceiling of all: no walk on a tree made by calls takes more candidates.
 pub const FULL_BUDGET: u64 = 19_634_135_040;
+
+/// A smaller budget that is enough on every tree made by calls, since no literal is used twice on a path (F-3).
+pub const ENOUGH_BUDGET: u64 = 112_230_400;
 
 /// The program's tree slice and budget.
 pub const PROGRAM_TREE: usize = 8_192;

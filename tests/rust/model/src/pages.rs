@@ -277,7 +277,8 @@ fn units() -> Vec<u8> {
 fn factors() -> Vec<u8> {
     let (q, r, s, t, u) = (p(1, 2), p(0, 3), p(1, 4), p(2, 5), p(0, 6));
     let clauses: [&[u16]; 24] = [
-        // P(x),P(y), instances of its factor P(x) and of itself, alone and among others; then the factor, which strikes all of these
+        // P(x),P(y), instances of its factor P(x) and of itself, alone and among others; then the factor, which leaves those before it and
+        // strikes the two after it
         &[P1, X, P1, Y],
         &[P1, A],
         &[P1, B, P1, B],

@@ -41,7 +41,7 @@ impl Random {
         places.concat()
     }
 
-    /// Such an instance with most repetitions left out: each literal of the clause is there, but not each at a place of its own.
+    /// Such an instance with most repetitions left out: each literal of the clause is there, but perhaps not each at a place of its own.
     pub fn factor(&mut self, clause: &[u16]) -> Vec<u16> {
         let instance = self.narrow_instance(clause);
         let mut places: Vec<&[u16]> = Vec::new();

@@ -6,7 +6,7 @@ use crate::drawn::{Random, Style};
 use model::book::Book;
 use model::calls::Cover;
 use model::compiler::sequence;
-use model::limits::{FULL_BUDGET, LITERALS, WITNESS_WORDS};
+use model::limits::{ENOUGH_BUDGET, FULL_BUDGET, LITERALS, WITNESS_WORDS};
 use model::matcher::{most_tries, same, search, shows, subsumes, unit_candidates};
 use model::reader::{read, Term};
 use model::refusal::Refusal;
@@ -78,9 +78,18 @@ impl<'a> Set<'a> {
         beside::query(&self.tree, clause, budget, witness_words)
     }
 
+    /// A query at the full budget; at the one that is enough on every tree all is the same.
+    pub fn ask_full(&mut self, clause: &[u16]) -> Asked {
+        let full = self.ask(clause, FULL_BUDGET);
+        let enough = beside::query(&self.tree, clause, ENOUGH_BUDGET, full.witness.len());
+        assert_eq!(enough, full);
+        self.tally.count("queries in all");
+        full
+    }
+
     /// A query at the full budget, whose answer is given, then at others.
     pub fn query(&mut self, clause: &[u16]) -> Asked {
-        let full = self.ask(clause, FULL_BUDGET);
+        let full = self.ask_full(clause);
         match full.answer {
             Err(_) => {
                 self.tally.answer("queries", "", full.answer);

@@ -4,7 +4,7 @@ use Prim.Native.Nat.{_+_, _*_, _/_, _%_}
 use native.Mathlib.Omega.{arith}
 use lib.Seq.{getD-set-other}
 use borrow.Author.Needs.{needs}
-use Rattle.cells.specs.inner.Cells.{countAt, countIn, reserved, keptIn, usesOf}
+use Rattle.cells.specs.inner.Cells.{countAt, useLimit, countIn, reserved, keptIn, usesOf, savedByte}
 use Rattle.cells.proofs.Bits.{taken-low}
 use Rattle.cells.proofs.state.reserve.Statement.{statement}
 use Rattle.cells.proofs.state.reserve.Tie as tie
@@ -33,6 +33,9 @@ element-copy-out-wide c = search needs
 wide-requires : tie.Need-wide-requires
 wide-requires c κs = search needs
 
+cast-result : tie.Need-cast-result
+cast-result c = record { fits = omega (arith, c .wide .ensures .1) }
+
 mul-result : tie.Need-mul-result
 mul-result c = search needs
 
@@ -52,9 +55,9 @@ returns c =
     let l = s .args .cells .now in
     let n = countIn l in
     let low = taken-low l (s .pre .0) (s .pre .1) in
-    let bits : (c .wide .result * 256 + u .result) % 256 ≡ u .result = omega (arith, u .ensures, low) in
-    let high : (c .wide .result * 256 + u .result) / 256 ≡ c .wide .result = omega (arith, u .ensures, low) in
-    let byte : (c .wide .result * 256 + u .result) / 256 % 256 ≡ c .wide .result = rw high (omega (arith, c .wide .ensures .1)) in
+    let bits : (c .wide .result * useLimit + u .result) % useLimit ≡ u .result = omega (arith, u .ensures, low) in
+    let high : (c .wide .result * useLimit + u .result) / useLimit ≡ c .wide .result = omega (arith, u .ensures, low) in
+    let byte : savedByte (c .wide .result * useLimit + u .result) ≡ c .wide .result = rw high (omega (arith, c .wide .ensures .1)) in
     let kept = getD-set-other l countAt n (n + 1) 0 (λ e. omega (arith, s .pre .1 .0)) in
     (bits ∙ u .ensures ∙ rw t, byte ∙ c .wide .ensures .0 ∙ rw t kept, rw t)
 
@@ -74,6 +77,7 @@ reserve-spec =
     element-write-cells
     element-copy-out-wide
     wide-requires
+    cast-result
     mul-result
     add-result
     enum-told-2

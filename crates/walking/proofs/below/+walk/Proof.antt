@@ -14,7 +14,8 @@ use Rattle.walking.specs.declared.End.the-variants.{Missed}
 use Rattle.stepping.specs.declared.Go.the-variants.{Tries}
 use Rattle.walking.proofs.Walking.{Walking, Meeting, Lower, tail-less, walking-start, walking-end, met-size, met-back, undo-small}
 use Rattle.walking.proofs.Walking.{node-stuck, node-hit, node-fails, node-plain, node-last, node-inside, node-ends, node-missed, fits-fails, call-fits, call-ready}
-use Rattle.walking.proofs.Turns.{walkable-literals, Entry, Between, Begun, first-few, entry-start, between-size, between-room, between-literal, between-small, between-over, between-ends, between-spent}
+use Rattle.walking.proofs.Turns.{small, walkable-literals, Entry, Between, Begun, first-few, entry-start}
+use Rattle.walking.proofs.Turns.{between-size, between-room, between-literal, between-over, between-ends, between-spent}
 use Rattle.walking.proofs.Turns.{begun-ready, pass-missed, pass-broken, pass-found, pass-ends}
 use Rattle.walking.proofs.below.walk.Reads as walk
 use Rattle.walking.proofs.below.walk.Kinds as walk-kinds
@@ -140,7 +141,7 @@ module _ (t : ℕ) where
         room = p .1;
         by-head = c .before .before .before .of .ensures;
         times = c .before .before .passes .ensures;
-        takes = c .reserve .ensures .0;
+        uses = c .reserve .ensures .0;
         keeps = c .reserve .ensures .1;
         reserves = c .reserve .ensures .2;
       }
@@ -221,7 +222,7 @@ module _ (t : ℕ) where
   walk-in-use-requires : At walk-lts.Need-in-use-requires
   walk-in-use-requires c κs =
       let p = c .before .before .before in
-      between-small (entry (p .before)) (p .tries .inv) (c .before .before .if1 .left) (c .enum-told .given .1)
+      small (entry (p .before)) (c .before .before .if1 .left) (c .enum-told .given .1)
 
   walk-add-j : At walk-lts.Need-add-j
   walk-add-j c = search needs
@@ -468,7 +469,8 @@ module _ (t : ℕ) where
 
 pub +walk-spec : {M : Type 1} → statement M
 +walk-spec = close μ-walk λ t. walk-lts.spec (rs t) (walk-at t) walk.Post walk-Inv-loop walk-μ-loop walk-Inv-tries walk-μ-tries
-    (walk-of-requires t) (walk-passes-requires t) (walk-reserve-requires t) (walk-tries-holds t) (walk-release-requires t) (walk-enum-told t) (walk-in-use-requires t) (walk-add-j t) (walk-tries-less t) (walk-tries-again t) (walk-add-n t) (walk-enum-told-2 t)
+    (walk-of-requires t) (walk-passes-requires t) (walk-reserve-requires t) (walk-tries-holds t) (walk-release-requires t) (walk-enum-told t)
+    (walk-in-use-requires t) (walk-add-j t) (walk-tries-less t) (walk-tries-again t) (walk-add-n t) (walk-enum-told-2 t)
     (walk-begin-requires t) (walk-wanted-requires t) (walk-skip-requires t) (walk-sub-start t) (walk-mul-rest t) (walk-sub-rest t)
     (walk-part-rest-start t) (walk-part-rest-end t) (walk-loop-holds t) (walk-shared-slice-read-w t) (walk-meet-requires t) (walk-extent-requires t)
     (walk-enum-told-3 t) (walk-enum-told-4 t) (walk-operand-requires t) (walk-enum-told-5 t) (walk-mul-rest-2 t) (walk-sub-rest-2 t)
