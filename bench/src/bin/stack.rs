@@ -18,7 +18,7 @@ const VARIABLE: u16 = 0x4000;
 const OTHER_VARIABLE: u16 = 0x4001;
 const CONSTANT: u16 = 0x0001;
 
-/// A slice with the query put to it. A Success with number 0 is the deepest word, and the only one that the query gets to.
+/// A slice with the query put to it. A Success with number 0 stands deepest, and no other Success is met.
 struct Question {
     tree: Vec<u64>,
     clause: Vec<u16>,

@@ -20,7 +20,7 @@ pub record Believable : Type 0 where
   -- every clause subsumes itself, and one that subsumes a clause subsumes what that subsumes
   pub reflexive : (c : List ℕ) → Subsumes c c
   pub transitive : (c d e : List ℕ) → Subsumes c d → Subsumes d e → Subsumes c e
-  -- it subsumes none with fewer literals, and variants subsume each other
+  -- it subsumes none with fewer literals; variants subsume each other, so with `transitive` they subsume, and are subsumed by, the same clauses
   pub fewer : (c d : List ℕ) → Subsumes c d → length (literals c) ≤ length (literals d)
   pub variants : (c d : List ℕ) → Accepted c → Accepted d → Variants c d → Subsumes c d
   pub matching : Matching

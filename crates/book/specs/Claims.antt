@@ -83,7 +83,7 @@ pub record Same (S T d : List ℕ) (b : ℕ) : Type 0 where
   pub left : (U : List ℕ) → witnessWords ≤ length U → query S d b U .witness ≡ withShown words U
   pub right : (W : List ℕ) → witnessWords ≤ length W → query T d b W .witness ≡ withShown words W
 
--- what is claimed of one list's queries at the full budget, and of the walk
+-- what is claimed of one list's queries: how many candidates they take, what they answer at the full budget, and that they are the walk's
 pub record Alone (T : List ℕ) (xs : List Call) : Type 0 where
   -- no accepted query takes more candidates than `enoughBudget`, which is less than the full one
   pub enough : (d : List ℕ) → Accepted d → candidates (treeOf (bookOf (length T) xs)) d ≤ enoughBudget

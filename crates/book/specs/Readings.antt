@@ -52,7 +52,7 @@ nineFirsts = at 1 0 10 ∷ at 1 0 9 ∷ at 1 0 8 ∷ at 1 0 7 ∷ at 1 0 6 ∷ a
 
 -- P(x),P(y) kept
 abbrev pub pxpy : List ℕ
-pxpy = sliceOf (blank 24) (insert (P₁ ∷ x ∷ P₁ ∷ y ∷ []) 1 ∷ [])
+pxpy = keeping (insert (P₁ ∷ x ∷ P₁ ∷ y ∷ []) 1 ∷ [])
 
 -- reading a clause
 abbrev pub reading : List (Type 0)
@@ -96,7 +96,8 @@ walking =
     ∷ (answerOn (at 1 0 6 ∷ at 4 0 2 ∷ at 7 b 1 ∷ at 4 1 3 ∷ at 8 1 2 ∷ at 0 1 1 ∷ []) (P₀ ∷ []) 9 ≡ Unanswered Broken)
     ∷ (ask (sliceWith 1 (at 1 0 6 ∷ at 4 0 5 ∷ at 7 P₁ 4 ∷ at 2 0 3 ∷ at 4 0 2 ∷ at 0 1 1 ∷ [])) (P₁ ∷ a ∷ []) 9 1 1
     ≡ record { answer = Covered 1 1; literals = 0 ∷ []; positions = 1 ∷ [] })
-    -- a Check of a variable's word; a Check over 16 bits; Compare k k; Put and Compare at a head; First in the middle of a literal
+    -- a Check of a variable's word; a Check over 16 bits; Compare k k; Put and Compare at a head, of equal literals and of different ones;
+    -- First in the middle of a literal, with two literals and with one
     ∷ (answerOn (at 1 0 5 ∷ at 7 P₁ 4 ∷ at 2 0 3 ∷ at 7 x 2 ∷ at 0 1 1 ∷ []) (P₁ ∷ x ∷ []) 9 ≡ Covered 1 1)
     ∷ (answerOn (at 1 0 3 ∷ at 7 0x18001 2 ∷ at 0 1 1 ∷ []) (P₀ ∷ []) 9 ≡ NotCovered 1)
     ∷ (answerOn (at 1 0 4 ∷ at 4 0 3 ∷ at 8 0 2 ∷ at 0 1 1 ∷ []) (P₀ ∷ []) 9 ≡ Covered 1 1)

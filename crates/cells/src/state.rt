@@ -78,7 +78,8 @@ fn used(cells: &[u8; Path::CELLS]) -> u32
     bits
 }
 
-// Makes place for a candidate, below a First: what stood there, times `Path::USES`, and the literals that are used on its path.
+// Makes place for a candidate below a First, and gives what stood there, times `Path::USES`, plus the bits of the literals used on its path; below a
+// step 0.
 pub fn reserve(cells: &mut [u8; Path::CELLS], above: Above) -> u32
     requires { ⌜ (length (now cells) ≡ cellCount) × HasLiterals (now cells) × (above ≡ First → HasPlace (now cells)) ⌝ }
     ensures { λ r. ⌜ (r % useLimit ≡ usesOf above (now (cells .entry))) × (savedByte r ≡ keptIn above (now (cells .entry)))

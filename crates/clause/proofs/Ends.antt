@@ -1,34 +1,16 @@
 -- Where terms end.
-use mathlib.Core.Path.{_≡_, refl, sym, ap, _∙_}
-use mathlib.Core.List.{List, [], _∷_, _++_}
+use mathlib.Core.Path.{_≡_, ap, _∙_}
+use mathlib.Core.List.{List, [], _∷_}
 use Prim.Native.Nat.{ℕ, zero, suc, _+_, _-_, _<_, _≤_}
-use native.Mathlib.Decide.{ℕ-discrete}
 use native.Mathlib.Nat.{add-zero}
 use native.Mathlib.Omega.{arith}
-use lib.ListN.{length, getD, take, drop, length-map, length-drop, List·getD-append}
-use lib.Seq.{getD-at}
+use lib.ListN.{length, getD, take, drop, length-map, length-drop}
 use Rattle.clause.specs.Lists.{numbersBelow}
 use Rattle.clause.specs.Word.{arity}
 use Rattle.clause.specs.Clause.{skip, term, termAt}
 use Rattle.clause.specs.Positions.{jump, ends}
-use Rattle.clause.proofs.Lists.{length-snoc, getD-map-lt}
+use Rattle.clause.proofs.Lists.{getD-map-lt, length-below, get-below}
 use Rattle.clause.proofs.Jump.{jump-word}
-
--- the numbers below n
-pub length-below : (n : ℕ) → length (numbersBelow n) ≡ n
-unfolding numbersBelow
-length-below zero = refl
-length-below (suc n) = length-snoc (numbersBelow n) n ∙ ap suc (length-below n)
-
-pub get-below : (n p : ℕ) → p < n → getD (numbersBelow n) p 0 ≡ p
-unfolding numbersBelow
-get-below zero p h = absurd (omega arith)
-get-below (suc n) p h = go (ℕ-discrete p n) (λ g. get-below n p g)
-  where
-    go : Dec (p ≡ n) → ((p < n) → getD (numbersBelow n) p 0 ≡ p) → getD (numbersBelow n ++ (n ∷ [])) p 0 ≡ p
-    go (yes e) ih = getD-at (numbersBelow n) n [] 0 p (length-below n ∙ sym e) ∙ sym e
-    go (no m) ih =
-        let b : p < length (numbersBelow n) = rw length-below (omega arith) in List·getD-append (numbersBelow n) (n ∷ []) 0 p b ∙ ih (omega arith)
 
 pub length-ends : (d : List ℕ) → length (ends d) ≡ length d
 unfolding ends

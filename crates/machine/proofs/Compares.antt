@@ -9,29 +9,13 @@ use native.Mathlib.Omega.{arith}
 use lib.ListN.{length, getD}
 use lib.Dec.{eqb, ltb, leb}
 use borrow.Author.Tests.{lt-ltb, le-leb, eq-eqb, eqb-true, ltb-true, leb-true}
-use Rattle.clause.specs.Lists.{All, none as all-none, also, alike, numbersBelow}
+use Rattle.clause.specs.Lists.{All, none as all-none, also, alike}
 use Rattle.clause.specs.Clause.{termAt}
 use Rattle.machine.specs.Instr.{Step, Compare, Instr, Do}
 use Rattle.machine.specs.Compile.{first, repeats, compares}
 use Rattle.machine.specs.Machine.{slots, State, Effect, next, fails, require, compareTerms, sameTerms, stepAt, stepFrom, step, run}
-use Rattle.clause.proofs.Lists.{alike-same, alike-refl, all-flatMap, flatMap-all, all-append, all-first, all-last, all-head, all-tail}
+use Rattle.clause.proofs.Lists.{alike-same, alike-refl, all-flatMap, flatMap-all, all-upTo, numbersBelow-all, all-head, all-tail}
 use Rattle.machine.proofs.Effects.{fails≢next}
-
--- the numbers below n
-module _ {κ} {P : ℕ → Type κ} where
-  pub all-upTo : (n : ℕ) → ((i : ℕ) → i < n → P i) → All P (numbersBelow n)
-  unfolding numbersBelow
-  all-upTo zero h = all-none
-  all-upTo (suc n) h = all-append (all-upTo n (λ i g. h i (omega arith))) (also (h n (omega arith)) all-none)
-
-  pub numbersBelow-all : (n : ℕ) → All P (numbersBelow n) → (i : ℕ) → i < n → P i
-  unfolding numbersBelow
-  numbersBelow-all zero p i h = absurd (omega arith)
-  numbersBelow-all (suc n) p i h = go (ℕ-discrete i n) (numbersBelow-all n (all-first (numbersBelow n) _ p) i)
-    where
-      go : Dec (i ≡ n) → (i < n → P i) → P i
-      go (yes e) before = rw e (all-head (all-last (numbersBelow n) _ p))
-      go (no e) before = before (omega arith)
 
 first-here : (u : ℕ) (us : List ℕ) → first u (u ∷ us) ≡ 0
 unfolding first

@@ -11,13 +11,11 @@ use Rattle.machine.specs.Compile.{sequence, Variants}
 use Rattle.machine.specs.Instr.{Instr}
 use Rattle.machine.specs.Matching.{Choice, Matched, Matching}
 use Rattle.machine.specs.Machine.{State, initial, Effect, next, fails, run}
-use Rattle.clause.proofs.Lists.{all-get, all-map, getD-map-lt}
-use Rattle.clause.proofs.Ends.{length-below, get-below}
+use Rattle.clause.proofs.Lists.{all-get, all-map, all-upTo, getD-map-lt, length-below, get-below}
 use Rattle.clause.proofs.Literals.{Clause, accepted}
 use Rattle.clause.proofs.Order.{subsumes-refl}
 use Rattle.machine.proofs.Codes.{firsts, sequence-firsts}
 use Rattle.machine.proofs.Effects.{fails≢next}
-use Rattle.machine.proofs.Compares.{all-upTo}
 use Rattle.machine.proofs.Agree.{Agree, no-more}
 use Rattle.machine.proofs.Table.{filled, length-unfilled}
 use Rattle.machine.proofs.Used.{Differ, differ-none}

@@ -43,7 +43,7 @@ unfilled = replicate slots none
 abbrev pub initial : State
 initial = record { chosen = []; head = none; puts = unfilled; pushes = unfilled }
 
--- what a step comes to: the next state, a mismatch, or a step that cannot be taken
+-- what a step comes to: the next state, a mismatch (of First: a literal that is used), or a step that cannot be taken
 pub data Effect (S : Type 0) : Type 0 where
   next : S → Effect S
   fails stuck : Effect S

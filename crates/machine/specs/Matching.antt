@@ -9,7 +9,7 @@ use Rattle.clause.specs.Clause.{Accepted, literals, Subsumes}
 use Rattle.machine.specs.Compile.{sequence}
 use Rattle.machine.specs.Machine.{State, initial, next, run}
 
--- a choice of literals of d, one for each literal of c
+-- a choice of literals of d, one for each literal of c; that no two are the same is not asked here, since `run` fails at one that is used
 pub record Choice (c d js : List ℕ) : Type 0 where
   pub each : length (literals c) ≡ length js
   pub valid : All (λ j. j < length (literals d)) js

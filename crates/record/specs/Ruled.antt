@@ -1,7 +1,7 @@
 -- What becomes of one record, by the clause book before it.
 use mathlib.Core.Path.{_≡_}
 use mathlib.Core.Logic.{_↔_, _≢_}
-use mathlib.Core.List.{List, [], _∷_, map, List·Memᴰ}
+use mathlib.Core.List.{List, _∷_, map, List·Memᴰ}
 use Prim.Native.Nat.{ℕ, _≤_, _<_}
 use lib.ListN.{length, replicate}
 use Rattle.clause.specs.Clause.{shape, Accepted, literals, Subsumes}
@@ -73,7 +73,7 @@ pub data Reason (K : List Pair) (x : Record) : (code : ℕ) → Type 0 where
   list-full : Uncovered K x → (Numbered K (x .number) → ⊥) → maxKept ≤ length K → Reason K x 10
   -- 11: with it, the sequences would have more than 8,191 different beginnings
   no-room : Uncovered K x → (Numbered K (x .number) → ⊥) → length K < maxKept → treeWords ≤ wordsOf (pairOf x ∷ K) → Reason K x 11
-  -- 12: the walk would take more candidates than the budget
+  -- 12: the walk would take more candidates than the budget; no book of the program comes to that (`codes` of `RowClaims`)
   over-budget : Accepted (x .words) → budget < candidates (treeOf K) (x .words) → Reason K x 12
 
 -- a record is kept
@@ -103,5 +103,5 @@ pub record RuledByUnits (K : List Pair) (x : Record) (o : Outcome) : Type 0 wher
   pub exact : 1 ≤ length K → IsKept o → candidates (treeOf K) (x .words) ≡ length (literals (x .words))
   -- struck: the count on its line is at most that
   pub at-most : (n k : ℕ) → o ≡ Struck n k → k ≤ length (literals (x .words))
-  -- so 12 is never its code, however many literals a clause may have
+  -- so 12 is never its code; unlike `codes` of `RowClaims` this does not rest on the most literals of a clause
   pub enough : o ≢ Refused 12

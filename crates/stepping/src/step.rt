@@ -244,7 +244,7 @@ fn success(words: usize, head: usize) -> Visit
     }
 }
 
-// A First tries the literals of the query, where there is a place for one candidate more.
+// A First tries the literals of the query that are not used, where there is a place for one candidate more.
 fn tries(cells: &[u8; Path::CELLS], head: usize) -> Visit
     requires { ⌜ length (now cells) ≡ cellCount ⌝ }
     ensures { λ r. ⌜ Visited (metFirst head (now (cells .entry))) (now (cells .entry)) (now (cells .entry)) r

@@ -45,7 +45,7 @@ pub arrangements-powers : (f q m : ℕ) → f ≤ q → arrangements f m ≤ pow
 arrangements-powers f q zero h = omega arith
 arrangements-powers f q (suc m) h = rw (powers-suc q m) (mul-le-mul h (suc-le-suc (arrangements-powers (f - 1) q m (omega arith))))
 
--- so the full budget is enough where the arrangements fit
+-- so the full budget is no less than the one that is enough
 pub enough-full : enoughBudget ≤ fullBudget
 enough-full = mul-le-mul-left maxKept (arrangements-powers maxLiterals maxLiterals maxLiterals (omega arith))
 
@@ -82,7 +82,7 @@ module _ (M : Machine) (P : Spares M) (allow : ℕ → Bool) where
   abbrev q : ℕ
   q = M .queryLiterals
 
-  -- candidates, each with at most x below it, of which r are not passed over
+  -- n literals from j on, at most r of them not passed over, each of these with at most x below it
   adds-tries : (x : ℕ) (below : M .State → Part (M .State)) (s : M .State)
       → ((j : ℕ) (t : M .State) → j < q → M .enter j s ≡ next t → Adds x (below t))
       → (n j : ℕ) → n + j ≤ q → (r : ℕ) → P .spare n j s ≤ r → Adds (r * suc x) (tries M allow below s n j)

@@ -45,7 +45,7 @@ abbrev pub count : {S : Type 0} → Bool → Part S → Part S
 count true k c = k (suc c)
 count false k c = spent
 
--- one candidate: counted unless it is passed over, then below it
+-- one literal: passed over, uncounted; or a candidate, which is counted, and then below it
 abbrev pub attempt : {S : Type 0} → (ℕ → Bool) → Effect S → (S → Part S) → Part S
 attempt allow (next s) below c = count (allow (suc c)) (below s) c
 attempt allow fails below c = notCovered c

@@ -22,7 +22,7 @@ use Rattle.walking.specs.declared.End.{End}
 use Rattle.walking.proofs.Nodes.{then-nothing}
 use Rattle.walking.specs.declared.End.the-variants.{Missed, Found, Broken, Spent}
 
--- m passes from the j-th on
+-- below a First m literals from j on, those in use passed over; below a step m passes
 unfoldable pub runs : List ℕ → (budget : ℕ) → Above → (State → Part State) → State → (m j : ℕ) → Part State
 runs d b First k s m j c = tries (machine d) (upTo b) k s m j c
 runs d b Step k s zero j c = notCovered c

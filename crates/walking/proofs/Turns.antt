@@ -79,7 +79,7 @@ module _ (d t : List ℕ) (h : ℕ) (l : List ℕ) (R : Walkable d t h l) (above
 pub first-few : (h : ℕ) (l : List ℕ) → (h ≡ noPosition → HasPlace l) → {above : Above} → above ≡ aboveOf h → above ≡ First → HasPlace l
 first-few h l room f e = room (above-first h (sym f ∙ e))
 
--- a node is entered: whether it is a First, how many passes there are, and what is saved: the literals used, and what stood where the candidate is to stand
+-- a node is entered: whether it is a First, how many literals are gone through, and what is saved: the literals used, and what stood where the candidate is to stand
 pub record Entry (d t words : List ℕ) (b h : ℕ) (l : List ℕ) (n₀ : ℕ) (above : Above) (last saved : ℕ) (l₁ : List ℕ) : Type 0 where
   pub ready : Walkable d t h l
   pub room : h ≡ noPosition → HasPlace l

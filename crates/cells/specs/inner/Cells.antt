@@ -65,7 +65,7 @@ HasPlace l = countIn l < maxLiterals
 abbrev pub HasCandidate : List ℕ → Type 0
 HasCandidate l = (1 ≤ countIn l) × (countIn l ≤ maxLiterals)
 
--- the candidates are below the most literals
+-- there are at most as many candidates as a clause may have literals, and each is below that number
 abbrev pub HasLiterals : List ℕ → Type 0
 HasLiterals l = (countIn l ≤ maxLiterals) × All (λ j. j < maxLiterals) (take (countIn l) l)
 
