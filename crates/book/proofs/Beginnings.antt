@@ -15,7 +15,7 @@ use Rattle.tree.specs.Entries.{Pair, Sound, entry}
 use Rattle.tree.specs.Beginnings.{begins, beginnings, among, different}
 use Rattle.book.specs.Laws.{IsBeginning, AllBeginnings}
 use Rattle.clause.proofs.Tests.{or-cases, T-true}
-use Rattle.clause.proofs.Lists.{alike-refl, alike-same, all-append, all-first, all-mem}
+use Rattle.clause.proofs.Lists.{alike-refl, alike-same, all-append, all-first, all-mem, all-weaken}
 use Rattle.clause.proofs.Literals.{accepted}
 use Rattle.machine.proofs.Keys.{Plain, instrOf-plain, instrOf-success}
 use Rattle.machine.proofs.Codes.{sequence-plain}
@@ -34,8 +34,7 @@ known-same (also {x = i} h p) (also {x = j} g q) e =
     ap₂ _∷_ (Option·some-injective i j (sym h ∙ ap instrOf (head-eq-of-cons-eq e) ∙ g)) (known-same p q (tail-eq-of-cons-eq e))
 
 all-known : {is : List Instr} → All Plain is → All Known is
-all-known none = none
-all-known (also {x = i} h p) = also (instrOf-plain i h) (all-known p)
+all-known = all-weaken instrOf-plain
 
 known-compiled : (p : Pair) → Sound p → All Known (compile (p .clause) (p .number))
 known-compiled p s =

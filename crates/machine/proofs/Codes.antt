@@ -11,7 +11,7 @@ use Rattle.clause.specs.Clause.{literals, Shaped}
 use Rattle.machine.specs.Instr.{Step, Put, Push, Pop, Check, Instr, First, Do, Success}
 use Rattle.machine.specs.Compile.{Saved, Place, ended, inside, Way, way, wayFrom, opening, begun, closing, act, putsAfter, sequenceFrom, sequence}
 use Rattle.machine.specs.Machine.{slots}
-use Rattle.clause.proofs.Lists.{all-append}
+use Rattle.clause.proofs.Lists.{all-append, all-weaken, all-map}
 use Rattle.clause.specs.Accepted.{IsLiteral}
 use Rattle.clause.proofs.Literals.{literal-shaped, Clause}
 use Rattle.machine.proofs.Keys.{Fitting, Plain}
@@ -28,8 +28,7 @@ Below n ended = Unit {0}
 Below n (inside l saved) = All (λ v. v .slot < n) saved
 
 later : {n : ℕ} {saved : List Saved} → All (λ v. v .slot < n) saved → All (λ v. v .slot < suc n) saved
-later none = none
-later (also {x = v} h p) = also {x = v} (omega arith) (later p)
+later = all-weaken (λ v h. omega arith)
 
 -- the steps of a way, and the place that it leads to
 record Leads (t : Way) (n : ℕ) : Type 0 where
@@ -52,8 +51,7 @@ wayFrom-leads ended a n h p = way-leads a 0 [] n h none
 wayFrom-leads (inside l saved) a n h p = way-leads a l saved n h p
 
 plain-do : {xs : List Step} → All Fitting xs → All Plain (map Do xs)
-plain-do none = none
-plain-do (also h p) = also h (plain-do p)
+plain-do = all-map Do
 
 plain-opening : (place : Place) → All Plain (opening place)
 unfolding opening

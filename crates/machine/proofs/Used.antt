@@ -15,18 +15,7 @@ use Rattle.clause.proofs.Lists.{length-snoc}
 use Rattle.machine.specs.Machine.{State, next, fails, stuck, require, starting, used, enter}
 use Rattle.machine.proofs.Effects.{fails≢next, stuck≢next}
 
--- a used number has a place
-used-place : (j : ℕ) (l : List ℕ) → used j l ≡ true → (i : ℕ) × (i < length l) × (getD l i 0 ≡ j)
-unfolding used
-used-place j [] e = let z : _≡_ {A = ℕ} 0 1 = cc in absurd (omega arith)
-used-place j (x ∷ l) e = go (eqb x j) refl e (used-place j l)
-  where
-    go : (b : Bool) → eqb x j ≡ b → (b || used j l) ≡ true → (used j l ≡ true → (i : ℕ) × (i < length l) × (getD l i 0 ≡ j))
-        → (i : ℕ) × (i < length (x ∷ l)) × (getD (x ∷ l) i 0 ≡ j)
-    go true f e ih = (0, omega arith, eqb-true x j f)
-    go false f e ih = let (i, h, g) = ih e in (suc i, omega arith, g)
-
--- one that is not used has none
+-- a number that is not used has no place
 unused-place : (j : ℕ) (l : List ℕ) → used j l ≡ false → (i : ℕ) → i < length l → getD l i 0 ≡ j → ⊥
 unfolding used
 unused-place j [] e i h g = omega arith
@@ -37,6 +26,17 @@ unused-place j (x ∷ l) e i h g = go (eqb x j) refl e i h g (unused-place j l)
     go true f e i h g ih = let z : _≡_ {A = ℕ} 0 1 = cc in omega arith
     go false f e zero h g ih = eqb-false x j f g
     go false f e (suc i) h g ih = ih e i (omega arith) g
+
+-- one that is used has one
+used-place : (j : ℕ) (l : List ℕ) → used j l ≡ true → (i : ℕ) × (i < length l) × (getD l i 0 ≡ j)
+unfolding used
+used-place j [] e = let z : _≡_ {A = ℕ} 0 1 = cc in absurd (omega arith)
+used-place j (x ∷ l) e = go (eqb x j) refl e (used-place j l)
+  where
+    go : (b : Bool) → eqb x j ≡ b → (b || used j l) ≡ true → (used j l ≡ true → (i : ℕ) × (i < length l) × (getD l i 0 ≡ j))
+        → (i : ℕ) × (i < length (x ∷ l)) × (getD (x ∷ l) i 0 ≡ j)
+    go true f e ih = (0, omega arith, eqb-true x j f)
+    go false f e ih = let (i, h, g) = ih e in (suc i, omega arith, g)
 
 -- a literal is used after it is taken, any other as before
 used-snoc : (i : ℕ) (js : List ℕ) (j : ℕ) → used i (js ++ (j ∷ [])) ≡ (used i js || eqb j i)

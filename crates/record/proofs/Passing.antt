@@ -7,7 +7,7 @@ use native.Mathlib.Omega.{arith}
 use native.Mathlib.Decide.{ℕ-discrete}
 use native.Mathlib.Nat.{suc-add}
 use Rattle.clause.specs.Lists.{All, none, also, Each, nobody, besides}
-use Rattle.clause.proofs.Lists.{all-mem}
+use Rattle.clause.proofs.Lists.{all-mem, all-weaken}
 use Rattle.record.specs.Tally.{total, passing}
 
 -- ---- which they are
@@ -39,12 +39,8 @@ pub record Passes (p : ℕ → Bool) (n k : ℕ) : Type 0 where
 pub passing-all : (p : ℕ → Bool) (c n : ℕ) → All (Passes p n) (passing p n c)
 unfolding passing
 passing-all p zero n = none
-passing-all p (suc c) n = go (p n) refl (later (passing-all p c (n + 1)))
+passing-all p (suc c) n = go (p n) refl (all-weaken (λ k h. record { from = omega (arith, h .from); test = h .test }) (passing-all p c (n + 1)))
   where
-    later : {l : List ℕ} → All (Passes p (n + 1)) l → All (Passes p n) l
-    later none = none
-    later (also {x = x} h a) = also {x = x} (record { from = omega (arith, h .from); test = h .test }) (later a)
-
     go : (b : Bool) → p n ≡ b → All (Passes p n) (passing p (n + 1) c) → All (Passes p n) (cond b (n ∷ passing p (n + 1) c) (passing p (n + 1) c))
     go true q ih = also {x = n} (record { from = omega arith; test = q }) ih
     go false q ih = ih
@@ -53,12 +49,8 @@ passing-all p (suc c) n = go (p n) refl (later (passing-all p c (n + 1)))
 pub passing-rises : (p : ℕ → Bool) (c n : ℕ) → Each _<_ (passing p n c)
 unfolding passing
 passing-rises p zero n = nobody
-passing-rises p (suc c) n = go (p n) (after (passing-all p c (n + 1))) (passing-rises p c (n + 1))
+passing-rises p (suc c) n = go (p n) (all-weaken (λ k h. omega (arith, h .from)) (passing-all p c (n + 1))) (passing-rises p c (n + 1))
   where
-    after : {l : List ℕ} → All (Passes p (n + 1)) l → All (λ k. n < k) l
-    after none = none
-    after (also {x = x} h a) = also {x = x} (omega (arith, h .from)) (after a)
-
     go : (b : Bool) → All (λ k. n < k) (passing p (n + 1) c) → Each _<_ (passing p (n + 1) c) → Each _<_ (cond b (n ∷ passing p (n + 1) c) (passing p (n + 1) c))
     go true a ih = besides a ih
     go false a ih = ih
@@ -103,8 +95,7 @@ module _ (m a : ℕ) (f g : ℕ → ℕ) (others : (n : ℕ) → (n ≡ m → �
   without (also {x = x} h r) = omega (arith, others x h, without r)
 
   after-all : {x : ℕ} {l : List ℕ} → m ≡ x → All (λ k. x < k) l → All (λ n. n ≡ m → ⊥) l
-  after-all e none = none
-  after-all e (also {x = y} h r) = also {x = y} (λ (i : y ≡ m). omega arith) (after-all e r)
+  after-all e = all-weaken (λ k h i. omega arith)
 
   -- one of them is more by a
   pub one-more : {l : List ℕ} → Each _<_ l → List·Memᴰ m l → g m ≡ a + f m → total (map g l) ≡ a + total (map f l)

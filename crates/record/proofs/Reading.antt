@@ -14,7 +14,7 @@ use Rattle.record.specs.Answer.{Record}
 use Rattle.record.specs.Marks.{numberCount}
 use Rattle.record.specs.Output.{fields, allThere, recordsFor, recordsOf}
 use Rattle.record.specs.Sheet.{Bytes, fieldsOf, allFields, Complete}
-use Rattle.clause.proofs.Lists.{all-take}
+use Rattle.clause.proofs.Lists.{all-take, all-weaken}
 
 -- ---- all that are complete
 
@@ -96,12 +96,8 @@ pub input-narrow : (input : List ℕ) → Bytes input → All Narrow (recordsOf 
 unfolding recordsOf
 input-narrow input h = records-narrow (length (fields input)) (fields input) (fields-fit input h)
 
-narrow-fit : {xs : List Record} → All Narrow xs → All FitRecord xs
-narrow-fit none = none
-narrow-fit (also {x = x} h a) = also {x = x} (h .1, omega (arith, h .0)) (narrow-fit a)
-
 pub input-fits : (input : List ℕ) → Bytes input → All FitRecord (recordsOf input)
-input-fits input h = narrow-fit (input-narrow input h)
+input-fits input h = all-weaken (λ x n. (n .1, omega (arith, n .0))) (input-narrow input h)
 
 -- ---- how many they are
 

@@ -1,4 +1,4 @@
--- The ceiling of a walk's count.
+-- The ceiling of a walk's count, and a closer bound.
 use mathlib.Core.Path.{_≡_}
 use mathlib.Core.Bool.{cond, _&&_}
 use Prim.Native.Nat.{ℕ, zero, suc, _+_, _-_, _*_, _^_}
