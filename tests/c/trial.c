@@ -1,4 +1,4 @@
-/* The header, from C and from C++: a trial row of document 01 with the counts of F-3, told words that are too few, a count with units. */
+/* The header, from C and from C++: a trial row of document 01 with the counts of F-3, told words that are too few, a count with units, the ceilings. */
 #include "code_tree.h"
 
 #include <stdio.h>
@@ -10,6 +10,31 @@ static void expect(const char *what, uint64_t got, uint64_t wanted) {
         printf("%s: %llu, not %llu\n", what, (unsigned long long)got, (unsigned long long)wanted);
         failed = 1;
     }
+}
+
+/* The ceiling of one clause for all q and m, by adding up, and of the most clauses; what is past them is refused. */
+static void expect_ceilings(void) {
+    uint64_t told[1];
+    for (uint64_t q = 1; q <= CT_CLAUSE_LITERALS; q++) {
+        uint64_t power = 1, sum = 0;
+        for (uint64_t m = 1; m <= CT_CLAUSE_LITERALS; m++) {
+            power *= q;
+            sum += power;
+            expect("ceiling of one clause", ct_ceiling(1, q, m, told, 1), 0);
+            expect("its value", told[0], sum);
+            expect("ceiling of the most clauses", ct_ceiling(CT_KEPT_CLAUSES, q, m, told, 1), 0);
+            expect("its value", told[0], CT_KEPT_CLAUSES * sum);
+        }
+    }
+    expect("the greatest ceiling", told[0], CT_FULL_BUDGET);
+    expect("ceiling of no clause", ct_ceiling(0, 1, 1, told, 1), 0);
+    expect("its value", told[0], 0);
+    expect("ceiling of no literal", ct_ceiling(1, 0, 1, told, 1), CT_BAD_SIZE);
+    expect("ceiling of clauses of none", ct_ceiling(1, 1, 0, told, 1), CT_BAD_SIZE);
+    expect("ceiling of a literal more", ct_ceiling(1, CT_CLAUSE_LITERALS + 1, 1, told, 1), CT_BAD_SIZE);
+    expect("ceiling of clauses with one more", ct_ceiling(1, 1, CT_CLAUSE_LITERALS + 1, told, 1), CT_BAD_SIZE);
+    expect("ceiling of a clause more", ct_ceiling(CT_KEPT_CLAUSES + 1, 1, 1, told, 1), CT_BAD_SIZE);
+    expect("nothing told", told[0], 0);
 }
 
 int main(void) {
@@ -59,9 +84,7 @@ int main(void) {
     expect("budget one short, units kept", ct_query(tree, 24, missed, 4, 1, witness, CT_WITNESS_WORDS, told, 3), CT_SPENT);
     expect("spent count, units kept", told[0], 1);
 
-    expect("ceiling", ct_ceiling(1024, 8, 8, told, 1), 0);
-    expect("ceiling's value", told[0], 19634135040u);
-    expect("ceiling of no literal", ct_ceiling(1, 0, 1, told, 1), CT_BAD_SIZE);
+    expect_ceilings();
     if (!failed) {
         printf("ok\n");
     }

@@ -295,13 +295,16 @@ fn slices_of_any_length() {
 #[test]
 fn ceilings_of_any_size() {
     let mut tally = Tally::default();
-    let literals = || (0..=9).chain([u64::MAX]);
-    for kept in [0, 1, 2, 100, 1023, 1024, 1025, u64::MAX] {
+    let kepts = || (0..=KEPT as u64 + 1).chain([u64::MAX]);
+    let literals = || (0..=LITERALS as u64 + 1).chain([u64::MAX]);
+    for kept in kepts() {
         for (q, m) in literals().flat_map(|q| literals().map(move |m| (q, m))) {
             tally.answer("ceilings", "told", beside::ceiling(kept, q, m));
         }
     }
     let highest = beside::ceiling(KEPT as u64, LITERALS as u64, LITERALS as u64);
     assert_eq!(highest, Ok(FULL_BUDGET));
-    tally.assert_least(&[("ceilings told", 6 * 64), ("ceilings refused 13", 584)]);
+    let told = (KEPT as u64 + 1) * LITERALS.pow(2) as u64;
+    let asked = (kepts().count() * literals().count().pow(2)) as u64;
+    tally.assert_least(&[("ceilings told", told), ("ceilings refused 13", asked - told)]);
 }

@@ -309,6 +309,20 @@ fn ceilings() {
     }
 }
 
+// Each sum by its closed form, which the model does not use: for q over 1, (q^(m + 1) - q) / (q - 1).
+#[test]
+fn ceilings_in_closed_form() {
+    for (q, m) in (1..=8_u64).flat_map(|q| (1..=8_u64).map(move |m| (q, m))) {
+        let sum = match q {
+            1 => m,
+            _ => (q.pow(m as u32 + 1) - q) / (q - 1),
+        };
+        for kept in [0, 1, 2, 1023, 1024] {
+            assert_eq!(ceiling(kept, q, m), Ok(kept * sum));
+        }
+    }
+}
+
 // The number returned, and the told words, of which there are t and which held 9.
 fn told(t: usize, call: impl Fn(&mut [u64]) -> u64) -> (u64, Vec<u64>) {
     let mut words = vec![9; t];
