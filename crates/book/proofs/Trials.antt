@@ -43,4 +43,4 @@ readings-hold =
     also refl (also refl (also refl (also refl (also refl (also refl (also refl (also refl (also refl (also refl (
     also refl (also refl (also refl (also refl (also refl (also refl (also refl (also refl (also refl (also refl (
     also refl (also refl (also refl (also refl (also refl (also refl (also refl (also refl (also refl (also refl (
-    also refl (also refl (also refl (also refl (also refl (also refl none))))))))))))))))))))))))))))))))))))))))))))))))))))))))))))))))))
+    also refl (also refl (also refl (also refl (also refl (also refl (also refl none)))))))))))))))))))))))))))))))))))))))))))))))))))))))))))))))))))

@@ -14,8 +14,8 @@ use Rattle.book.specs.Book.{insert, remove, sliceOf}
 use Rattle.book.specs.Trials.{P₃, P₂, P₁, Q₁, f, a, b, x, y, keeping, pxqx, ask}
 use Rattle.clause.specs.declared.Shape.the-variants.{Faulty, Whole}
 use Rattle.clause.specs.declared.Fault.the-variants.{BadLength, Bad, Ninth}
-use Rattle.tree.specs.declared.Refusal.the-variants.{Broken, BadClause, ShortWitness, NumberTaken, Held, NoRoom, Spent}
-use Rattle.walk.specs.declared.CeilingAnswer.the-variants.{Ceiling}
+use Rattle.tree.specs.declared.Refusal.the-variants.{Broken, BadClause, ShortWitness, NumberTaken, Held, NoRoom, Spent, BadSize}
+use Rattle.walk.specs.declared.CeilingAnswer.the-variants.{Ceiling, NoCeiling}
 use Rattle.walk.specs.declared.QueryAnswer.the-variants.{Covered, NotCovered, Unanswered}
 use Rattle.walk.specs.declared.QueryAnswer.{QueryAnswer}
 use Rattle.tree.specs.declared.CallAnswer.the-variants.{Refused, Kept}
@@ -153,7 +153,8 @@ calling =
     ∷ (insertion (sliceOf (blank 16) (insert (P₃ ∷ x ∷ a ∷ x ∷ []) 1 ∷ [])) (P₃ ∷ x ∷ x ∷ b ∷ []) 2 .answer ≡ Kept)
     ∷ (insertion (sliceOf (blank 15) (insert (P₃ ∷ x ∷ a ∷ x ∷ []) 1 ∷ [])) (P₃ ∷ x ∷ x ∷ b ∷ []) 2 .answer ≡ Refused NoRoom)
     ∷ (insertion (sliceOf (blank 15) (insert (P₃ ∷ x ∷ a ∷ x ∷ []) 1 ∷ remove 1 ∷ [])) (P₃ ∷ x ∷ x ∷ b ∷ []) 2 .answer ≡ Kept)
-    ∷ (ceilingCall 0 1 1 ≡ Ceiling 0) ∷ []
+    -- no clause kept; a clause too many and a literal too few at once
+    ∷ (ceilingCall 0 1 1 ≡ Ceiling 0) ∷ (ceilingCall 1_025 0 1 ≡ NoCeiling BadSize) ∷ []
 
 -- all of them
 abbrev pub readings : List (Type 0)

@@ -9,8 +9,11 @@ ghost use Rattle.clause.specs.Clause.{maxLiterals};
 ghost use Rattle.walk.specs.Ceiling.{powers, ceilingCall};
 ghost use Rattle.ceiling.specs.Table.{Sums, LastEntry};
 
+// An entry of the table, wide enough for the last.
+type Entry = u32;
+
 // A row for each q, in it an entry for each m, both counted from 1.
-type Table = [[u64; Clause::LITERALS]; Clause::LITERALS];
+type Table = [[Entry; Clause::LITERALS]; Clause::LITERALS];
 
 // The sums q + q² + .. + q^m.
 const SUMS: Table = [
@@ -24,13 +27,20 @@ const SUMS: Table = [
     [8, 72, 584, 4_680, 37_448, 299_592, 2_396_744, 19_173_960],
 ];
 
+// The entry as a number of 64 bits.
+fn wide(entry: Entry) -> u64
+    ensures { λ r. ⌜ r ≡ entry ⌝ }
+{
+    entry as u64
+}
+
 // q + q² + .. + q^m, looked up in a table.
 fn sum(table: &Table, q: u64, m: u64) -> u64
     requires { ⌜ Sums (now table) × (1 ≤ q) × (q ≤ maxLiterals) × (1 ≤ m) × (m ≤ maxLiterals) ⌝ }
-    ensures entry { λ r. ⌜ r ≡ powers q m ⌝ }
+    ensures value { λ r. ⌜ r ≡ powers q m ⌝ }
     ensures last { λ _. ⌜ LastEntry (now (table .entry)) ⌝ }
 {
-    table[(q - 1) as usize][(m - 1) as usize]
+    wide(table[(q - 1) as usize][(m - 1) as usize])
 }
 
 // kept × (q + q² + .. + q^m), for kept up to the most clauses, and q and m from 1 to the most literals.
@@ -53,6 +63,7 @@ pub fn ceiling(kept: u64, q: u64, m: u64) -> CeilingAnswer
     if m > Clause::LITERALS as u64 {
         return refused;
     }
+    // here, past the refusals: a constant is put on the stack where it is used
     let sums = SUMS;
     let highest = kept * sum(&sums, q, m);
     CeilingAnswer::Ceiling(highest)
