@@ -47,14 +47,13 @@
 extern "C" {
 #endif
 
-/* Limits: words of a tree, words and literals of a clause, kept clauses, words of a witness; the greatest ceiling. */
+/* Limits: words of a tree, words and literals of a clause, kept clauses, words of a witness. */
 #define CT_TREE_LEAST 2
 #define CT_TREE_MOST 65536
 #define CT_CLAUSE_WORDS 64
 #define CT_CLAUSE_LITERALS 8
 #define CT_KEPT_CLAUSES 1024
 #define CT_WITNESS_WORDS 72
-#define CT_FULL_BUDGET UINT64_C(19634135040)
 
 /* The refusals. */
 enum {
@@ -117,9 +116,7 @@ uint64_t ct_query(const uint64_t *tree, size_t n, const uint16_t *clause, size_t
  * at most m literals: kept * (q + q^2 + .. + q^m). It is not the closest one: no literal is used twice on a path,
  * so such a query takes at most kept * (q + q * (q - 1) + ..), of m summands, and a budget of 112,230,400 is
  * enough on every tree made by these calls; with m = 1 it takes at most q (ct_query). The ceiling stays kept * q
- * there.
- * It is looked up in a table of the sums q + q^2 + .. + q^m (proved) and multiplied by kept. The greatest, of
- * 1,024, 8 and 8, is CT_FULL_BUDGET, which is enough for every query too.
+ * there. The greatest ceiling, of 1,024, 8 and 8, is 19,634,135,040, the full budget.
  * Returns 0, or 13. told: with 0 the ceiling; else nothing.
  */
 uint64_t ct_ceiling(uint64_t kept, uint64_t q, uint64_t m, uint64_t *told, size_t t);

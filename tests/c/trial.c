@@ -12,7 +12,7 @@ static void expect(const char *what, uint64_t got, uint64_t wanted) {
     }
 }
 
-/* The ceiling of one clause for all q and m, by adding up, and of the most clauses; what is past them is refused. */
+/* The ceilings of one clause and of the most, for all q and m, by adding up; sizes out of bounds are refused and tell nothing. */
 static void expect_ceilings(void) {
     uint64_t told[1];
     for (uint64_t q = 1; q <= CT_CLAUSE_LITERALS; q++) {
@@ -26,15 +26,16 @@ static void expect_ceilings(void) {
             expect("its value", told[0], CT_KEPT_CLAUSES * sum);
         }
     }
-    expect("the greatest ceiling", told[0], CT_FULL_BUDGET);
+    expect("the greatest ceiling", told[0], 19634135040u);
     expect("ceiling of no clause", ct_ceiling(0, 1, 1, told, 1), 0);
     expect("its value", told[0], 0);
+    told[0] = 9;
     expect("ceiling of no literal", ct_ceiling(1, 0, 1, told, 1), CT_BAD_SIZE);
     expect("ceiling of clauses of none", ct_ceiling(1, 1, 0, told, 1), CT_BAD_SIZE);
     expect("ceiling of a literal more", ct_ceiling(1, CT_CLAUSE_LITERALS + 1, 1, told, 1), CT_BAD_SIZE);
     expect("ceiling of clauses with one more", ct_ceiling(1, 1, CT_CLAUSE_LITERALS + 1, told, 1), CT_BAD_SIZE);
     expect("ceiling of a clause more", ct_ceiling(CT_KEPT_CLAUSES + 1, 1, 1, told, 1), CT_BAD_SIZE);
-    expect("nothing told", told[0], 0);
+    expect("nothing told", told[0], 9);
 }
 
 int main(void) {

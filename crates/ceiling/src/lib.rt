@@ -9,10 +9,10 @@ ghost use Rattle.clause.specs.Clause.{maxLiterals};
 ghost use Rattle.walk.specs.Ceiling.{powers, ceilingCall};
 ghost use Rattle.ceiling.specs.Table.{Sums, LastEntry};
 
-// An entry of the table, wide enough for the last.
+// An entry of the table, wide enough for the greatest, which is the last.
 type Entry = u32;
 
-// A row for each q, in it an entry for each m, both counted from 1.
+// A row for each q, at q - 1, and in it an entry for each m, at m - 1.
 type Table = [[Entry; Clause::LITERALS]; Clause::LITERALS];
 
 // The sums q + q² + .. + q^m.

@@ -35,7 +35,13 @@ powers-suc q (suc m) =
       mul-add q (powers q m) (q ^ suc m),
     )
 
--- the arrangements rise with both of their numbers, and are no more than the powers
+-- the powers rise with both of their numbers
+pub powers-le : (q q′ m m′ : ℕ) → q ≤ q′ → m ≤ m′ → powers q m ≤ powers q′ m′
+powers-le q q′ zero m′ h g = omega arith
+powers-le q q′ (suc m) zero h g = absurd (omega arith)
+powers-le q q′ (suc m) (suc m′) h g = rw (powers-suc q m, powers-suc q′ m′) (mul-le-mul h (suc-le-suc (powers-le q q′ m m′ h (omega arith))))
+
+-- the arrangements do too, and are no more than the powers
 pub arrangements-le : (q q′ m m′ : ℕ) → q ≤ q′ → m ≤ m′ → arrangements q m ≤ arrangements q′ m′
 arrangements-le q q′ zero m′ h g = omega arith
 arrangements-le q q′ (suc m) zero h g = absurd (omega arith)

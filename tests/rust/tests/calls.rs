@@ -1,5 +1,6 @@
 //! Document 01's trial rows with the counts of F-3, every refusal with its values, and told words that are too few.
 use code_tree::{ceiling, fresh, insert, query, raw, remove, Cover, Refusal, WITNESS_WORDS};
+use model::limits::{KEPT, LITERALS};
 
 const P3: u16 = 0x9801;
 const P2: u16 = 0x9001;
@@ -312,12 +313,13 @@ fn ceilings() {
 // Each sum by its closed form, which the model does not use: for q over 1, (q^(m + 1) - q) / (q - 1).
 #[test]
 fn ceilings_in_closed_form() {
-    for (q, m) in (1..=8_u64).flat_map(|q| (1..=8_u64).map(move |m| (q, m))) {
+    let literals = || 1..=LITERALS as u64;
+    for (q, m) in literals().flat_map(|q| literals().map(move |m| (q, m))) {
         let sum = match q {
             1 => m,
             _ => (q.pow(m as u32 + 1) - q) / (q - 1),
         };
-        for kept in [0, 1, 2, 1023, 1024] {
+        for kept in [0, 1, 2, KEPT as u64 - 1, KEPT as u64] {
             assert_eq!(ceiling(kept, q, m), Ok(kept * sum));
         }
     }

@@ -2,7 +2,7 @@
 use native.Mathlib.Omega.{arith}
 use borrow.Author.Needs.{needs}
 use Rattle.walk.proofs.Laws.{full-budget}
-use Rattle.ceiling.proofs.Table.{all-right}
+use Rattle.ceiling.proofs.Table.{sums-by-test}
 use Rattle.ceiling.proofs.Sizes.{not-sized, sized, sized-full}
 use Rattle.ceiling.proofs.ceiling.Statement.{statement}
 use Rattle.ceiling.proofs.ceiling.Tie as tie
@@ -23,7 +23,7 @@ returns-5 : tie.Need-returns-5
 returns-5 c = let a = c .before .before .before .before .before .args in not-sized (a .kept) (a .q) (a .m) (λ s. omega arith)
 
 sum-requires : tie.Need-sum-requires
-sum-requires c κs = (all-right _ tt, search needs, search needs, search needs, search needs)
+sum-requires c κs = (sums-by-test _ tt, search needs, search needs, search needs, search needs)
 
 mul-highest : tie.Need-mul-highest
 mul-highest c =
