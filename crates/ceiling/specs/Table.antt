@@ -15,7 +15,7 @@ Table = List (List ℕ)
 abbrev pub entry : Table → (q m : ℕ) → ℕ
 entry table q m = getD (getD table (q - 1) []) (m - 1) 0
 
--- each entry is the formula's sum for its q and m
+-- each entry is the formula's sum for its q and m (a record, by which the checker finds the table where the code asks for it)
 pub record Sums (table : Table) : Type 0 where
   pub at : (q m : ℕ) → 1 ≤ q → q ≤ maxLiterals → 1 ≤ m → m ≤ maxLiterals → entry table q m ≡ powers q m
 

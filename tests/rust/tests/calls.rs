@@ -1,4 +1,4 @@
-//! Document 01's trial rows with the counts of F-3, every refusal with its values, and told words that are too few.
+//! Document 01's trial rows with the counts of F-3, every refusal with its values, the ceilings, and told words that are too few.
 use code_tree::{ceiling, fresh, insert, query, raw, remove, Cover, Refusal, WITNESS_WORDS};
 use model::limits::{KEPT, LITERALS};
 
