@@ -15,13 +15,14 @@
  * (proved), so at most 320 calls nest, of 224 bytes each (measured), and the query itself takes 0.6 KiB. Tree
  * words from elsewhere nest up to 32,772 calls: 7,176 KiB. The other functions take less than 8 KiB.
  *
- * Each function returns 0, or the code of the first refusal that applies; a refusal changes no word of a tree
- * or a witness. `told` gets the values of an answer, also of a refusal, in its first words, as far as its t
+ * Each function returns 0, or the code of the first refusal that applies; a refusal changes no word of a tree,
+ * a witness or an output. `told` gets the values of an answer, also of a refusal, in its first words, as far as its t
  * words reach; three words hold every answer. Words for which there is no value stay as they were.
  *
  *   code                    told       refused by
- *    1  bad slice                      fresh, insert, remove, query: n not 2 to 65,536
- *    2  broken                         insert, remove: the tree's words are not well laid (docs/REFERENCE.md)
+ *    1  bad slice                      all but ceiling: n not 2 to 65,536
+ *    2  broken                         insert, remove, read back, check: the tree's words are not well laid
+ *                                      (docs/REFERENCE.md)
  *                                      query: the header has more than n - 1 words used, or the walk meets a
  *                                      word with an operation over 8 or a wrong extent, or a step that it
  *                                      can't take; it does not look at words that it does not meet
@@ -31,11 +32,14 @@
  *    6  short witness                  query: k under 72
  *    7  number taken                   insert
  *    8  held                number     insert: a variant is kept, under this number
- *    9  no such number                 remove
+ *    9  no such number                 remove, read back
  *   10  list full                      insert: 1,024 clauses are kept
  *   11  no room                        insert: the tree would need more than n - 1 instruction words
  *   12  spent               count      query: the walk would take one candidate more than the budget
  *   13  bad size                       ceiling: kept over 1,024, or q or m not 1 to 8
+ *   14  no such tree                   read back, check: well laid, but not the tree of some clauses, or of none,
+ *                                      under different numbers
+ *   15  short output                   read back: k under 64
  */
 #ifndef CODE_TREE_H
 #define CODE_TREE_H
@@ -47,7 +51,8 @@
 extern "C" {
 #endif
 
-/* Limits: words of a tree, words and literals of a clause, kept clauses, words of a witness. */
+/* Limits: words of a tree, words and literals of a clause, kept clauses, words of a witness. An output has
+   CT_CLAUSE_WORDS words or more. */
 #define CT_TREE_LEAST 2
 #define CT_TREE_MOST 65536
 #define CT_CLAUSE_WORDS 64
@@ -69,7 +74,9 @@ enum {
     CT_LIST_FULL = 10,
     CT_NO_ROOM = 11,
     CT_SPENT = 12,
-    CT_BAD_SIZE = 13
+    CT_BAD_SIZE = 13,
+    CT_NO_SUCH_TREE = 14,
+    CT_SHORT_OUTPUT = 15
 };
 
 /*
@@ -120,6 +127,29 @@ uint64_t ct_query(const uint64_t *tree, size_t n, const uint16_t *clause, size_t
  * Returns 0, or 13. told: with 0 the ceiling; else nothing.
  */
 uint64_t ct_ceiling(uint64_t kept, uint64_t q, uint64_t m, uint64_t *told, size_t t);
+
+/*
+ * Checks a tree of n words, say one that was saved.
+ * Returns 0 exactly if it is the tree of some clauses, at most 1,024, or of none, under different numbers: each
+ * path to a Success is the sequence that an accepted clause compiles to. Or 1, 2 or 14.
+ * A tree that these calls have made returns 0. And a tree that returns 0 is word for word the one that ct_fresh
+ * and the insertion of its clauses make, so that all that is said of trees made by these calls holds of it, and
+ * of what further calls make of it.
+ * One pass over the words, one reading and one compiling for each kept clause, and the numbers compared with
+ * each other, at most 523,776 times.
+ */
+uint64_t ct_check(const uint64_t *tree, size_t n);
+
+/*
+ * Reads the clause with a number back out of a tree of n words, into out (k words, at least 64).
+ * Returns 0, or 1, 15, 2, 14 or 9 (asked for in this order): the whole tree is checked first, as by ct_check.
+ * told: with 0 the clause's length; else nothing.
+ * out, only with 0: the clause's words, its variables numbered from 0 by their first appearance; its other words
+ * stay as they were. Compiled, the clause gives the very path to its Success: it is the clause that was inserted,
+ * up to the names of its variables, and word for word if they were so numbered.
+ */
+uint64_t ct_read_back(const uint64_t *tree, size_t n, uint32_t number, uint16_t *out, size_t k,
+                      uint64_t *told, size_t t);
 
 #ifdef __cplusplus
 }

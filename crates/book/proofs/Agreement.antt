@@ -22,7 +22,7 @@ use Rattle.clause.proofs.Literals.{accepted}
 use Rattle.clause.proofs.Order.{subsumes-refl, subsumes-trans}
 use Rattle.tree.proofs.Mirror.{build-same}
 use Rattle.walk.proofs.Bound.{enough-full}
-use Rattle.walk.proofs.Kept.{kept-pair, pair-kept}
+use Rattle.tree.proofs.Pairs.{kept-pair, pair-kept}
 use Rattle.walk.proofs.Covering.{fits-decided}
 use Rattle.book.proofs.Holds.{Holds, holds-tree, holds-enough}
 use Rattle.book.proofs.Reach.{laid, reach, answered, walked}
@@ -61,7 +61,7 @@ module _ (T : List ℕ) (xs : List Call) (R : Run T xs) where
     is-covered : IsCovered (sliceOf T xs) d fullBudget W ↔ Subsumed (bookOf (length T) xs) d
     is-covered = at-full .decides (full d D)
 
-  alone : Alone T xs
+  alone : Alone (sliceOf T xs) (bookOf (length T) xs)
   alone = record { enough = enough; decided = decided; walked = walked T xs R }
 
 -- ---- two lists
@@ -149,9 +149,12 @@ demand3 S xs T ys R Q =
     record {
       reached-one = reach S xs R;
       reached-other = reach T ys Q;
-      one = alone S xs R;
-      other = alone T ys Q;
-      agree =
-          (λ a. (agreed-under S xs T ys R Q a, agreed-under T ys S xs Q R (flip S xs T ys R Q a)), λ u. under-agreed S xs T ys R Q (u .0) (u .1));
-      same = same S xs T ys R Q;
+      both =
+          record {
+            one = alone S xs R;
+            other = alone T ys Q;
+            agree =
+                (λ a. (agreed-under S xs T ys R Q a, agreed-under T ys S xs Q R (flip S xs T ys R Q a)), λ u. under-agreed S xs T ys R Q (u .0) (u .1));
+            same = same S xs T ys R Q;
+          };
     }

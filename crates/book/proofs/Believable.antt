@@ -3,6 +3,7 @@ use Rattle.clause.proofs.Accepted.{clause-laws}
 use Rattle.clause.proofs.Order.{subsumes-refl, subsumes-trans, subsumes-fewer}
 use Rattle.machine.proofs.Matching.{matching, variants-subsume}
 use Rattle.tree.proofs.Laws.{tree-laws}
+use Rattle.readback.proofs.Laws.{readback-laws}
 use Rattle.walk.proofs.Laws.{walk-laws, full-budget, enough-budget}
 use Rattle.book.specs.Believable.{Believable}
 use Rattle.book.proofs.Laws.{book-laws}
@@ -18,6 +19,7 @@ believable =
       variants = variants-subsume;
       matching = matching;
       trees = tree-laws;
+      readback = readback-laws;
       walks = walk-laws;
       budget = full-budget;
       enough = enough-budget;

@@ -11,7 +11,7 @@ use Rattle.machine.specs.Instr.{key}
 use Rattle.machine.specs.Compile.{Variants, keys}
 use Rattle.tree.specs.Changes.{numbered, varied}
 use Rattle.tree.specs.Refusal.{codeOf, valuesOf}
-use Rattle.book.specs.Table.{Title, ready, kept, removed, is-covered, is-not-covered, returned, code, saidCall, saidQuery, saidCeiling}
+use Rattle.book.specs.Table.{Title, ready, kept, removed, is-covered, is-not-covered, returned, passed, read, code, saidCall, saidQuery, saidCeiling, saidCheck, saidRead}
 use Rattle.book.specs.Laws.{BookLaws}
 use Rattle.clause.proofs.Lists.{all-mem}
 use Rattle.clause.proofs.Literals.{accepted}
@@ -19,18 +19,22 @@ use Rattle.machine.proofs.Keys.{keys-same}
 use Rattle.machine.proofs.Codes.{sequence-plain}
 use Rattle.book.proofs.Beginnings.{counted}
 use Rattle.tree.proofs.Changes.{kept-numbered, numbered-kept, kept-varied, varied-kept}
-use Rattle.walk.proofs.Kept.{kept-pair, pair-kept}
+use Rattle.tree.proofs.Pairs.{kept-pair, pair-kept}
 use Rattle.clause.specs.declared.Fault.the-variants.{BadLength, Bad, Ninth}
 use Rattle.tree.specs.Entries.{Pair, Sound, entry}
 use Rattle.clause.specs.Word.{Words}
 use Rattle.tree.specs.declared.Refusal.{Refusal}
-use Rattle.tree.specs.declared.Refusal.the-variants.{BadSlice, Broken, ShortWitness, NumberTaken, NoSuchNumber, ListFull, NoRoom, BadSize, BadClause, Held, Spent}
+use Rattle.tree.specs.declared.Refusal.the-variants.{BadSlice, Broken, ShortWitness, NumberTaken, NoSuchNumber, ListFull, NoRoom, BadSize, BadClause, Held, Spent, NoSuchTree, ShortOutput}
 use Rattle.walk.specs.declared.CeilingAnswer.{CeilingAnswer}
 use Rattle.walk.specs.declared.CeilingAnswer.the-variants.{NoCeiling, Ceiling}
 use Rattle.walk.specs.declared.QueryAnswer.{QueryAnswer}
 use Rattle.walk.specs.declared.QueryAnswer.the-variants.{Unanswered, Covered, NotCovered}
 use Rattle.tree.specs.declared.CallAnswer.{CallAnswer}
 use Rattle.tree.specs.declared.CallAnswer.the-variants.{Refused, Ready, Kept, Removed}
+use Rattle.readback.specs.declared.CheckAnswer.{CheckAnswer}
+use Rattle.readback.specs.declared.CheckAnswer.the-variants.{Failed, Passed}
+use Rattle.readback.specs.declared.ReadAnswer.{ReadAnswer}
+use Rattle.readback.specs.declared.ReadAnswer.the-variants.{Unread, Read}
 
 number : (n : ℕ) (K : List Pair) → (numbered n (map entry K) ≡ true) ↔ ((p : Pair) × List·Memᴰ p K × (p .number ≡ n))
 number n K = (
@@ -59,7 +63,7 @@ refusalOf c vs =
     let v : ℕ = getD vs 0 0 in
     getD (
     BadSize ∷ BadSlice ∷ Broken ∷ BadClause BadLength ∷ BadClause (Bad v) ∷ BadClause (Ninth v) ∷ ShortWitness ∷ NumberTaken ∷ Held v ∷ NoSuchNumber
-    ∷ ListFull ∷ NoRoom ∷ Spent v ∷ []
+    ∷ ListFull ∷ NoRoom ∷ Spent v ∷ BadSize ∷ NoSuchTree ∷ ShortOutput ∷ []
     ) c BadSize
 
 refusal-back : (r : Refusal) → refusalOf (codeOf r) (valuesOf r) ≡ r
@@ -77,6 +81,8 @@ refusal-back ListFull = refl
 refusal-back NoRoom = refl
 refusal-back (Spent c) = refl
 refusal-back BadSize = refl
+refusal-back NoSuchTree = refl
+refusal-back ShortOutput = refl
 
 callAs : Title → List ℕ → CallAnswer
 callAs ready vs = Ready
@@ -85,6 +91,8 @@ callAs removed vs = Removed
 callAs is-covered vs = Ready
 callAs is-not-covered vs = Ready
 callAs returned vs = Ready
+callAs passed vs = Ready
+callAs read vs = Ready
 callAs (code n) vs = Refused (refusalOf n vs)
 
 call-back : (a : CallAnswer) → callAs (saidCall a .title) (saidCall a .values) ≡ a
@@ -101,6 +109,8 @@ queryAs removed vs = NotCovered 0
 queryAs is-covered vs = Covered (getD vs 0 0) (getD vs 1 0)
 queryAs is-not-covered vs = NotCovered (getD vs 0 0)
 queryAs returned vs = NotCovered 0
+queryAs passed vs = NotCovered 0
+queryAs read vs = NotCovered 0
 queryAs (code n) vs = Unanswered (refusalOf n vs)
 
 query-back : (a : QueryAnswer) → queryAs (saidQuery a .title) (saidQuery a .values) ≡ a
@@ -116,6 +126,8 @@ ceilingAs removed vs = Ceiling 0
 ceilingAs is-covered vs = Ceiling 0
 ceilingAs is-not-covered vs = Ceiling 0
 ceilingAs returned vs = Ceiling (getD vs 0 0)
+ceilingAs passed vs = Ceiling 0
+ceilingAs read vs = Ceiling 0
 ceilingAs (code n) vs = NoCeiling (refusalOf n vs)
 
 ceiling-back : (a : CeilingAnswer) → ceilingAs (saidCeiling a .title) (saidCeiling a .values) ≡ a
@@ -123,12 +135,46 @@ unfolding ceilingAs
 ceiling-back (NoCeiling r) = ap NoCeiling (refusal-back r)
 ceiling-back (Ceiling n) = refl
 
+checkAs : Title → List ℕ → CheckAnswer
+checkAs ready vs = Passed
+checkAs kept vs = Passed
+checkAs removed vs = Passed
+checkAs is-covered vs = Passed
+checkAs is-not-covered vs = Passed
+checkAs returned vs = Passed
+checkAs passed vs = Passed
+checkAs read vs = Passed
+checkAs (code n) vs = Failed (refusalOf n vs)
+
+check-back : (a : CheckAnswer) → checkAs (saidCheck a .title) (saidCheck a .values) ≡ a
+unfolding checkAs
+check-back (Failed r) = ap Failed (refusal-back r)
+check-back Passed = refl
+
+readAs : Title → List ℕ → ReadAnswer
+readAs ready vs = Read 0
+readAs kept vs = Read 0
+readAs removed vs = Read 0
+readAs is-covered vs = Read 0
+readAs is-not-covered vs = Read 0
+readAs returned vs = Read 0
+readAs passed vs = Read 0
+readAs read vs = Read (getD vs 0 0)
+readAs (code n) vs = Unread (refusalOf n vs)
+
+read-back : (a : ReadAnswer) → readAs (saidRead a .title) (saidRead a .values) ≡ a
+unfolding readAs
+read-back (Unread r) = ap Unread (refusal-back r)
+read-back (Read n) = refl
+
 pub book-laws : BookLaws
 book-laws =
     record {
       call = λ a b e. sym (call-back a) ∙ ap (λ s. callAs (s .title) (s .values)) e ∙ call-back b;
       query = λ a b e. sym (query-back a) ∙ ap (λ s. queryAs (s .title) (s .values)) e ∙ query-back b;
       ceiling = λ a b e. sym (ceiling-back a) ∙ ap (λ s. ceilingAs (s .title) (s .values)) e ∙ ceiling-back b;
+      check = λ a b e. sym (check-back a) ∙ ap (λ s. checkAs (s .title) (s .values)) e ∙ check-back b;
+      read = λ a b e. sym (read-back a) ∙ ap (λ s. readAs (s .title) (s .values)) e ∙ read-back b;
       number = number;
       variant = variant;
       counted = counted;

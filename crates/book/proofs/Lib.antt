@@ -3,6 +3,7 @@ pub mod Holds
 pub mod Step
 pub mod Reach
 pub mod Agreement
+pub mod Saved
 pub mod Exact
 pub mod Trials
 mod Beginnings

@@ -23,7 +23,7 @@ use Rattle.book.specs.Claims.{Run, Reached, Reach, Demand2}
 use Rattle.clause.proofs.Lists.{all-mem}
 use Rattle.clause.proofs.Literals.{accepted}
 use Rattle.machine.proofs.Length.{sequence-length}
-use Rattle.walk.proofs.Kept.{kept-pair}
+use Rattle.tree.proofs.Pairs.{kept-pair}
 use Rattle.walk.proofs.Covering.{query-tree, answers}
 use Rattle.book.proofs.Holds.{Holds, holds-empty, fresh-layout, holds-tree, holds-leaves, holds-numbers, holds-clauses}
 use Rattle.book.proofs.Step.{Steps, steps}
@@ -52,10 +52,10 @@ short-path {K = K} h cs n p =
     rw (e, length-map (sequence (q .clause)) key) l
 
 -- a slice on which fresh has answered "ready"
-record Usable (T : List ℕ) : Type 0 where
-  low : 2 ≤ length T
-  high : length T ≤ 65_536
-  slice : fresh T .slice ≡ layout (length T) empty
+pub record Usable (T : List ℕ) : Type 0 where
+  pub low : 2 ≤ length T
+  pub high : length T ≤ 65_536
+  pub slice : fresh T .slice ≡ layout (length T) empty
 
 ready : (T : List ℕ) → fresh T .answer ≡ Ready → Usable T
 unfolding fresh
@@ -69,7 +69,7 @@ ready T e = go (sized T) refl e
     go false u v = apart cc
 
 module _ (T : List ℕ) (xs : List Call) (R : Run T xs) where
-  start : Usable T
+  pub start : Usable T
   start = ready T (R .ready)
 
   pub laid : Laid (length T) (bookOf (length T) xs) (sliceOf T xs)

@@ -1,6 +1,6 @@
 -- Demand 1 holds: each call by the cases of its rows.
 use mathlib.Core.Path.{_≡_, refl}
-use mathlib.Core.Bool.{Bool, true, false, _&&_, and-eq-true-iff}
+use mathlib.Core.Bool.{Bool, true, false, not, _&&_, and-eq-true-iff}
 use mathlib.Core.Option.{Option, none, some}
 use mathlib.Core.List.{List, [], _∷_}
 use Prim.Native.Nat.{ℕ, _-_, _≤_}
@@ -8,7 +8,7 @@ use native.Mathlib.Omega.{arith}
 use lib.Dec.{leb, ltb}
 use lib.ListN.{length, getD, replicate}
 use borrow.Author.Tests.{leb-true, leb-false, lt-ltb, le-ltb}
-use Rattle.clause.specs.Clause.{shape, maxLiterals}
+use Rattle.clause.specs.Clause.{shape, maxWords, maxLiterals}
 use Rattle.machine.specs.Machine.{State}
 use Rattle.tree.specs.Forest.{size, leaves, layout, ins, del, find, holder}
 use Rattle.tree.specs.Laid.{maxKept, sized, usedOf, wellLaid, decode}
@@ -17,8 +17,11 @@ use Rattle.walk.specs.Walk.{Answer, covered, notCovered, spent, broken}
 use Rattle.walk.specs.Ceiling.{ceiling, ceilingCall}
 use Rattle.walk.specs.Query.{witnessWords, walkSlice, query}
 use Rattle.tree.specs.Calls.{fresh, insertion, removal}
-use Rattle.book.specs.Table.{ready, kept, removed, returned, saidCeiling, called, asked}
-use Rattle.book.specs.Refusals.{firstOf, freshRows, ceilingRows, insertRows, removeRows, queryRows, finished, unlessRefused, unlessSaid, walkResult}
+use Rattle.readback.specs.Readback.{clauseAt}
+use Rattle.readback.specs.Saved.{ofClauses}
+use Rattle.readback.specs.Calls.{check, given, readBack}
+use Rattle.book.specs.Table.{ready, kept, removed, returned, passed, saidCeiling, saidCheck, called, asked, givenBack}
+use Rattle.book.specs.Refusals.{firstOf, freshRows, ceilingRows, insertRows, removeRows, queryRows, checkRows, readRows, finished, unlessRefused, unlessSaid, walkResult, readResult}
 use Rattle.book.specs.Claims.{Demand1}
 use Rattle.clause.specs.declared.Fault.the-variants.{BadLength, Bad, Ninth}
 use Rattle.clause.specs.declared.Shape.{Shape}
@@ -94,6 +97,33 @@ bounds : (k q m : ℕ) (s : Bool) → (leb k maxKept && leb 1 q && leb q maxLite
 bounds k q m true e = rw e
 bounds k q m false e = rw e
 
+checks : (T : List ℕ) (s w c : Bool) → sized T ≡ s → wellLaid T ≡ w → ofClauses (decode T) ≡ c
+    → saidCheck (check T) ≡ unlessSaid (firstOf (checkRows T)) (record { title = passed; values = [] })
+unfolding check
+checks T false w c es ew ec = rw es
+checks T true false c es ew ec = rw (es, ew)
+checks T true true false es ew ec = rw (es, ew, ec)
+checks T true true true es ew ec = rw (es, ew, ec)
+
+-- too short an output, as the call tests it and as the table has it
+short-test : (a b : ℕ) → ltb a b ≡ not (leb b a)
+short-test a b = go (leb b a) refl
+  where
+    go : (t : Bool) → leb b a ≡ t → ltb a b ≡ not t
+    go true e = le-ltb a b (leb-true b a e)
+    go false e = lt-ltb a b (leb-false b a e)
+
+reads : (T : List ℕ) (n : ℕ) (W : List ℕ) (s l w c : Bool) (o : Option (List ℕ))
+    → sized T ≡ s → leb maxWords (length W) ≡ l → wellLaid T ≡ w → ofClauses (decode T) ≡ c → find n (decode T) ≡ o
+    → givenBack (readBack T n W) ≡ unlessRefused (firstOf (readRows T n W)) W (readResult (clauseAt (find n (decode T))) W)
+unfolding readBack given
+reads T n W false l w c o es el ew ec eo = rw es
+reads T n W true false w c o es el ew ec eo = rw (es, short-test (length W) maxWords, el)
+reads T n W true true false c o es el ew ec eo = rw (es, short-test (length W) maxWords, el, ew)
+reads T n W true true true false o es el ew ec eo = rw (es, short-test (length W) maxWords, el, ew, ec)
+reads T n W true true true true none es el ew ec eo = rw (es, short-test (length W) maxWords, el, ew, ec, eo)
+reads T n W true true true true (some p) es el ew ec eo = rw (es, short-test (length W) maxWords, el, ew, ec, eo)
+
 -- Demand 1
 pub demand1 : Demand1
 demand1 =
@@ -108,4 +138,7 @@ demand1 =
       asking =
           λ T d b W. asks T d b W (sized T) (ltb (length W) witnessWords) (ltb (length T - 1) (usedOf (getD T 0 0))) (shape d) (walkSlice T d b) refl refl refl refl refl;
       bounding = λ k q m. bounds k q m (leb k maxKept && leb 1 q && leb q maxLiterals && leb 1 m && leb m maxLiterals) refl;
+      checking = λ T. checks T (sized T) (wellLaid T) (ofClauses (decode T)) refl refl refl;
+      reading =
+          λ T n W. reads T n W (sized T) (leb maxWords (length W)) (wellLaid T) (ofClauses (decode T)) (find n (decode T)) refl refl refl refl refl;
     }

@@ -8,6 +8,7 @@ use Rattle.clause.specs.Accepted.{ClauseLaws}
 use Rattle.machine.specs.Compile.{Variants}
 use Rattle.machine.specs.Matching.{Matching}
 use Rattle.tree.specs.Laws.{TreeLaws}
+use Rattle.readback.specs.Laws.{ReadbackLaws}
 use Rattle.walk.specs.Ceiling.{FullBudget, EnoughBudget}
 use Rattle.walk.specs.Laws.{WalkLaws}
 use Rattle.book.specs.Laws.{BookLaws}
@@ -25,6 +26,7 @@ pub record Believable : Type 0 where
   pub variants : (c d : List ℕ) → Accepted c → Accepted d → Variants c d → Subsumes c d
   pub matching : Matching
   pub trees : TreeLaws
+  pub readback : ReadbackLaws
   pub walks : WalkLaws
   pub budget : FullBudget
   pub enough : EnoughBudget

@@ -10,7 +10,7 @@ use Rattle.clause.specs.Clause.{Accepted, literals, Subsumes}
 use Rattle.machine.specs.Compile.{Variants, keys}
 use Rattle.machine.specs.Machine.{initial}
 use Rattle.machine.specs.Compiled.{maxKeys}
-use Rattle.tree.specs.Forest.{layout, Has, ins, del}
+use Rattle.tree.specs.Forest.{layout, Has, ins, del, find}
 use Rattle.tree.specs.Laid.{maxKept, decode}
 use Rattle.tree.specs.Entries.{Mirrors, Pair, entry}
 use Rattle.walk.specs.Walk.{upTo, walk}
@@ -18,8 +18,10 @@ use Rattle.walk.specs.Ceiling.{ceiling, fullBudget, enoughBudget, ceilingCall}
 use Rattle.walk.specs.Query.{machine, witnessWords, withShown, answerBy, walkSlice, query}
 use Rattle.walk.specs.Covering.{candidates, Units, IsCovered, IsNotCovered, IsSpent, Answers}
 use Rattle.tree.specs.Calls.{fresh, insertion, removal}
-use Rattle.book.specs.Table.{ready, kept, removed, returned, saidCeiling, called, asked}
-use Rattle.book.specs.Refusals.{firstOf, freshRows, ceilingRows, insertRows, removeRows, queryRows, finished, unlessRefused, unlessSaid, walkResult}
+use Rattle.readback.specs.Readback.{clauseAt}
+use Rattle.readback.specs.Calls.{check, readBack}
+use Rattle.book.specs.Table.{ready, kept, removed, returned, passed, saidCeiling, saidCheck, called, asked, givenBack}
+use Rattle.book.specs.Refusals.{firstOf, freshRows, ceilingRows, insertRows, removeRows, queryRows, checkRows, readRows, finished, unlessRefused, unlessSaid, walkResult, readResult}
 use Rattle.book.specs.Book.{Call, Fit, AllFit, call, done, sliceOf, bookStep, bookOf, treeOf}
 use Rattle.clause.specs.Word.{Words}
 use Rattle.tree.specs.declared.CallAnswer.the-variants.{Ready}
@@ -37,6 +39,10 @@ pub record Demand1 : Type 0 where
       → asked (query T d b W) ≡ unlessRefused (firstOf (queryRows T d W)) W (walkResult b W (walkSlice T d b))
   pub bounding : (k q m : ℕ)
       → saidCeiling (ceilingCall k q m) ≡ unlessSaid (firstOf (ceilingRows k q m)) (record { title = returned; values = ceiling k q m ∷ [] })
+  pub checking : (T : List ℕ)
+      → saidCheck (check T) ≡ unlessSaid (firstOf (checkRows T)) (record { title = passed; values = [] })
+  pub reading : (T : List ℕ) (n : ℕ) (W : List ℕ)
+      → givenBack (readBack T n W) ≡ unlessRefused (firstOf (readRows T n W)) W (readResult (clauseAt (find n (decode T))) W)
 
 -- a list of calls on a slice on which fresh has answered "ready"
 pub record Run (T : List ℕ) (xs : List Call) : Type 0 where
@@ -83,32 +89,35 @@ pub record Same (S T d : List ℕ) (b : ℕ) : Type 0 where
   pub left : (U : List ℕ) → witnessWords ≤ length U → query S d b U .witness ≡ withShown words U
   pub right : (W : List ℕ) → witnessWords ≤ length W → query T d b W .witness ≡ withShown words W
 
--- what is claimed of one list's queries: how many candidates they take, what they answer at the full budget, and that they are the walk's
-pub record Alone (T : List ℕ) (xs : List Call) : Type 0 where
+-- what is claimed of the queries on a slice T where the pairs K are kept: how many candidates they take, what they answer at the full budget, and that
+-- they are the walk's
+pub record Alone (T : List ℕ) (K : List Pair) : Type 0 where
   -- no accepted query takes more candidates than `enoughBudget`, which is less than the full one
-  pub enough : (d : List ℕ) → Accepted d → candidates (treeOf (bookOf (length T) xs)) d ≤ enoughBudget
+  pub enough : (d : List ℕ) → Accepted d → candidates (treeOf K) d ≤ enoughBudget
   -- at the full budget every accepted query is answered covered or not covered
-  pub decided : (d : List ℕ) → Accepted d → (W : List ℕ) → witnessWords ≤ length W
-      → IsCovered (sliceOf T xs) d fullBudget W ⊎ IsNotCovered (sliceOf T xs) d fullBudget W
+  pub decided : (d : List ℕ) → Accepted d → (W : List ℕ) → witnessWords ≤ length W → IsCovered T d fullBudget W ⊎ IsNotCovered T d fullBudget W
   -- the answer is that of the walk over the tree of the kept clauses
   pub walked :
       (d : List ℕ) → Accepted d → (b : ℕ) (W : List ℕ) → witnessWords ≤ length W
-      → query (sliceOf T xs) d b W ≡ answerBy b W (walk (machine d) (upTo b) (treeOf (bookOf (length T) xs)) initial 0)
+      → query T d b W ≡ answerBy b W (walk (machine d) (upTo b) (treeOf K) initial 0)
+
+-- what is claimed of the queries on two slices S and T, where the pairs K and L are kept
+pub record Both (S : List ℕ) (K : List Pair) (T : List ℕ) (L : List Pair) : Type 0 where
+  pub one : Alone S K
+  pub other : Alone T L
+  -- at the full budget they agree on every accepted query exactly if each clause kept by either is subsumed by one kept by the other
+  pub agree :
+      ((d : List ℕ) → Accepted d → Words d → (U W : List ℕ) → witnessWords ≤ length U → witnessWords ≤ length W
+      → IsCovered S d fullBudget U ↔ IsCovered T d fullBudget W)
+      ↔ (Under K L × Under L K)
+  -- with the same clauses up to variable names under the same numbers, every answer is the same at every budget
+  pub same : Renamed K L → Renamed L K → (d : List ℕ) → Accepted d → (b : ℕ) → Same S T d b
 
 -- two lists of calls
 pub record Together (S : List ℕ) (xs : List Call) (T : List ℕ) (ys : List Call) : Type 0 where
   pub reached-one : Reached S xs
   pub reached-other : Reached T ys
-  pub one : Alone S xs
-  pub other : Alone T ys
-  -- at the full budget they agree on every accepted query exactly if each clause kept by either is subsumed by one kept by the other
-  pub agree :
-      ((d : List ℕ) → Accepted d → Words d → (U W : List ℕ) → witnessWords ≤ length U → witnessWords ≤ length W
-      → IsCovered (sliceOf S xs) d fullBudget U ↔ IsCovered (sliceOf T ys) d fullBudget W)
-      ↔ (Under (bookOf (length S) xs) (bookOf (length T) ys) × Under (bookOf (length T) ys) (bookOf (length S) xs))
-  -- with the same clauses up to variable names under the same numbers, every answer is the same at every budget
-  pub same : Renamed (bookOf (length S) xs) (bookOf (length T) ys) → Renamed (bookOf (length T) ys) (bookOf (length S) xs)
-      → (d : List ℕ) → Accepted d → (b : ℕ) → Same (sliceOf S xs) (sliceOf T ys) d b
+  pub both : Both (sliceOf S xs) (bookOf (length S) xs) (sliceOf T ys) (bookOf (length T) ys)
 
 -- Demand 3
 abbrev pub Demand3 : Type 0

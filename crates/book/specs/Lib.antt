@@ -3,6 +3,7 @@ pub mod Table
 pub mod Refusals
 pub mod Encoding
 pub mod Claims
+pub mod Saved
 pub mod Trials
 pub mod Readings
 pub mod Laws

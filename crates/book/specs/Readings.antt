@@ -1,24 +1,28 @@
 -- The readings taken where the documents leave room, each on a small input; and counts with units kept.
 use mathlib.Core.Path.{_≡_}
 use mathlib.Core.List.{List, [], _∷_, _++_}
-use Prim.Native.Nat.{ℕ}
+use Prim.Native.Nat.{ℕ, zero, suc, _+_, _*_}
 use lib.ListN.{length, replicate}
-use Rattle.clause.specs.Clause.{shape}
+use Rattle.clause.specs.Clause.{shape, maxWords}
 use Rattle.machine.specs.Instr.{Down, Right, Put, Push, Pop, Check, Compare, First, Do, instr}
 use Rattle.machine.specs.Compile.{sequence}
 use Rattle.tree.specs.Forest.{word, headerOf}
 use Rattle.walk.specs.Ceiling.{ceilingCall}
 use Rattle.walk.specs.Query.{witnessWords, query}
 use Rattle.tree.specs.Calls.{insertion, removal}
+use Rattle.readback.specs.Calls.{check, readBack}
 use Rattle.book.specs.Book.{insert, remove, sliceOf}
-use Rattle.book.specs.Trials.{P₃, P₂, P₁, Q₁, f, a, b, x, y, keeping, pxqx, ask}
+use Rattle.book.specs.Trials.{P₃, P₂, P₁, Q₁, f, a, b, x, y, keeping, pxqx, long, ask}
 use Rattle.clause.specs.declared.Shape.the-variants.{Faulty, Whole}
 use Rattle.clause.specs.declared.Fault.the-variants.{BadLength, Bad, Ninth}
-use Rattle.tree.specs.declared.Refusal.the-variants.{Broken, BadClause, ShortWitness, NumberTaken, Held, NoRoom, Spent, BadSize}
+use Rattle.tree.specs.declared.Refusal.the-variants.{BadSlice, Broken, BadClause, ShortWitness, NumberTaken, Held, NoSuchNumber, NoRoom, Spent, BadSize, NoSuchTree, ShortOutput}
 use Rattle.walk.specs.declared.CeilingAnswer.the-variants.{Ceiling, NoCeiling}
 use Rattle.walk.specs.declared.QueryAnswer.the-variants.{Covered, NotCovered, Unanswered}
 use Rattle.walk.specs.declared.QueryAnswer.{QueryAnswer}
-use Rattle.tree.specs.declared.CallAnswer.the-variants.{Refused, Kept}
+use Rattle.tree.specs.declared.CallAnswer.the-variants.{Refused, Kept, Removed}
+use Rattle.readback.specs.declared.CheckAnswer.the-variants.{Failed, Passed}
+use Rattle.readback.specs.declared.ReadAnswer.{ReadAnswer}
+use Rattle.readback.specs.declared.ReadAnswer.the-variants.{Unread, Read}
 
 -- P and Q with no arguments, P with four
 abbrev pub P₀ : ℕ
@@ -156,6 +160,40 @@ calling =
     -- no clause kept; a clause too many and a literal too few at once
     ∷ (ceilingCall 0 1 1 ≡ Ceiling 0) ∷ (ceilingCall 1_025 0 1 ≡ NoCeiling BadSize) ∷ []
 
+-- the tree of P under m and Q under n
+abbrev pub two : (m n : ℕ) → List ℕ
+two m n = sliceWith 2 (at 1 0 5 ∷ at 7 P₀ 2 ∷ at 0 m 1 ∷ at 7 Q₀ 2 ∷ at 0 n 1 ∷ [])
+
+-- the instruction words of n literals P, under number 1
+abbrev pub pile : ℕ → List ℕ
+pile zero = at 0 1 1 ∷ []
+pile (suc n) = at 1 0 (2 * n + 3) ∷ at 7 P₀ (2 * n + 2) ∷ pile n
+
+-- the answer of reading a number back into 64 words
+abbrev pub answerBack : (slice : List ℕ) (number : ℕ) → ReadAnswer
+answerBack T n = readBack T n (replicate maxWords 9) .answer
+
+-- checking, and reading back
+abbrev pub saving : List (Type 0)
+saving =
+    -- a short output before a broken header, and after a bad slice; 2 before 14, and 14 before 9
+    (readBack (headerOf 9 0 ∷ 0 ∷ []) 1 (replicate 63 9) .answer ≡ Unread ShortOutput) ∷ (answerBack (headerOf 9 0 ∷ 0 ∷ []) 1 ≡ Unread Broken)
+    ∷ (readBack (0 ∷ []) 1 [] .answer ≡ Unread BadSlice) ∷ (check (sliceWith 2 (at 0 5 1 ∷ [])) ≡ Failed Broken)
+    ∷ (answerBack (sliceWith 1 (at 0 5 1 ∷ [])) 6 ≡ Unread NoSuchTree) ∷ (answerBack (two 1 2) 3 ≡ Unread NoSuchNumber)
+    -- a Success at the top; nine literals, and eight; two equal numbers, of which removal takes the first
+    ∷ (check (sliceWith 1 (at 0 5 1 ∷ [])) ≡ Failed NoSuchTree)
+    ∷ (check (sliceWith 1 (pile 9)) ≡ Failed NoSuchTree) ∷ (check (sliceWith 1 (pile 8)) ≡ Passed)
+    ∷ (check (two 1 1) ≡ Failed NoSuchTree) ∷ (answerBack (two 1 1) 1 ≡ Unread NoSuchTree) ∷ (removal (two 1 1) 1 .answer ≡ Removed)
+    ∷ (check (two 1 2) ≡ Passed)
+    -- paths of no clause: a Check over 16 bits, a Put at a head, a Put of 1 before any other; no clause kept
+    ∷ (check (sliceWith 1 (at 1 0 3 ∷ at 7 0x18001 2 ∷ at 0 1 1 ∷ [])) ≡ Failed NoSuchTree)
+    ∷ (check (sliceWith 1 (at 1 0 3 ∷ at 4 0 2 ∷ at 0 1 1 ∷ [])) ≡ Failed NoSuchTree)
+    ∷ (check (sliceWith 1 (at 1 0 5 ∷ at 7 P₁ 4 ∷ at 2 0 3 ∷ at 4 1 2 ∷ at 0 1 1 ∷ [])) ≡ Failed NoSuchTree)
+    ∷ (check (blank 2) ≡ Passed)
+    -- P(y,x) comes back as P(x,y), P(x,f(y)),P(z,f(f(z))) word for word; the words past the clause are left
+    ∷ (readBack (keeping (insert (P₂ ∷ y ∷ x ∷ []) 1 ∷ [])) 1 (replicate 66 9) ≡ record { answer = Read 3; output = P₂ ∷ x ∷ y ∷ replicate 63 9 })
+    ∷ (readBack (keeping (insert long 1 ∷ [])) 1 (replicate 64 9) ≡ record { answer = Read 9; output = long ++ replicate 55 9 }) ∷ []
+
 -- all of them
 abbrev pub readings : List (Type 0)
-readings = reading ++ (compiling ++ (walking ++ (counting ++ calling)))
+readings = reading ++ (compiling ++ (walking ++ (counting ++ (calling ++ saving))))

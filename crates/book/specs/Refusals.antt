@@ -5,13 +5,15 @@ use mathlib.Core.List.{List, [], _∷_}
 use Prim.Native.Nat.{ℕ, _-_}
 use lib.Dec.{leb, ltb}
 use lib.ListN.{length, getD}
-use Rattle.clause.specs.Clause.{shape, maxLiterals}
+use Rattle.clause.specs.Clause.{shape, maxWords, maxLiterals}
 use Rattle.machine.specs.Machine.{State}
 use Rattle.tree.specs.Forest.{size, leaves, ins, find, holder}
 use Rattle.tree.specs.Laid.{maxKept, sized, usedOf, wellLaid, decode}
 use Rattle.walk.specs.Walk.{Answer, covered, notCovered, spent, broken}
 use Rattle.walk.specs.Query.{witnessWords, shown, withShown}
-use Rattle.book.specs.Table.{Title, Said, is-covered, is-not-covered, code, Result}
+use Rattle.readback.specs.Saved.{ofClauses}
+use Rattle.readback.specs.Calls.{over}
+use Rattle.book.specs.Table.{Title, Said, is-covered, is-not-covered, read, code, Result}
 use Rattle.clause.specs.declared.Fault.the-variants.{BadLength, Bad, Ninth}
 use Rattle.clause.specs.declared.Shape.{Shape}
 use Rattle.clause.specs.declared.Shape.the-variants.{Faulty, Whole}
@@ -81,6 +83,16 @@ abbrev pub queryRows : (slice clause witness : List ℕ) → List (Option Said)
 queryRows T d W =
     when (not (sized T)) 1 ∷ clauseRow (shape d) ∷ when (ltb (length W) witnessWords) 6 ∷ when (ltb (length T - 1) (usedOf (getD T 0 0))) 2 ∷ []
 
+-- check 1, 2, 14
+abbrev pub checkRows : (slice : List ℕ) → List (Option Said)
+checkRows T = when (not (sized T)) 1 ∷ when (not (wellLaid T)) 2 ∷ when (not (ofClauses (decode T))) 14 ∷ []
+
+-- read back 1, 15, 2, 14, 9
+abbrev pub readRows : (slice : List ℕ) (number : ℕ) (output : List ℕ) → List (Option Said)
+readRows T n W =
+    when (not (sized T)) 1 ∷ when (ltb (length W) maxWords) 15 ∷ when (not (wellLaid T)) 2 ∷ when (not (ofClauses (decode T))) 14
+    ∷ missingRow (find n (decode T)) ∷ []
+
 -- ---- what a call comes to
 
 -- a call done: what it answers, without values, and the words afterwards
@@ -104,3 +116,7 @@ walkResult b W (covered n s c) = record { said = record { title = is-covered; va
 walkResult b W (notCovered c) = record { said = record { title = is-not-covered; values = c ∷ [] }; words = W }
 walkResult b W spent = record { said = record { title = code 12; values = b ∷ [] }; words = W }
 walkResult b W broken = record { said = record { title = code 2; values = [] }; words = W }
+
+-- a clause read back: its length, and its words over the first of the output
+abbrev pub readResult : (clause output : List ℕ) → Result
+readResult c W = record { said = record { title = read; values = length c ∷ [] }; words = over c W }

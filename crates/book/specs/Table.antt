@@ -4,6 +4,7 @@ use Prim.Native.Nat.{ℕ}
 use Rattle.tree.specs.Refusal.{codeOf, valuesOf}
 use Rattle.walk.specs.Query.{Asked}
 use Rattle.tree.specs.Calls.{Called}
+use Rattle.readback.specs.Calls.{Given}
 use Rattle.tree.specs.declared.Refusal.{Refusal}
 use Rattle.walk.specs.declared.CeilingAnswer.{CeilingAnswer}
 use Rattle.walk.specs.declared.CeilingAnswer.the-variants.{Ceiling, NoCeiling}
@@ -11,10 +12,14 @@ use Rattle.walk.specs.declared.QueryAnswer.{QueryAnswer}
 use Rattle.walk.specs.declared.QueryAnswer.the-variants.{Covered, NotCovered, Unanswered}
 use Rattle.tree.specs.declared.CallAnswer.{CallAnswer}
 use Rattle.tree.specs.declared.CallAnswer.the-variants.{Refused, Ready, Kept, Removed}
+use Rattle.readback.specs.declared.CheckAnswer.{CheckAnswer}
+use Rattle.readback.specs.declared.CheckAnswer.the-variants.{Failed, Passed}
+use Rattle.readback.specs.declared.ReadAnswer.{ReadAnswer}
+use Rattle.readback.specs.declared.ReadAnswer.the-variants.{Unread, Read}
 
 -- what an answer is called, or its code
 pub data Title : Type 0 where
-  ready kept removed is-covered is-not-covered returned : Title
+  ready kept removed is-covered is-not-covered returned passed read : Title
   code : ℕ → Title
 
 -- an answer: what it is, and its values
@@ -44,6 +49,16 @@ abbrev pub saidCeiling : CeilingAnswer → Said
 saidCeiling (NoCeiling r) = saidRefusal r
 saidCeiling (Ceiling n) = record { title = returned; values = n ∷ [] }
 
+-- those of checking a slice
+abbrev pub saidCheck : CheckAnswer → Said
+saidCheck (Failed r) = saidRefusal r
+saidCheck Passed = record { title = passed; values = [] }
+
+-- those of reading a clause back, with its length
+abbrev pub saidRead : ReadAnswer → Said
+saidRead (Unread r) = saidRefusal r
+saidRead (Read n) = record { title = read; values = n ∷ [] }
+
 -- how a call comes out: what it answers, and the lent words afterwards
 pub record Result : Type 0 where
   pub said : Said
@@ -56,3 +71,7 @@ called r = record { said = saidCall (r .answer); words = r .slice }
 -- of a query, which is lent the witness
 abbrev pub asked : Asked → Result
 asked r = record { said = saidQuery (r .answer); words = r .witness }
+
+-- of reading a clause back, which is lent the output
+abbrev pub givenBack : Given → Result
+givenBack r = record { said = saidRead (r .answer); words = r .output }

@@ -13,7 +13,7 @@ use machine::Sequence;
 use tree::CallAnswer;
 use tree::Refusal;
 
-// The most words of a witness here.
+// The most words of a witness or an output here.
 const WITNESS: usize = 80;
 
 // A number that nearly always is another one where a word is: the words are the digits of a number in base 2^16, and this is its remainder.
@@ -128,6 +128,30 @@ fn run_blank(number: u64, budget: u64, tree: &[u64], clause: &[u16]) {
     run_query(tree, clause, budget, &mut witness[..length]);
 }
 
+// Reads the clause with a number back into an output.
+fn run_read_back(tree: &[u64], number: u64, out: &mut [u16]) {
+    let mut told = [UNTOLD; 1];
+    let returned = codetree::ct_read_back(tree, (number % 0x1_0000_0000) as u32, out, &mut told);
+    write_reply(returned, &told);
+    write_witness(out);
+}
+
+// O: into a blank one of so many words.
+fn run_output(number: u64, clause: u64, tree: &[u64]) {
+    let mut out = [BLANK; WITNESS];
+    let length = number as usize;
+    if length > WITNESS {
+        return;
+    }
+    run_read_back(tree, clause, &mut out[..length]);
+}
+
+// H: checks the slice.
+fn run_check(tree: &[u64]) {
+    let returned = codetree::ct_check(tree);
+    write_reply(returned, &[]);
+}
+
 // N: the ceiling of three words.
 fn run_ceiling(words: &[u64]) {
     if words.len() < 3 {
@@ -146,6 +170,8 @@ pub fn call(letter: u8, number: u64, budget: u64, tree: &mut [u64], clause: &[u1
         b'G' => run_compile(clause),
         b'W' => run_blank(number, budget, tree, clause),
         b'N' => run_ceiling(tree),
+        b'O' => run_output(number, budget, tree),
+        b'H' => run_check(tree),
         b'S' => write_words(tree, 0, 16),
         _ => run_change(letter, number, tree, clause),
     }

@@ -1,6 +1,6 @@
 // What is written of answers and words.
 
-// What a told word and a word of the witness hold before a call, which then mean nothing.
+// What a told word, and a word of a witness or an output, hold before a call, which then mean nothing.
 pub const UNTOLD: u64 = 0xffff_ffff_ffff_ffff;
 
 pub const BLANK: u16 = 0xffff;
@@ -50,7 +50,7 @@ fn write_entry(at: usize, word: u16) {
     write_number(b":", word as u64);
 }
 
-// Writes the words of a witness that a query wrote.
+// Writes the words of a witness or an output that a call wrote.
 pub fn write_witness(witness: &[u16]) {
     let mut i = 0;
     while i < witness.len() {

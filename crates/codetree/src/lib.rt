@@ -1,7 +1,7 @@
 // The C interface: the calls (docs/REFERENCE.md, "Calls") on pointers and lengths (include/code_tree.h).
 ghost use mathlib.Core.Path.{_≡_};
-ghost use Rattle.interface.specs.Calls.{ctFresh, ctInsert, ctRemove, ctQuery, ctCeiling};
-ghost use Rattle.interface.specs.Claims.{CtReach, CtDemand2, CtDemand3, CtExactCount, ToldApart};
+ghost use Rattle.interface.specs.Calls.{ctFresh, ctInsert, ctRemove, ctQuery, ctCeiling, ctReadBack, ctCheck};
+ghost use Rattle.interface.specs.Claims.{CtReach, CtDemand2, CtDemand3, CtExactCount, CtChecked, CtReadsBook, CtSavedIsMade, ToldApart};
 
 // Makes an empty tree of a slice. Returns 0 or 1.
 #[no_mangle]
@@ -54,4 +54,23 @@ pub extern "C" fn ct_ceiling(kept: u64, q: u64, m: u64, told: &mut [u64]) -> u64
     ensures { λ r. ⌜ record { number = r; told = now (told .exit) } ≡ ctCeiling kept q m (now (told .entry)) ⌝ }
 {
     reply::hand_ceiling(ceiling::ceiling(kept, q, m), told)
+}
+
+// Reads the clause with a number back into a slice. Returns 0 or a code; tells the clause's length.
+#[no_mangle]
+pub extern "C" fn ct_read_back(tree: &[u64], number: u32, out: &mut [u16], told: &mut [u64]) -> u64
+    ensures { λ r. ⌜ record { number = r; words = now (out .exit); told = now (told .exit) }
+        ≡ ctReadBack (now (tree .entry)) number (now (out .entry)) (now (told .entry)) ⌝ }
+{
+    reply::hand_read(checking::read_back(tree, number, out), told)
+}
+
+// Checks whether a slice is the tree of some clauses, or of none. Returns 0 or a code.
+// The contract carries what is claimed of saved trees.
+#[no_mangle]
+pub extern "C" fn ct_check(tree: &[u64]) -> u64
+    ensures hands { λ r. ⌜ r ≡ ctCheck (now (tree .entry)) ⌝ }
+    ensures saved { λ _. ⌜ CtChecked × CtReadsBook × CtSavedIsMade ⌝ }
+{
+    reply::hand_check(checking::check(tree))
 }

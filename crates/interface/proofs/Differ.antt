@@ -18,18 +18,24 @@ use Rattle.tree.specs.Changes.{Change, refuse, change, insertInto, removeFrom}
 use Rattle.tree.specs.Calls.{Called, refused, changed, fresh, insertAs, insertion, removal}
 use Rattle.tree.specs.Refusal.{codeOf, valuesOf}
 use Rattle.tree.specs.declared.Refusal.{Refusal}
-use Rattle.tree.specs.declared.Refusal.the-variants.{BadSlice, Broken, BadClause, ShortWitness, NumberTaken, Held, NoSuchNumber, ListFull, NoRoom, Spent, BadSize}
+use Rattle.tree.specs.declared.Refusal.the-variants.{BadSlice, Broken, BadClause, ShortWitness, NumberTaken, Held, NoSuchNumber, ListFull, NoRoom, Spent, BadSize, NoSuchTree, ShortOutput}
 use Rattle.tree.specs.declared.CallAnswer.{CallAnswer}
 use Rattle.tree.specs.declared.CallAnswer.the-variants.{Refused, Ready, Kept, Removed}
+use Rattle.readback.specs.Saved.{ofClauses}
+use Rattle.readback.specs.Calls.{check, readBack}
+use Rattle.readback.specs.declared.CheckAnswer.{CheckAnswer}
+use Rattle.readback.specs.declared.CheckAnswer.the-variants.{Failed, Passed}
+use Rattle.readback.specs.declared.ReadAnswer.{ReadAnswer}
+use Rattle.readback.specs.declared.ReadAnswer.the-variants.{Unread, Read}
 use Rattle.walk.specs.Ceiling.{ceilingCall}
 use Rattle.walk.specs.Query.{query}
 use Rattle.walk.specs.declared.QueryAnswer.{QueryAnswer}
 use Rattle.walk.specs.declared.QueryAnswer.the-variants.{Unanswered, Covered, NotCovered}
 use Rattle.walk.specs.declared.CeilingAnswer.{CeilingAnswer}
 use Rattle.walk.specs.declared.CeilingAnswer.the-variants.{Ceiling, NoCeiling}
-use Rattle.book.specs.Table.{saidCall, saidQuery, saidCeiling}
+use Rattle.book.specs.Table.{saidCall, saidQuery, saidCeiling, saidCheck, saidRead}
 use Rattle.interface.specs.Told.{numberOf, toldBy, replied}
-use Rattle.interface.specs.Calls.{ctFresh, ctInsert, ctRemove, ctQuery, ctCeiling}
+use Rattle.interface.specs.Calls.{ctFresh, ctInsert, ctRemove, ctQuery, ctCeiling, ctReadBack, ctCheck}
 use Rattle.interface.specs.Claims.{ToldApart}
 
 -- ---- the answers that each call gives
@@ -48,14 +54,20 @@ pub data Taken : CallAnswer → Type 0 where
   broken : Taken (Refused Broken)
   no-such : Taken (Refused NoSuchNumber)
 
+pub data Checked : CheckAnswer → Type 0 where
+  passed : Checked Passed
+  bad-slice : Checked (Failed BadSlice)
+  broken : Checked (Failed Broken)
+  no-tree : Checked (Failed NoSuchTree)
+
 -- what holds of two answers holds of either
-either : (P : CallAnswer → Type 0) (b : Bool) (x y : Called) → P (x .answer) → P (y .answer) → P (cond b x y .answer)
+either : {A : Type 0} (P : A → Type 0) (b : Bool) (x y : A) → P x → P y → P (cond b x y)
 either P true x y p q = p
 either P false x y p q = q
 
 pub fresh-answers : (T : List ℕ) → Freshened (fresh T .answer)
 unfolding fresh
-fresh-answers T = either Freshened (sized T) _ _ ready bad-slice
+fresh-answers T = either (λ (r : Called). Freshened (r .answer)) (sized T) _ _ ready bad-slice
 
 insert-changes : (T : List ℕ) (c : Change) → Inserted (changed T Kept c .answer)
 insert-changes T (refuse r) = refusal r
@@ -65,11 +77,11 @@ insert-shaped : (s : Shape) (T c : List ℕ) (n : ℕ) → Inserted (insertAs s 
 insert-shaped (Faulty f) T c n = refusal (BadClause f)
 insert-shaped (Whole q) T c n =
     let change : Change = insertInto (length T) (decode T) (entry (record { number = n; clause = c })) in
-    either Inserted (wellLaid T) (changed T Kept change) (refused Broken T) (insert-changes T change) (refusal Broken)
+    either (λ (r : Called). Inserted (r .answer)) (wellLaid T) (changed T Kept change) (refused Broken T) (insert-changes T change) (refusal Broken)
 
 pub insert-answers : (T c : List ℕ) (n : ℕ) → Inserted (insertion T c n .answer)
 unfolding insertion
-insert-answers T c n = either Inserted (sized T) _ _ (insert-shaped (shape c) T c n) (refusal BadSlice)
+insert-answers T c n = either (λ (r : Called). Inserted (r .answer)) (sized T) _ _ (insert-shaped (shape c) T c n) (refusal BadSlice)
 
 remove-changes : (T : List ℕ) (n : ℕ) → Taken (changed T Removed (removeFrom (decode T) n) .answer)
 unfolding removeFrom
@@ -81,7 +93,11 @@ remove-changes T n = go (find n (decode T)) refl
 
 pub remove-answers : (T : List ℕ) (n : ℕ) → Taken (removal T n .answer)
 unfolding removal
-remove-answers T n = either Taken (sized T) _ _ (either Taken (wellLaid T) _ _ (remove-changes T n) broken) bad-slice
+remove-answers T n = either (λ (r : Called). Taken (r .answer)) (sized T) _ _ (either (λ (r : Called). Taken (r .answer)) (wellLaid T) _ _ (remove-changes T n) broken) bad-slice
+
+check-answers : (T : List ℕ) → Checked (check T)
+unfolding check
+check-answers T = either Checked (sized T) _ _ (either Checked (wellLaid T) _ _ (either Checked (ofClauses (decode T)) _ _ passed no-tree) broken) bad-slice
 
 -- ---- back to the answer
 
@@ -91,8 +107,9 @@ answerOf done refused n ts =
     let v : ℕ = getD ts 0 0 in
     getD (
     done ∷ refused BadSlice ∷ refused Broken ∷ refused (BadClause BadLength) ∷ refused (BadClause (Bad v)) ∷ refused (BadClause (Ninth v))
-    ∷ refused ShortWitness ∷ refused NumberTaken ∷ refused (Held v) ∷ refused NoSuchNumber ∷ refused ListFull ∷ refused NoRoom ∷ refused (Spent v) ∷ []
-    ) n (refused BadSize)
+    ∷ refused ShortWitness ∷ refused NumberTaken ∷ refused (Held v) ∷ refused NoSuchNumber ∷ refused ListFull ∷ refused NoRoom ∷ refused (Spent v)
+    ∷ refused BadSize ∷ refused NoSuchTree ∷ refused ShortOutput ∷ []
+    ) n done
 
 refusal-back : {A : Type 0} (done : A) (refused : Refusal → A) (r : Refusal) (t : ℕ) (ts : List ℕ)
     → answerOf done refused (codeOf r) (toldBy (valuesOf r) (t ∷ ts)) ≡ refused r
@@ -110,6 +127,8 @@ refusal-back done refused ListFull t ts = refl
 refusal-back done refused NoRoom t ts = refl
 refusal-back done refused (Spent c) t ts = refl
 refusal-back done refused BadSize t ts = refl
+refusal-back done refused NoSuchTree t ts = refl
+refusal-back done refused ShortOutput t ts = refl
 
 -- a refusal's code is not 0
 pub code-some : (r : Refusal) → codeOf r ≡ 0 → ⊥
@@ -158,6 +177,22 @@ ceiling-back a [] h = absurd (omega arith)
 ceiling-back (NoCeiling r) (t ∷ ts) h = refusal-back _ NoCeiling r t ts
 ceiling-back (Ceiling n) (t ∷ ts) h = refl
 
+readOf : (number : ℕ) (told : List ℕ) → ReadAnswer
+readOf n ts = answerOf (Read (getD ts 0 0)) Unread n ts
+
+read-back : (a : ReadAnswer) (ts : List ℕ) → 3 ≤ length ts → readOf (replied (saidRead a) ts .number) (replied (saidRead a) ts .told) ≡ a
+unfolding readOf answerOf
+read-back a [] h = absurd (omega arith)
+read-back (Unread r) (t ∷ ts) h = refusal-back _ Unread r t ts
+read-back (Read n) (t ∷ ts) h = refl
+
+check-back : {a : CheckAnswer} → Checked a → answerOf Passed Failed (numberOf (saidCheck a .title)) [] ≡ a
+unfolding answerOf
+check-back passed = refl
+check-back bad-slice = refl
+check-back broken = refl
+check-back no-tree = refl
+
 -- ---- the claim
 
 -- two answers to a query that are handed over the same
@@ -166,7 +201,7 @@ pub query-apart : (a b : QueryAnswer) (ts us : List ℕ) → 3 ≤ length ts →
 query-apart a b ts us h k e f = sym (query-back a ts h) ∙ ap₂ askedOf e f ∙ query-back b us k
 
 pub told-apart : ToldApart
-unfolding ctFresh ctInsert ctRemove ctQuery ctCeiling
+unfolding ctFresh ctInsert ctRemove ctQuery ctCeiling ctReadBack ctCheck
 told-apart =
     record {
       freshened = λ T U e. sym (fresh-back (fresh-answers T)) ∙ ap (λ n. answerOf Ready Refused n []) e ∙ fresh-back (fresh-answers U);
@@ -175,4 +210,6 @@ told-apart =
       removed = λ T n U m e. sym (remove-back (remove-answers T n)) ∙ ap (λ k. answerOf Removed Refused k []) e ∙ remove-back (remove-answers U m);
       asked = λ T d b X ts U e a W us h k f g. query-apart (query T d b X .answer) (query U e a W .answer) ts us h k f g;
       bounded = λ k q m ts l r n us h i e f. sym (ceiling-back (ceilingCall k q m) ts h) ∙ ap₂ boundedOf e f ∙ ceiling-back (ceilingCall l r n) us i;
+      read = λ T n X ts U m W us h k e f. sym (read-back (readBack T n X .answer) ts h) ∙ ap₂ readOf e f ∙ read-back (readBack U m W .answer) us k;
+      checked = λ T U e. sym (check-back (check-answers T)) ∙ ap (λ n. answerOf Passed Failed n []) e ∙ check-back (check-answers U);
     }

@@ -1,7 +1,7 @@
 -- Lists of calls that C makes are lists of calls, and its queries say what these answer.
 use mathlib.Core.Path.{_≡_, refl, sym, ap, _∙_}
 use mathlib.Core.Logic.{_↔_, _⊎_, inl, inr}
-use mathlib.Core.List.{List, [], _∷_}
+use mathlib.Core.List.{List, [], _∷_, _++_, map}
 use Prim.Native.Nat.{ℕ, _≤_}
 use native.Mathlib.Omega.{arith}
 use lib.ListN.{length, replicate, length-replicate}
@@ -10,22 +10,29 @@ use Rattle.tree.specs.Calls.{fresh}
 use Rattle.tree.specs.declared.Refusal.the-variants.{Spent}
 use Rattle.tree.specs.declared.CallAnswer.{CallAnswer}
 use Rattle.tree.specs.declared.CallAnswer.the-variants.{Ready, Kept, Removed}
+use Rattle.readback.specs.Calls.{check, readBack}
+use Rattle.readback.specs.declared.CheckAnswer.{CheckAnswer}
+use Rattle.readback.specs.declared.CheckAnswer.the-variants.{Failed, Passed}
+use Rattle.readback.specs.declared.ReadAnswer.{ReadAnswer}
 use Rattle.walk.specs.Ceiling.{fullBudget, enoughBudget}
 use Rattle.walk.specs.Query.{witnessWords, query}
 use Rattle.walk.specs.Covering.{IsCovered, IsNotCovered, IsSpent, Answers}
 use Rattle.walk.specs.declared.QueryAnswer.{QueryAnswer}
 use Rattle.walk.specs.declared.QueryAnswer.the-variants.{Unanswered, Covered, NotCovered}
 use Rattle.walk.proofs.Covering.{decided-fits}
-use Rattle.book.specs.Table.{saidCall, saidQuery}
-use Rattle.book.specs.Book.{Call, insert, remove, call, done, after, sliceOf, treeOf}
+use Rattle.book.specs.Table.{saidCall, saidQuery, saidCheck, saidRead, givenBack}
+use Rattle.book.specs.Book.{Call, insert, remove, call, done, after, sliceOf, bookOf, treeOf}
 use Rattle.book.specs.Claims.{Run, Reached, Together, Same, Exact}
 use Rattle.book.proofs.Reach.{reach, demand2}
 use Rattle.book.proofs.Agreement.{demand3}
+use Rattle.book.specs.Saved.{insertAll, ReadsKept}
 use Rattle.book.proofs.Exact.{exact-count}
+use Rattle.book.proofs.Saved.{reach-saved, passed-saved, saved-is-made, reads-book}
 use Rattle.interface.specs.Told.{numberOf, shownAs, replied}
-use Rattle.interface.specs.Calls.{Handed, ctFresh, ctInsert, ctRemove, ctQuery}
+use Rattle.interface.specs.Calls.{Handed, handed, ctFresh, ctInsert, ctRemove, ctQuery, ctReadBack, ctCheck}
 use Rattle.interface.specs.Claims.{Made, ctCall, ctAfter, ctTree, callsMade, CtRun, CtReach}
 use Rattle.interface.specs.Claims.{Says, SaysCovered, SaysNot, SaysSpent, needed, CtAnswers, CtDemand2, CtSame, CtCovered, CtDemand3, CtExact, CtExactCount}
+use Rattle.interface.specs.Claims.{CtChecked, CtReadsBook, CtSavedIsMade}
 use Rattle.interface.proofs.Differ.{Freshened, ready, bad-slice, Inserted, kept, refusal, Taken, removed, broken, no-such}
 use Rattle.interface.proofs.Differ.{fresh-answers, insert-answers, remove-answers, code-some, query-apart}
 
@@ -150,7 +157,7 @@ pub ct-demand2 : CtDemand2
 ct-demand2 T xs R d W ts P b =
     let ys : List Call = callsMade xs in
     let r : Run T ys = run-of T xs R in
-    rw (tree-words T xs) (ct-answers (demand2 T ys r d (P .clause) b W (P .witness)) ts (P .told) (demand3 T ys T ys r r .one .enough d (P .clause)))
+    rw (tree-words T xs) (ct-answers (demand2 T ys r d (P .clause) b W (P .witness)) ts (P .told) (demand3 T ys T ys r r .both .one .enough d (P .clause)))
 
 -- ---- two lists
 
@@ -187,18 +194,18 @@ ct-demand3 S xs T ys R Q =
     let O : List ℕ = 0 ∷ 0 ∷ 0 ∷ [] in
     record {
       agree = rw (tree-words S xs, tree-words T ys) (
-        λ g. t .agree .0 (λ d D w U W l m.
+        λ g. t .both .agree .0 (λ d D w U W l m.
             let i = g d w U O W O (record { clause = D; witness = l; told = omega arith }) (record { clause = D; witness = m; told = omega arith }) in (
               λ u. ct-covered T′ d W O (omega arith) .0 (i .0 (ct-covered S′ d U O (omega arith) .1 u)),
               λ u. ct-covered S′ d U O (omega arith) .0 (i .1 (ct-covered T′ d W O (omega arith) .1 u)),
             )),
         λ h d w U ts W us P N.
-            let i = t .agree .1 h d (P .clause) w U W (P .witness) (N .witness) in (
+            let i = t .both .agree .1 h d (P .clause) w U W (P .witness) (N .witness) in (
               λ u. ct-covered T′ d W us (N .told) .1 (i .0 (ct-covered S′ d U ts (P .told) .0 u)),
               λ u. ct-covered S′ d U ts (P .told) .1 (i .1 (ct-covered T′ d W us (N .told) .0 u)),
             ),
       );
-      same = rw (tree-words S xs, tree-words T ys) (λ f h d D b. ct-same (t .same f h d D b));
+      same = rw (tree-words S xs, tree-words T ys) (λ f h d D b. ct-same (t .both .same f h d D b));
     }
 
 -- ---- one literal, an exact count
@@ -232,3 +239,51 @@ pub ct-exact-count : CtExactCount
 ct-exact-count T xs R some units d W ts P b =
     let ys : List Call = callsMade xs in
     rw (tree-words T xs) (ct-exact T ys d b W ts (P .told) (exact-count T ys (run-of T xs R) some units d (P .clause) b W (P .witness)))
+
+-- ---- saved trees
+
+check-done : (a : CheckAnswer) → numberOf (saidCheck a .title) ≡ 0 → a ≡ Passed
+check-done (Failed r) e = absurd (code-some r e)
+check-done Passed e = refl
+
+pub ct-checked : CtChecked
+unfolding ctCheck
+ct-checked T = (λ e. passed-saved T .0 (check-done (check T) e), λ I. ap (λ a. numberOf (saidCheck a .title)) (passed-saved T .1 I))
+
+pub ct-reads-book : CtReadsBook
+unfolding ctReadBack
+ct-reads-book T xs R W room ts =
+    let ys : List Call = callsMade xs in
+    let r : Run T ys = run-of T xs R in
+    let S : List ℕ = sliceOf T ys in
+    let B : ReadsKept S (bookOf (length T) ys) W = reads-book T ys r W room in
+    let number : ReadAnswer → ℕ = λ a. numberOf (saidRead a .title) in
+    record {
+      passes = rw (tree-words T xs) (ct-checked S .1 (_, reach-saved T ys r));
+      each = λ p m. rw (tree-words T xs) (ap (λ g. handed (givenBack g) ts) (B .each p m));
+      unknown = λ n l. rw (tree-words T xs) (
+        λ e p m q. let z : _≡_ {A = ℕ} 0 9 = sym (ap (λ g. number (g .answer)) (B .each p m)) ∙ ap (λ k. number (readBack S k W .answer)) q ∙ e in absurd (omega arith),
+        λ h. ap (λ g. number (g .answer)) (B .unknown n l .1 h),
+      );
+    }
+
+-- calls without words to tell in
+silent : List Call → List Made
+silent ys = map (λ y. record { call = y; told = [] }) ys
+
+made-append : (ys : List Call) (xs : List Made) → callsMade (silent ys ++ xs) ≡ ys ++ callsMade xs
+unfolding silent
+made-append [] xs = refl
+made-append (y ∷ ys) xs = ap (y ∷_) (made-append ys xs)
+
+pub ct-saved-is-made : CtSavedIsMade
+unfolding ctFresh returned
+ct-saved-is-made T K I xs f =
+    let r = saved-is-made T K I (callsMade xs) f in
+    let e = made-append (insertAll K) xs in
+    record {
+      calls = silent (insertAll K) ++ xs;
+      run = record { ready = ap returned (r .run .ready); fit = rw e (r .run .fit) };
+      words = tree-words T (silent (insertAll K) ++ xs) ∙ ap (sliceOf T) e ∙ r .slice ∙ sym (after-words T xs);
+      book = ap (bookOf (length T)) e ∙ r .book;
+    }

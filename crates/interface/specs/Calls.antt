@@ -4,7 +4,8 @@ use Prim.Native.Nat.{ℕ}
 use Rattle.tree.specs.Calls.{fresh, insertion, removal}
 use Rattle.walk.specs.Query.{query}
 use Rattle.walk.specs.Ceiling.{ceilingCall}
-use Rattle.book.specs.Table.{Result, saidCeiling, called, asked}
+use Rattle.readback.specs.Calls.{check, readBack}
+use Rattle.book.specs.Table.{Result, saidCeiling, saidCheck, called, asked, givenBack}
 use Rattle.interface.specs.Told.{numberOf, Reply, replied}
 
 -- the number returned, and the words of the tree or the witness afterwards
@@ -45,3 +46,11 @@ ctQuery T d b W ts = handed (asked (query T d b W)) ts
 -- ceiling
 unfoldable pub ctCeiling : (kept q m : ℕ) (told : List ℕ) → Reply
 ctCeiling kept q m ts = replied (saidCeiling (ceilingCall kept q m)) ts
+
+-- reading a clause back, which leaves the tree
+unfoldable pub ctReadBack : (tree : List ℕ) (number : ℕ) (output told : List ℕ) → Handed
+ctReadBack T n W ts = handed (givenBack (readBack T n W)) ts
+
+-- checking a tree, which leaves it: the number returned
+unfoldable pub ctCheck : (tree : List ℕ) → ℕ
+ctCheck T = numberOf (saidCheck (check T) .title)

@@ -6,17 +6,21 @@ use mathlib.Core.List.{List, [], _∷_, map, List·Memᴰ}
 use Prim.Native.Nat.{ℕ, _*_, _≤_, _<_}
 use lib.ListN.{length}
 use Rattle.clause.specs.Word.{Words}
-use Rattle.clause.specs.Clause.{Accepted, literals}
+use Rattle.clause.specs.Clause.{Accepted, literals, maxWords}
+use Rattle.tree.specs.Keys.{firstKey}
 use Rattle.tree.specs.Forest.{layout}
 use Rattle.tree.specs.Entries.{Pair}
 use Rattle.tree.specs.Calls.{fresh, insertion, removal}
+use Rattle.readback.specs.Readback.{normal}
+use Rattle.readback.specs.Saved.{IsTreeOf, IsSaved}
+use Rattle.readback.specs.Calls.{check, over, readBack}
 use Rattle.walk.specs.Ceiling.{ceiling, arrangements, fullBudget, enoughBudget, ceilingCall}
 use Rattle.walk.specs.Query.{witnessWords, withShown, query}
 use Rattle.walk.specs.Covering.{most, Units, Subsumed, Shows, Untouched, candidates}
-use Rattle.book.specs.Book.{Call, insert, remove, Fit, AllFit, bookStep, bookOf, treeOf}
+use Rattle.book.specs.Book.{Call, insert, remove, Fit, AllFit, bookStep, bookFrom, bookOf, treeOf}
 use Rattle.book.specs.Claims.{Under, Renamed}
 use Rattle.interface.specs.Told.{toldBy}
-use Rattle.interface.specs.Calls.{Left, Handed, ctFresh, ctInsert, ctRemove, ctQuery, ctCeiling}
+use Rattle.interface.specs.Calls.{Left, Handed, ctFresh, ctInsert, ctRemove, ctQuery, ctCeiling, ctReadBack, ctCheck}
 
 -- ---- lists of calls
 
@@ -161,6 +165,38 @@ CtExactCount =
     (T : List ℕ) (xs : List Made) → CtRun T xs → 1 ≤ length (ctBook T xs) → Units (ctBook T xs)
     → (d W ts : List ℕ) → Askable d W ts → (b : ℕ) → CtExact d b ts (ctQuery (ctTree T xs) d b W ts)
 
+-- ---- saved trees
+
+-- ct_check returns 0 exactly for the tree of some clauses, or of none
+abbrev pub CtChecked : Type 0
+CtChecked = (T : List ℕ) → (ctCheck T ≡ 0) ↔ IsSaved T
+
+-- what holds of reading back after the calls, into the output W with the told words ts
+pub record CtReads (T : List ℕ) (xs : List Made) (W ts : List ℕ) : Type 0 where
+  -- the tree passes the check
+  pub passes : ctCheck (ctTree T xs) ≡ 0
+  -- by its number each kept clause comes back, with its variables numbered by first appearance: 0 is returned, and its length told
+  pub each : (p : Pair) → List·Memᴰ p (ctBook T xs)
+      → ctReadBack (ctTree T xs) (p .number) W ts
+      ≡ record { number = 0; words = over (normal (p .clause)) W; told = toldBy (length (p .clause) ∷ []) ts }
+  -- 9 comes exactly for the other numbers
+  pub unknown : (n : ℕ) → n < firstKey → (ctReadBack (ctTree T xs) n W ts .number ≡ 9) ↔ ((p : Pair) → List·Memᴰ p (ctBook T xs) → p .number ≢ n)
+
+-- the claim, for every list of calls
+abbrev pub CtReadsBook : Type 0
+CtReadsBook = (T : List ℕ) (xs : List Made) → CtRun T xs → (W : List ℕ) → maxWords ≤ length W → (ts : List ℕ) → CtReads T xs W ts
+
+-- a tree that is the tree of the pairs K, after further calls: calls from ct_fresh make it, of which all the above is claimed
+pub record CtResumed (T : List ℕ) (K : List Pair) (xs : List Made) : Type 0 where
+  pub calls : List Made
+  pub run : CtRun T calls
+  pub words : ctTree T calls ≡ ctAfter T xs
+  pub book : ctBook T calls ≡ bookFrom (length T) K (callsMade xs)
+
+-- the claim, for every saved tree
+abbrev pub CtSavedIsMade : Type 0
+CtSavedIsMade = (T : List ℕ) (K : List Pair) → IsTreeOf T K → (xs : List Made) → AllFit (callsMade xs) → CtResumed T K xs
+
 -- ---- nothing is lost on the way out
 
 -- two different answers of a function differ in the number returned or, with three told words or more, in the told words
@@ -179,3 +215,8 @@ pub record ToldApart : Type 0 where
       (k q m : ℕ) (ts : List ℕ) (l r n : ℕ) (us : List ℕ) → 3 ≤ length ts → 3 ≤ length us
       → ctCeiling k q m ts .number ≡ ctCeiling l r n us .number → ctCeiling k q m ts .told ≡ ctCeiling l r n us .told
       → ceilingCall k q m ≡ ceilingCall l r n
+  pub read :
+      (T : List ℕ) (n : ℕ) (X ts U : List ℕ) (m : ℕ) (W us : List ℕ) → 3 ≤ length ts → 3 ≤ length us
+      → ctReadBack T n X ts .number ≡ ctReadBack U m W us .number → ctReadBack T n X ts .told ≡ ctReadBack U m W us .told
+      → readBack T n X .answer ≡ readBack U m W .answer
+  pub checked : (T U : List ℕ) → ctCheck T ≡ ctCheck U → check T ≡ check U

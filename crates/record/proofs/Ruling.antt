@@ -47,7 +47,7 @@ use Rattle.tree.proofs.Count.{book-size}
 use Rattle.tree.proofs.InsertWords.{ins-leaves}
 use Rattle.tree.proofs.Mirror.{mirrors-ins}
 use Rattle.tree.proofs.Changes.{Inserts, refused, grown, inserts}
-use Rattle.walk.proofs.Kept.{kept-pair, pair-kept}
+use Rattle.tree.proofs.Pairs.{kept-pair, pair-kept}
 use Rattle.walk.proofs.Covering.{query-tree, answers, decided-fits, shows-subsumes}
 use Rattle.book.proofs.Holds.{Holds, holds-leaves, holds-enough}
 use Rattle.book.proofs.Exact.{holds-few, holds-exact}

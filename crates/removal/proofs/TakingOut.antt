@@ -1,26 +1,26 @@
 -- Words taken out of a well-laid slice in place, and that this is removal on the words.
 use mathlib.Core.Path.{_≡_, refl, sym, ap, ap₂, subst, _∙_}
 use mathlib.Core.List.{List, [], _∷_, _++_, append-nil, append-assoc}
-use mathlib.Core.Bool.{true, and-eq-true-iff}
+use mathlib.Core.Bool.{true}
 use mathlib.Core.Option.{Option, none, some}
 use Prim.Native.Nat.{ℕ, zero, suc, _+_, _-_, _/_, _^_, _≤_, _<_}
 use native.Mathlib.Numerals.{add-one}
 use native.Mathlib.Nat.{add-comm}
 use native.Mathlib.Omega.{arith}
-use lib.Dec.{T, leb}
+use lib.Dec.{T}
 use lib.ListN.{length, take, drop, getD, set, replicate, length-append, length-drop, take-append-drop, drop-of-length-le, replicate-append-replicate}
 use lib.Seq.{length-take-le, take-all, take-at, drop-at, take-take, drop-drop}
-use borrow.Author.Tests.{leb-true, ltb-false, ne-eqb}
+use borrow.Author.Tests.{ltb-false, ne-eqb}
 use borrow.Rule.Slice.PartMut.{putMid}
 use Rattle.tree.specs.Keys.{firstKey}
-use Rattle.tree.specs.Laid.{leastWords, mostWords, oneLess, extentOf, usedOf, keptOf, rows, sized, wellLaid}
+use Rattle.tree.specs.Laid.{mostWords, oneLess, extentOf, usedOf, keptOf, rows, wellLaid}
 use Rattle.tree.specs.inner.Cut.{Span, locate, lower, cut}
 use Rattle.removal.specs.inner.Close.{Lowerable, Removable, closeUp, takenOut}
 use Rattle.tree.specs.Calls.{Called, refused}
 use Rattle.tree.specs.inner.ByWords.{removeByWords}
 use Rattle.tree.specs.declared.CallAnswer.the-variants.{Removed}
 use Rattle.tree.specs.declared.Refusal.the-variants.{NoSuchNumber}
-use Rattle.tree.proofs.Grow.{rows-under, Tests, tests, zeros-replicated}
+use Rattle.tree.proofs.Grow.{rows-under, Tests, tests, zeros-replicated, laid-room}
 use Rattle.tree.proofs.RemoveWords.{cut-parts}
 use Rattle.removal.proofs.Locating.{Found, found}
 use Rattle.clause.proofs.Apart.{apart}
@@ -108,12 +108,6 @@ taken (h ∷ ws) place gone L C r p q =
 
 -- ---- removal
 
-pub sized-low : (t : List ℕ) → sized t ≡ true → leastWords ≤ length t
-sized-low t h = leb-true leastWords (length t) (and-eq-true-iff (leb leastWords (length t)) (leb (length t) mostWords) .0 h .0)
-
-pub sized-high : (t : List ℕ) → sized t ≡ true → length t ≤ mostWords
-sized-high t h = leb-true (length t) mostWords (and-eq-true-iff (leb leastWords (length t)) (leb (length t) mostWords) .0 h .1)
-
 -- the scan of the used words, as the code lends them
 abbrev pub scan : List ℕ → ℕ → Option Span
 scan t n = locate (take (usedOf (getD t 0 0) + 1 - 1) (drop 1 t)) n 0 0 0
@@ -139,12 +133,6 @@ hit h ws n s l w e =
       inside = omega (arith, f .inside, length-take-le (usedOf h) ws (t .room));
       kept = omega (arith, f .counted, t .count);
     }
-
--- the used words of a well-laid slice are in it
-pub laid-room : (t : List ℕ) → wellLaid t ≡ true → usedOf (getD t 0 0) < length t
-unfolding wellLaid
-laid-room [] w = apart cc
-laid-room (h ∷ ws) w = omega (arith, tests h ws (rw w tt) .room)
 
 -- what is found is among them
 pub hit-order : (t : List ℕ) (n : ℕ) (s : Span) → n < firstKey → wellLaid t ≡ true → some s ≡ scan t n → (s .place ≤ s .last) × (s .last < usedOf (getD t 0 0))

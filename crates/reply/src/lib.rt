@@ -5,9 +5,11 @@ ghost use lib.ListN.{set};
 ghost use Rattle.clause.specs.declared.Fault.{Fault};
 ghost use Rattle.tree.specs.declared.Refusal.the-variants.{BadClause};
 ghost use Rattle.tree.specs.Refusal.{codeOf, valuesOf};
-ghost use Rattle.book.specs.Table.{saidCall, saidQuery, saidCeiling};
-ghost use Rattle.interface.specs.Told.{toldBy, replied};
+ghost use Rattle.book.specs.Table.{saidCall, saidQuery, saidCeiling, saidCheck, saidRead};
+ghost use Rattle.interface.specs.Told.{numberOf, toldBy, replied};
 use clause::Fault;
+use readback::CheckAnswer;
+use readback::ReadAnswer;
 use tree::CallAnswer;
 use tree::Refusal;
 use walk::CeilingAnswer;
@@ -49,6 +51,8 @@ fn tell_refusal(told: &mut [u64], refusal: Refusal)
         Refusal::NoRoom => {}
         Refusal::Spent(count) => tell(told, 0, count),
         Refusal::BadSize => {}
+        Refusal::NoSuchTree => {}
+        Refusal::ShortOutput => {}
     }
 }
 
@@ -108,5 +112,28 @@ pub fn hand_ceiling(answer: CeilingAnswer, told: &mut [u64]) -> u64
             tell(told, 0, highest);
             0
         }
+    }
+}
+
+// Hands an answer of reading back over.
+pub fn hand_read(answer: ReadAnswer, told: &mut [u64]) -> u64
+    ensures { λ r. ⌜ record { number = r; told = now (told .exit) } ≡ replied (saidRead answer) (now (told .entry)) ⌝ }
+{
+    match answer {
+        ReadAnswer::Unread(refusal) => refuse(refusal, told),
+        ReadAnswer::Read(length) => {
+            tell(told, 0, length as u64);
+            0
+        }
+    }
+}
+
+// Hands the answer of a check over, which tells nothing.
+pub fn hand_check(answer: CheckAnswer) -> u64
+    ensures { λ r. ⌜ r ≡ numberOf (saidCheck answer .title) ⌝ }
+{
+    match answer {
+        CheckAnswer::Failed(refusal) => refusal.code() as u64,
+        CheckAnswer::Passed => 0,
     }
 }

@@ -12,6 +12,7 @@ pub mod Count
 pub mod Held
 pub mod Changes
 pub mod Plain
+pub mod Pairs
 pub mod Hops
 pub mod Laws
 pub mod ByWords

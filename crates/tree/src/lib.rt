@@ -13,7 +13,8 @@ pub use fields::key;
 pub use fields::word;
 
 // What is returned on refusal, by every call; a refused clause's fault, with its position, stands inside. `Held`: a variant of the clause, equal up to
-// the names of its variables, is kept under this number. `Spent`: the budget of candidates is used up, after so many.
+// the names of its variables, is kept under this number. `Spent`: the budget of candidates is used up, after so many. `NoSuchTree`: the slice is well laid,
+// but it is not the tree of some clauses, or of none, under different numbers.
 // `codeOf` and `valuesOf` of specs/Refusal give the code and the values of each case (docs/REFERENCE.md, "Calls").
 pub enum Refusal {
     BadSlice,
@@ -27,6 +28,8 @@ pub enum Refusal {
     NoRoom,
     Spent(u64),
     BadSize,
+    NoSuchTree,
+    ShortOutput,
 }
 
 // The answer to a call that changes a tree: "ready" of fresh, "kept" of insertion, "removed" of removal, or a refusal.

@@ -32,6 +32,8 @@ impl Refusal {
             Refusal::NoRoom => 11,
             Refusal::Spent(_) => 12,
             Refusal::BadSize => 13,
+            Refusal::NoSuchTree => 14,
+            Refusal::ShortOutput => 15,
         }
     }
 }

@@ -1,6 +1,6 @@
 -- The runs along the paths of a tree that keeps some clauses.
 use mathlib.Core.Path.{_≡_, refl, sym, ap, _∙_}
-use mathlib.Core.Logic.{_≢_, inl, inr}
+use mathlib.Core.Logic.{_≢_}
 use mathlib.Core.Option.{none, some}
 use mathlib.Core.List.{List, [], _∷_, _++_, map, List·Memᴰ, List·Memᴰ·head, List·Memᴰ·tail}
 use Prim.Native.Nat.{ℕ, _+_, _≤_, _<_}
@@ -15,7 +15,7 @@ use Rattle.machine.specs.Compile.{sequence, keys}
 use Rattle.machine.specs.Machine.{State, initial, next, stuck, run as runCode}
 use Rattle.machine.specs.Matching.{Choice, Matched}
 use Rattle.tree.specs.Forest.{Forest, empty, node, Has}
-use Rattle.tree.specs.Entries.{Listed, Mirrors, Pair, Sound, entry}
+use Rattle.tree.specs.Entries.{Mirrors, Pair, Sound, entry}
 use Rattle.walk.specs.Query.{machine, witnessWords, shown, withShown}
 use Rattle.walk.specs.Covering.{most, Shows, Untouched}
 use Rattle.clause.proofs.Lists.{all-append, all-take, all-replicate, all-mem, all-get, some-mem}
@@ -29,6 +29,7 @@ use Rattle.machine.proofs.Effects.{fails≢next, stuck≢next, fails≢stuck}
 use Rattle.machine.proofs.Candidates.{run-enough, run-take, run-stuck}
 use Rattle.machine.proofs.Replace.{length-vars}
 use Rattle.tree.proofs.Paths.{front, one-node}
+use Rattle.tree.proofs.Pairs.{kept-pair, pair-kept}
 use Rattle.walk.proofs.Paths.{Leads, firsts, run, Candidates, Finds, NeverStuck}
 use Rattle.walk.proofs.Formed.{leads-has, has-leads}
 use Rattle.walk.proofs.Runs.{run-keys, firsts-keys}
@@ -143,16 +144,6 @@ module _ (c d : List ℕ) (C : Clause c) (D : Clause d) (w : Words c) where
               rw word (term-inside d (getD ps k 0) (rw agreed at (M .terms (getD (vars c) k 0) .0)), agreed)
 
 -- ---- the clauses that are kept
-
-pub kept-pair : (K : List Pair) (cs : List ℕ) (n : ℕ) → Listed (map entry K) cs n
-    → (p : Pair) × List·Memᴰ p K × (cs ≡ keys (p .clause)) × (n ≡ p .number)
-kept-pair [] cs n k = absurd k
-kept-pair (p ∷ K) cs n (inl q) = (p, List·Memᴰ·head refl, q .0, q .1)
-kept-pair (p ∷ K) cs n (inr k) = let (r, m, e, f) = kept-pair K cs n k in (r, List·Memᴰ·tail m, e, f)
-
-pub pair-kept : (K : List Pair) (p : Pair) → List·Memᴰ p K → Listed (map entry K) (keys (p .clause)) (p .number)
-pair-kept (r ∷ K) p (List·Memᴰ·head e) = inl (ap (λ x. keys (x .clause)) e, ap (λ x. x .number) e)
-pair-kept (r ∷ K) p (List·Memᴰ·tail m) = inr (pair-kept K p m)
 
 mem-most : {p : Pair} (K : List Pair) → List·Memᴰ p K → length (literals (p .clause)) ≤ most K
 mem-most (r ∷ K) (List·Memᴰ·head e) = rw e (omega arith)

@@ -4,7 +4,8 @@ use mathlib.Core.Option.{some}
 use Prim.Native.Nat.{_-_}
 use native.Mathlib.Omega.{arith}
 use Rattle.removal.specs.inner.Close.{spanOf}
-use Rattle.removal.proofs.TakingOut.{sized-low, sized-high, laid-room, scan, hit-order, removable, removed, missed}
+use Rattle.tree.proofs.Grow.{sized-low, sized-high, laid-room}
+use Rattle.removal.proofs.TakingOut.{scan, hit-order, removable, removed, missed}
 use borrow.Author.Needs.{needs}
 use Rattle.removal.proofs.remove_laid.Statement.{statement}
 use Rattle.removal.proofs.remove_laid.Tie as tie

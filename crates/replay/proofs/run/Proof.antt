@@ -13,6 +13,8 @@ use Rattle.book.proofs.Refusals.{demand1}
 use Rattle.book.proofs.Reach.{reach, demand2}
 use Rattle.book.proofs.Agreement.{demand3}
 use Rattle.book.proofs.Exact.{exact-count}
+use Rattle.book.specs.Saved.{ReachSaved, PassedSaved, SavedIsMade, SavedDemand2, SavedDemand3, ReadsBook}
+use Rattle.book.proofs.Saved.{reach-saved, passed-saved, saved-is-made, saved-demand2, saved-demand3, reads-book}
 use Rattle.tree.specs.Calls.{fresh}
 use Rattle.tree.specs.declared.CallAnswer.the-variants.{Ready}
 use borrow.Author.Needs.{needs}
@@ -51,6 +53,10 @@ loop-again c =
 same-length : tie.Need-same-length Inv-loop μ-loop
 same-length c = search needs
 
+-- the claims of saved slices
+saved : ReachSaved × PassedSaved × SavedIsMade × SavedDemand2 × SavedDemand3 × ReadsBook
+saved = (reach-saved, passed-saved, saved-is-made, saved-demand2, saved-demand3, reads-book)
+
 returns : tie.Need-returns Inv-loop μ-loop
 returns c =
     let l = c .before in
@@ -61,7 +67,7 @@ returns c =
     let run : fresh (a .tree .now) .answer ≡ Ready → Run (a .tree .now) (callsOf (a .calls .now)) =
     λ r. record { ready = r; fit = l .loop .inv .2 (rw none-left tt) } in (
       sym (ap (λ T. after T (callsOf (a .calls .now))) (sym (ap (λ y. y .slice) (f .fresh .ensures))) ∙ l .loop .inv .3 ∙ rw none-left),
-      (λ r. (run r, reach _ _ (run r)), (has-words, (believable, ((demand1, reach, demand2, demand3), exact-count)))),
+      (λ r. (run r, reach _ _ (run r)), (has-words, (believable, ((demand1, reach, demand2, demand3), (exact-count, saved))))),
     )
 
 pub run-spec : {M : Type 1} → statement M

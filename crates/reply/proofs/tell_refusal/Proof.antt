@@ -49,6 +49,12 @@ tell-requires-2 c κs = search needs
 enum-told-8 : tie.Need-enum-told-8
 enum-told-8 c = search needs
 
+enum-told-9 : tie.Need-enum-told-9
+enum-told-9 c = search needs
+
+enum-told-10 : tie.Need-enum-told-10
+enum-told-10 c = search needs
+
 returns : tie.Need-returns
 returns c = search needs
 
@@ -91,6 +97,12 @@ returns-10 c = rw (c .before .before .before .before .before .refusal3 .given .1
 returns-11 : tie.Need-returns-11
 returns-11 c = search needs
 
+returns-12 : tie.Need-returns-12
+returns-12 c = search needs
+
+returns-13 : tie.Need-returns-13
+returns-13 c = search needs
+
 pub tell-refusal-spec : {M : Type 1} → statement M
 tell-refusal-spec =
     tie.close
@@ -110,6 +122,8 @@ tell-refusal-spec =
     enum-known-refusal-3
     tell-requires-2
     enum-told-8
+    enum-told-9
+    enum-told-10
     returns
     returns-2
     same-length
@@ -123,4 +137,6 @@ tell-refusal-spec =
     returns-9
     same-length-3
     returns-10
-    returns-11)
+    returns-11
+    returns-12
+    returns-13)

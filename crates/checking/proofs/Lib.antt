@@ -1,0 +1,4 @@
+pub mod Scanning
+pub mod Differing
+pub mod Gathering
+pub mod Slices

@@ -1,0 +1,104 @@
+-- `path_to` meets its contract: the number is none of the paths' so far.
+use mathlib.Core.Path.{_≡_, refl, sym, _∙_}
+use Prim.Native.Nat.{_-_}
+use native.Mathlib.Omega.{arith}
+use lib.ListN.{length}
+use borrow.Author.Needs.{needs}
+use Rattle.checking.proofs.Gathering.{Seeking, seeking-first, seeking-end, seeking-over, seeking-deep, seeking-found, seeking-next}
+use Rattle.checking.proofs.path_to.Statement.{statement}
+use Rattle.checking.proofs.path_to.Tie as tie
+
+abbrev Inv-loop : tie.InvT-loop
+Inv-loop words number keys₀ wanted ends₀ at₀ depth₀ keys ends at depth = Seeking words number keys ends at depth
+
+abbrev μ-loop : tie.MeasureT-loop
+μ-loop words number keys₀ wanted ends₀ at₀ depth₀ keys ends at depth = length words - at
+
+loop-holds : tie.Need-loop-holds Inv-loop μ-loop
+loop-holds c = let p = c .before .before .pre in seeking-first _ _ _ _ (p .2) refl (p .1)
+
+slice-aggregate-next-success : tie.Need-slice-aggregate-next-success Inv-loop μ-loop
+slice-aggregate-next-success c = sym (c .before .before .before .loop .inv .ends-length)
+
+next-success-requires : tie.Need-next-success-requires Inv-loop μ-loop
+next-success-requires c κs =
+    let g = c .before .before .before .loop .inv in
+    (c .before .before .before .before .before .before .pre .0, g .inside, g .few, g .keys-length, g .ends-length)
+
+enum-told : tie.Need-enum-told Inv-loop μ-loop
+enum-told c = search needs
+
+same-length : tie.Need-same-length Inv-loop μ-loop
+same-length c = c .before .before .before .before .keys .given ∙ c .before .before .before .before .before .before .before .before .before .loop .inv .keys-length ∙ sym (c .before .before .before .before .before .before .before .before .before .before .before .before .pre .2)
+
+returns : tie.Need-returns Inv-loop μ-loop
+returns c = seeking-end (c .before .before .before .before .before .before .before .before .before .loop .inv) (rw (c .enum-told .given .1) at (c .before .before .before .before .before .next-success .ensures))
+
+enum-told-2 : tie.Need-enum-told-2 Inv-loop μ-loop
+enum-told-2 c = search needs
+
+same-length-2 : tie.Need-same-length-2 Inv-loop μ-loop
+same-length-2 c = c .before .before .before .before .keys .given ∙ c .before .before .before .before .before .before .before .before .before .loop .inv .keys-length ∙ sym (c .before .before .before .before .before .before .before .before .before .before .before .before .pre .2)
+
+returns-2 : tie.Need-returns-2 Inv-loop μ-loop
+returns-2 c = seeking-deep (c .before .before .before .before .before .before .before .before .before .loop .inv) (rw (c .enum-told2 .given .1) at (c .before .before .before .before .before .next-success .ensures))
+
+enum-known-ahead : tie.Need-enum-known-ahead Inv-loop μ-loop
+enum-known-ahead c = search needs
+
+mul-key : tie.Need-mul-key Inv-loop μ-loop
+mul-key c = let h = (rw (c .before .ahead .given .1) at (c .before .before .before .before .before .before .next-success .ensures)) in search (needs, h .1)
+
+shared-slice-read-key : tie.Need-shared-slice-read-key Inv-loop μ-loop
+shared-slice-read-key c = let h = (rw (c .before .before .ahead .given .1) at (c .before .before .before .before .before .before .before .next-success .ensures)) in h .1
+
+key-requires : tie.Need-key-requires Inv-loop μ-loop
+key-requires c κs = search needs
+
+same-length-3 : tie.Need-same-length-3 Inv-loop μ-loop
+same-length-3 c = let h = (rw (c .before .before .before .before .ahead .given .1) at (c .before .before .before .before .before .before .before .before .before .next-success .ensures)) in h .5 ∙ sym (c .before .before .before .before .before .before .before .before .before .before .before .before .before .before .before .before .pre .2)
+
+returns-3 : tie.Need-returns-3 Inv-loop μ-loop
+returns-3 c = seeking-found (c .before .before .before .before .before .before .before .before .before .before .before .before .before .loop .inv) _ _ _ _ (rw (c .before .before .before .before .ahead .given .1) at (c .before .before .before .before .before .before .before .before .before .next-success .ensures)) (sym (c .before .key .ensures) ∙ c .if1 .taken)
+
+add-at : tie.Need-add-at Inv-loop μ-loop
+add-at c = let h = (rw (c .before .before .before .before .ahead .given .1) at (c .before .before .before .before .before .before .before .before .before .next-success .ensures)) in omega (arith, h .1)
+
+loop-less : tie.Need-loop-less Inv-loop μ-loop
+loop-less c = let h = (rw (c .before .before .before .before .ahead .given .1) at (c .before .before .before .before .before .before .before .before .before .next-success .ensures)) in omega (arith, h .0, h .1)
+
+loop-again : tie.Need-loop-again Inv-loop μ-loop
+loop-again c = seeking-next (c .before .before .before .before .before .before .before .before .before .before .before .before .before .loop .inv) _ _ _ _ (rw (c .before .before .before .before .ahead .given .1) at (c .before .before .before .before .before .before .before .before .before .next-success .ensures)) (λ e. c .if1 .left (c .before .key .ensures ∙ e))
+
+same-length-4 : tie.Need-same-length-4 Inv-loop μ-loop
+same-length-4 c = c .before .loop .inv .keys-length ∙ sym (c .before .before .before .before .pre .2)
+
+returns-4 : tie.Need-returns-4 Inv-loop μ-loop
+returns-4 c = seeking-over (c .before .loop .inv) (omega arith)
+
+pub path-to-spec : {M : Type 1} → statement M
+path-to-spec =
+    tie.close
+    (tie.spec
+    Inv-loop
+    μ-loop
+    loop-holds
+    slice-aggregate-next-success
+    next-success-requires
+    enum-told
+    same-length
+    returns
+    enum-told-2
+    same-length-2
+    returns-2
+    enum-known-ahead
+    mul-key
+    shared-slice-read-key
+    key-requires
+    same-length-3
+    returns-3
+    add-at
+    loop-less
+    loop-again
+    same-length-4
+    returns-4)

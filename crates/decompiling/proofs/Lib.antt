@@ -1,0 +1,3 @@
+pub mod Reader
+pub mod Tables
+pub mod Wording

@@ -1,0 +1,77 @@
+-- `word_of` meets its contract: a key by its operation and its operand.
+use Prim.Native.Nat.{_%_, _^_}
+use lib.ListN.{getD}
+use Rattle.decompiling.proofs.Wording.{names-check, outside-check, outside-put, outside-origin, names-put, names-none, number-low}
+use borrow.Author.Needs.{needs}
+use native.Mathlib.Omega.{arith}
+use Rattle.decompiling.proofs.word_of.Statement.{statement}
+use Rattle.decompiling.proofs.word_of.Tie as tie
+
+cast-word : tie.Need-cast-word
+cast-word c = search needs
+
+returns : tie.Need-returns
+returns c = let a = c .before .before .args in names-check (a .origins .now) (a .counts .now) (a .x) (c .before .if1 .taken) (c .if2 .taken)
+
+returns-2 : tie.Need-returns-2
+returns-2 c = let a = c .before .before .args in outside-check (a .origins .now) (a .counts .now) (a .x) (c .before .if1 .taken) (omega (arith, c .if2 .left))
+
+returns-3 : tie.Need-returns-3
+returns-3 c = let a = c .before .before .before .args in outside-put (a .origins .now) (a .counts .now) (a .x) (c .before .if3 .taken) (c .if4 .taken)
+
+mul-m : tie.Need-mul-m
+mul-m c = search needs
+
+shared-slice-read-m : tie.Need-shared-slice-read-m
+shared-slice-read-m c = search needs
+
+returns-4 : tie.Need-returns-4
+returns-4 c = let a = c .before .before .before .before .before .args in outside-origin (a .origins .now) (a .counts .now) (a .x) (c .before .before .before .if3 .taken) (c .if5 .taken)
+
+mul-number : tie.Need-mul-number
+mul-number c = search needs
+
+shared-slice-read-number : tie.Need-shared-slice-read-number
+shared-slice-read-number c = search needs
+
+add-variable : tie.Need-add-variable
+add-variable c =
+    let a = c .before .before .before .before .before .before .args in
+    omega (
+      arith,
+      number-low (a .origins .now) (a .counts .now) (getD (a .origins .now) (a .x % 2 ^ 32) 0) (c .before .before .before .before .before .before .pre .2) (omega (arith, c .before .if5 .left)),
+    )
+
+cast-word-2 : tie.Need-cast-word-2
+cast-word-2 c =
+    let a = c .before .before .before .before .before .before .args in
+    omega (
+      arith,
+      number-low (a .origins .now) (a .counts .now) (getD (a .origins .now) (a .x % 2 ^ 32) 0) (c .before .before .before .before .before .before .pre .2) (omega (arith, c .before .if5 .left)),
+    )
+
+returns-5 : tie.Need-returns-5
+returns-5 c =
+    let a = c .before .before .before .before .before .before .args in
+    names-put (a .origins .now) (a .counts .now) (a .x) (c .before .before .before .before .if3 .taken) (omega (arith, c .before .before .before .if4 .left)) (omega (arith, c .before .if5 .left))
+
+returns-6 : tie.Need-returns-6
+returns-6 c = let a = c .before .before .args in names-none (a .origins .now) (a .counts .now) (a .x) (c .before .if1 .left) (c .if3 .left)
+
+pub word-of-spec : {M : Type 1} → statement M
+word-of-spec =
+    tie.close
+    (tie.spec
+    cast-word
+    returns
+    returns-2
+    returns-3
+    mul-m
+    shared-slice-read-m
+    returns-4
+    mul-number
+    shared-slice-read-number
+    add-variable
+    cast-word-2
+    returns-5
+    returns-6)

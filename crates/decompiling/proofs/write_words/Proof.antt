@@ -1,0 +1,124 @@
+-- `write_words` meets its contract: the words of the first i keys are written.
+use mathlib.Core.Logic.{⊎-elim}
+use Prim.Native.Nat.{_-_, _≤_}
+use lib.ListN.{length, take}
+use Rattle.compiling.specs.inner.Compiling.{Stored}
+use Rattle.compiling.proofs.Stores.{stored-length}
+use Rattle.readback.specs.Readback.{instructions, wordsOf, putNumber}
+use Rattle.decompiling.proofs.Wording.{store-first, store-word, store-none, too-many, too-big, all-stored}
+use borrow.Author.Needs.{needs}
+use native.Mathlib.Omega.{arith}
+use Rattle.decompiling.proofs.write_words.Statement.{statement}
+use Rattle.decompiling.proofs.write_words.Tie as tie
+use Rattle.decompiling.proofs.word_of.Reads as word-of-reads
+
+abbrev Inv-loop : tie.InvT-loop
+Inv-loop keys origins counts out₀ count₀ i₀ out count i = (i ≤ length keys) × (count ≤ 64) × Stored (wordsOf (putNumber (instructions keys)) (instructions (take i keys))) out₀ 0 out count
+
+abbrev μ-loop : tie.MeasureT-loop
+μ-loop keys origins counts out₀ count₀ i₀ out count i = length keys - i
+
+loop-holds : tie.Need-loop-holds Inv-loop μ-loop
+loop-holds c = (omega arith, omega arith, store-first (c .before .before .before .before .args .keys .now) (c .before .before .before .before .args .out .now))
+
+mul-word-of : tie.Need-mul-word-of Inv-loop μ-loop
+mul-word-of c = search needs
+
+shared-slice-read-word-of : tie.Need-shared-slice-read-word-of Inv-loop μ-loop
+shared-slice-read-word-of c = search needs
+
+word-of-requires : tie.Need-word-of-requires Inv-loop μ-loop
+word-of-requires c κs =
+    let s = c .before .before .before .before .before .before .before in
+    (s .pre .0, s .pre .1, s .pre .3)
+
+enum-known-found : tie.Need-enum-known-found Inv-loop μ-loop
+enum-known-found c = search needs
+
+same-length : tie.Need-same-length Inv-loop μ-loop
+same-length c = stored-length (c .before .before .before .before .before .before .before .loop .inv .2)
+
+returns : tie.Need-returns Inv-loop μ-loop
+returns c =
+    let s = c .before .before .before .before .before .before .before .before .before .before .before .before in
+    let l = c .before .before .before .before .before .before .before .loop in
+    let f = c .before .before .before .before .word-of in
+    let (x, e) = c .before .before .found .given in
+    too-many (s .args .keys .now) (s .args .origins .now) (s .args .counts .now) (s .pre .2) (s .pre .3) (l .i) (omega arith) (s .args .out .now) (l .out) (l .count) (l .inv .2) (x .0) (rw e at (f .ensures)) (omega arith)
+
+mul-out : tie.Need-mul-out Inv-loop μ-loop
+mul-out c = search needs
+
+slice-write-out : tie.Need-slice-write-out Inv-loop μ-loop
+slice-write-out c =
+    let l = c .before .before .before .before .before .before .before .loop in
+    omega (arith, stored-length (l .inv .2), c .before .before .before .before .before .before .before .before .before .before .before .before .pre .4)
+
+add-count : tie.Need-add-count Inv-loop μ-loop
+add-count c = search needs
+
+enum-told : tie.Need-enum-told Inv-loop μ-loop
+enum-told c = search needs
+
+enum-told-2 : tie.Need-enum-told-2 Inv-loop μ-loop
+enum-told-2 c = search needs
+
+same-length-2 : tie.Need-same-length-2 Inv-loop μ-loop
+same-length-2 c = stored-length (c .before .before .before .before .before .loop .inv .2)
+
+returns-2 : tie.Need-returns-2 Inv-loop μ-loop
+returns-2 c =
+    let s = c .before .before .before .before .before .before .before .before .before .before in
+    let l = c .before .before .before .before .before .loop in
+    let f = c .before .before .word-of in
+    too-big (s .args .keys .now) (s .args .origins .now) (s .args .counts .now) (s .pre .2) (s .pre .3) (l .i) (omega arith) (rw (c .enum-told2 .given .1) at (f .ensures))
+
+add-i : tie.Need-add-i Inv-loop μ-loop
+add-i c = search needs
+
+loop-less : tie.Need-loop-less Inv-loop μ-loop
+loop-less c = search needs
+
+loop-again : tie.Need-loop-again Inv-loop μ-loop
+loop-again c =
+    let s = c .before .before .before .before .before .before .before .before .before in
+    let l = c .before .before .before .before .loop in
+    let f = c .before .word-of in
+    ⊎-elim
+    (λ w. let (x, e) = w .1 .given in rw (w .4, w .5) (omega arith, omega (arith, w .3 .left), store-word (s .args .keys .now) (s .args .origins .now) (s .args .counts .now) (s .pre .2) (s .pre .3) (l .i) (omega arith) (s .args .out .now) (l .out) (l .count) (l .inv .2) (x .0) (rw e at (f .ensures))))
+    (λ w. rw (w .2, w .3) (omega arith, l .inv .1, store-none (s .args .keys .now) (s .args .origins .now) (s .args .counts .now) (s .pre .2) (s .pre .3) (l .i) (omega arith) (s .args .out .now) (l .out) (l .count) (l .inv .2) (rw (w .1 .given .1) at (f .ensures))))
+    (c .match .came)
+
+same-length-3 : tie.Need-same-length-3 Inv-loop μ-loop
+same-length-3 c = stored-length (c .before .loop .inv .2)
+
+returns-3 : tie.Need-returns-3 Inv-loop μ-loop
+returns-3 c =
+    let s = c .before .before .before .before .before .before in
+    all-stored (s .args .keys .now) (s .args .origins .now) (s .args .counts .now) (s .pre .2) (s .pre .3) (s .args .out .now) (c .before .loop .out) (c .before .loop .count) (c .before .loop .i) (omega arith) (c .before .loop .inv .1) (s .pre .4) (c .before .loop .inv .2)
+
+pub write-words-spec : {M : Type 1} → statement M
+write-words-spec =
+    tie.close
+    (tie.spec
+    Inv-loop
+    μ-loop
+    loop-holds
+    mul-word-of
+    shared-slice-read-word-of
+    word-of-requires
+    enum-known-found
+    same-length
+    returns
+    mul-out
+    slice-write-out
+    add-count
+    enum-told
+    enum-told-2
+    same-length-2
+    returns-2
+    add-i
+    loop-less
+    loop-again
+    same-length-3
+    returns-3)

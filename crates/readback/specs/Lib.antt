@@ -1,0 +1,4 @@
+pub mod Readback
+pub mod Saved
+pub mod Calls
+pub mod Laws
