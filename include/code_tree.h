@@ -13,11 +13,12 @@
  *
  * Stack: a query of a tree made by these calls takes less than 72 KiB: a path has at most 321 instructions
  * (proved), so at most 320 calls nest, of 224 bytes each (measured), and the query itself takes 0.6 KiB. Tree
- * words from elsewhere nest up to 32,772 calls: 7,176 KiB. The other functions take less than 8 KiB.
+ * words from elsewhere nest up to 32,772 calls: 7,176 KiB. ct_check and ct_read_back take less than 20 KiB, the
+ * other functions less than 8 KiB (measured).
  *
  * Each function returns 0, or the code of the first refusal that applies; a refusal changes no word of a tree,
- * a witness or an output. `told` gets the values of an answer, also of a refusal, in its first words, as far as its t
- * words reach; three words hold every answer. Words for which there is no value stay as they were.
+ * a witness or an output. `told` gets the values of an answer, also of a refusal, in its first words, as far as
+ * its t words reach; three words hold every answer. Words for which there is no value stay as they were.
  *
  *   code                    told       refused by
  *    1  bad slice                      all but ceiling: n not 2 to 65,536

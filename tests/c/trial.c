@@ -1,4 +1,5 @@
-/* The header, from C and from C++: a trial row of document 01 with the counts of F-3, told words that are too few, a count with units, the ceilings. */
+/* The header, from C and from C++: a trial row of document 01 with the counts of F-3, told words that are too few, a count with units, the ceilings,
+   a clause read back. */
 #include "code_tree.h"
 
 #include <stdio.h>
@@ -36,6 +37,52 @@ static void expect_ceilings(void) {
     expect("ceiling of clauses with one more", ct_ceiling(1, 1, CT_CLAUSE_LITERALS + 1, told, 1), CT_BAD_SIZE);
     expect("ceiling of a clause more", ct_ceiling(CT_KEPT_CLAUSES + 1, 1, 1, told, 1), CT_BAD_SIZE);
     expect("nothing told", told[0], 9);
+}
+
+/* A tree of Q(y), P(y) is checked, and its clause read back as Q(x), P(x); every refusal leaves the output. */
+static void expect_saved(void) {
+    const uint16_t clause[] = {0x8802, 0x4001, 0x8801, 0x4001};
+    const uint16_t numbered[] = {0x8802, 0x4000, 0x8801, 0x4000};
+    uint64_t tree[24];
+    uint64_t told[2] = {9, 9};
+    uint16_t out[CT_CLAUSE_WORDS + 1];
+    for (size_t i = 0; i <= CT_CLAUSE_WORDS; i++) {
+        out[i] = 9;
+    }
+    expect("fresh", ct_fresh(tree, 24), 0);
+    expect("check of an empty tree", ct_check(tree, 24), 0);
+    expect("read back of none", ct_read_back(tree, 24, 7, out, CT_CLAUSE_WORDS, told, 2), CT_NO_SUCH_NUMBER);
+    expect("insert", ct_insert(tree, 24, clause, 4, 7, NULL, 0), 0);
+    expect("check", ct_check(tree, 24), 0);
+    expect("check of no slice", ct_check(NULL, 0), CT_BAD_SLICE);
+    expect("check of one word", ct_check(tree, 1), CT_BAD_SLICE);
+    expect("read back out of no slice", ct_read_back(NULL, 0, 7, NULL, 0, NULL, 0), CT_BAD_SLICE);
+    expect("read back to no output", ct_read_back(tree, 24, 7, NULL, 0, told, 2), CT_SHORT_OUTPUT);
+    expect("read back to a word too few", ct_read_back(tree, 24, 7, out, CT_CLAUSE_WORDS - 1, told, 2), CT_SHORT_OUTPUT);
+    expect("read back of another number", ct_read_back(tree, 24, 8, out, CT_CLAUSE_WORDS, told, 2), CT_NO_SUCH_NUMBER);
+    tree[23] = 1;
+    expect("check of a word past the used ones", ct_check(tree, 24), CT_BROKEN);
+    expect("read back of it", ct_read_back(tree, 24, 7, out, CT_CLAUSE_WORDS, told, 2), CT_BROKEN);
+    tree[23] = 0;
+    /* a Check of 17 bits */
+    tree[2] ^= (uint64_t)1 << (28 + 16);
+    expect("check of a tree of no clause", ct_check(tree, 24), CT_NO_SUCH_TREE);
+    expect("read back of none such", ct_read_back(tree, 24, 7, out, CT_CLAUSE_WORDS, told, 2), CT_NO_SUCH_TREE);
+    tree[2] ^= (uint64_t)1 << (28 + 16);
+    expect("nothing told", told[0], 9);
+    for (size_t i = 0; i <= CT_CLAUSE_WORDS; i++) {
+        expect("nothing written", out[i], 9);
+    }
+    expect("read back", ct_read_back(tree, 24, 7, out, CT_CLAUSE_WORDS + 1, told, 2), 0);
+    expect("length", told[0], 4);
+    expect("told no further", told[1], 9);
+    for (size_t i = 0; i < 4; i++) {
+        expect("clause word", out[i], numbered[i]);
+    }
+    for (size_t i = 4; i <= CT_CLAUSE_WORDS; i++) {
+        expect("word past the clause", out[i], 9);
+    }
+    expect("read back without told", ct_read_back(tree, 24, 7, out, CT_CLAUSE_WORDS, NULL, 0), 0);
 }
 
 int main(void) {
@@ -86,6 +133,7 @@ int main(void) {
     expect("spent count, units kept", told[0], 1);
 
     expect_ceilings();
+    expect_saved();
     if (!failed) {
         printf("ok\n");
     }

@@ -1,4 +1,4 @@
-//! The code tree's C interface (include/code_tree.h) for Rust: `raw` has the five calls on slices as they are,
+//! The code tree's C interface (include/code_tree.h) for Rust: `raw` has the seven calls on slices as they are,
 //! the functions of this module have their answers as enums.
 
 /// The calls as C has them: a number returned, values told as far as `told` reaches.
@@ -28,6 +28,16 @@ pub mod raw {
                 t: usize,
             ) -> u64;
             pub fn ct_ceiling(kept: u64, q: u64, m: u64, told: *mut u64, t: usize) -> u64;
+            pub fn ct_check(tree: *const u64, n: usize) -> u64;
+            pub fn ct_read_back(
+                tree: *const u64,
+                n: usize,
+                number: u32,
+                out: *mut u16,
+                k: usize,
+                told: *mut u64,
+                t: usize,
+            ) -> u64;
         }
     }
 
@@ -80,10 +90,31 @@ pub mod raw {
     pub fn ceiling(kept: u64, q: u64, m: u64, told: &mut [u64]) -> u64 {
         unsafe { sys::ct_ceiling(kept, q, m, told.as_mut_ptr(), told.len()) }
     }
+
+    pub fn check(tree: &[u64]) -> u64 {
+        unsafe { sys::ct_check(tree.as_ptr(), tree.len()) }
+    }
+
+    pub fn read_back(tree: &[u64], number: u32, out: &mut [u16], told: &mut [u64]) -> u64 {
+        unsafe {
+            sys::ct_read_back(
+                tree.as_ptr(),
+                tree.len(),
+                number,
+                out.as_mut_ptr(),
+                out.len(),
+                told.as_mut_ptr(),
+                told.len(),
+            )
+        }
+    }
 }
 
 /// The least length of a witness.
 pub const WITNESS_WORDS: usize = 72;
+
+/// The least length of a slice to which a clause is read back.
+pub const OUTPUT_WORDS: usize = 64;
 
 /// What is returned on refusal, with its values.
 #[derive(Clone, Copy, Debug, PartialEq, Eq)]
@@ -101,6 +132,8 @@ pub enum Refusal {
     NoRoom,
     Spent { count: u64 },
     BadSize,
+    NoSuchTree,
+    ShortOutput,
 }
 
 /// The answer to an accepted query.
@@ -127,6 +160,8 @@ fn refusal(code: u64, value: u64) -> Refusal {
         11 => Refusal::NoRoom,
         12 => Refusal::Spent { count: value },
         13 => Refusal::BadSize,
+        14 => Refusal::NoSuchTree,
+        15 => Refusal::ShortOutput,
         _ => unreachable!("code {code}"),
     }
 }
@@ -182,4 +217,16 @@ pub fn ceiling(kept: u64, q: u64, m: u64) -> Result<u64, Refusal> {
     let mut told = [0];
     let code = raw::ceiling(kept, q, m, &mut told);
     answer(code, told[0], told[0])
+}
+
+/// Whether a slice is the tree of some clauses, or none, with different numbers.
+pub fn check(tree: &[u64]) -> Result<(), Refusal> {
+    answer(raw::check(tree), 0, ())
+}
+
+/// Writes the clause with a number, its variables numbered by first appearance; gives its length.
+pub fn read_back(tree: &[u64], number: u32, out: &mut [u16]) -> Result<usize, Refusal> {
+    let mut told = [0];
+    let code = raw::read_back(tree, number, out, &mut told);
+    answer(code, 0, told[0] as usize)
 }

@@ -7,7 +7,7 @@ use drawn::{Random, STYLES};
 use model::calls::Cover;
 use model::instruction::{header, used, Instruction, Operation};
 use model::laid::well_laid;
-use model::limits::{FULL_BUDGET, KEPT, LITERALS, WITNESS_WORDS};
+use model::limits::{FULL_BUDGET, KEPT, LITERALS, OUTPUT_WORDS, WITNESS_WORDS};
 use model::reader::read;
 use Operation::{Check, Compare, Down, First, Pop, Push, Put, Right};
 
@@ -30,6 +30,10 @@ fn call_all(tree: &mut [u64], clause: &[u16], random: &mut Random, tally: &mut T
             }
         }
     }
+    tally.answer("checks", "passed", beside::check(tree));
+    let (number, out_words) = (random.below(4) as u32, OUTPUT_WORDS - 1 + random.below(4));
+    let back = beside::read_back(tree, number, out_words);
+    tally.answer("readings back", "made", back.answer);
     let removal = beside::remove(tree, random.below(4) as u32);
     tally.answer("removals", "made", removal);
     let insertion = beside::insert(tree, clause, random.below(7) as u32);
@@ -83,11 +87,18 @@ fn spoilt_trees() {
         let clause = random.clause(style);
         call_all(&mut tree, &clause, &mut random, &mut tally);
     }
-    tally.assert_least(&LEAST);
+    let saved = [
+        ("checks passed", 5_000),
+        ("checks refused 14", 100),
+        ("readings back made", 2_000),
+        ("readings back refused 9", 2_000),
+        ("readings back refused 14", 100),
+    ];
+    tally.assert_least(&[&LEAST[..], &saved].concat());
 }
 
 // How often each answer has to occur on such trees.
-const LEAST: [(&str, u64); 12] = [
+const LEAST: [(&str, u64); 15] = [
     ("queries covered", 1_000),
     ("queries not covered", 1_000),
     ("queries refused 2", 1_000),
@@ -100,6 +111,9 @@ const LEAST: [(&str, u64); 12] = [
     ("insertions refused 7", 1_000),
     ("insertions refused 11", 1_000),
     ("well laid", 5_000),
+    ("checks refused 2", 1_000),
+    ("readings back refused 2", 1_000),
+    ("readings back refused 15", 1_000),
 ];
 
 // What the words of a tree do, the commoner ones more than once.
@@ -201,7 +215,12 @@ fn trees_of_any_instructions() {
         let clause = random.of(&queries);
         call_all(&mut tree, clause, &mut random, &mut tally);
     }
-    tally.assert_least(&LEAST);
+    let no_tree = [
+        ("checks passed", 50),
+        ("checks refused 14", 10_000),
+        ("readings back refused 14", 10_000),
+    ];
+    tally.assert_least(&[&LEAST[..], &no_tree].concat());
 }
 
 // Firsts below Firsts, and queries of 1 to 8 literals, most of them equal: literals run out, or the ninth First is met, which alone is broken.
@@ -229,6 +248,8 @@ fn trees_of_firsts() {
         ("not covered, literals run out", 5_000),
         ("queries refused 2", 100),
         ("queries refused 12", 1_000),
+        ("checks passed", 20),
+        ("checks refused 14", 5_000),
     ]);
 }
 
@@ -271,6 +292,11 @@ fn slices_of_any_length() {
                 }
                 let answer = beside::insert(&mut tree, &clause, 1);
                 tally.answer("insertions", "kept", answer);
+                tally.answer("checks", "passed", beside::check(&tree));
+                for out_words in [0, 63, 64, 65] {
+                    let answer = beside::read_back(&tree, 1, out_words).answer;
+                    tally.answer("readings back", "made", answer);
+                }
                 tally.answer("removals", "made", beside::remove(&mut tree, 1));
                 tally.answer("freshes", "made", beside::fresh(&mut tree));
             }
@@ -287,6 +313,14 @@ fn slices_of_any_length() {
         ("insertions refused 11", 1),
         ("removals refused 1", 1),
         ("removals refused 2", 1),
+        ("checks passed", 1),
+        ("checks refused 1", 1),
+        ("checks refused 2", 1),
+        ("readings back made", 1),
+        ("readings back refused 1", 1),
+        ("readings back refused 2", 1),
+        ("readings back refused 9", 1),
+        ("readings back refused 15", 1),
         ("freshes made", 1),
         ("freshes refused 1", 1),
     ]);
@@ -306,5 +340,8 @@ fn ceilings_of_any_size() {
     assert_eq!(highest, Ok(FULL_BUDGET));
     let told = (KEPT as u64 + 1) * LITERALS.pow(2) as u64;
     let asked = (kepts().count() * literals().count().pow(2)) as u64;
-    tally.assert_least(&[("ceilings told", told), ("ceilings refused 13", asked - told)]);
+    tally.assert_least(&[
+        ("ceilings told", told),
+        ("ceilings refused 13", asked - told),
+    ]);
 }

@@ -1,5 +1,6 @@
-//! Document 01's trial rows with the counts of F-3, every refusal with its values, the ceilings, and told words that are too few.
-use code_tree::{ceiling, fresh, insert, query, raw, remove, Cover, Refusal, WITNESS_WORDS};
+//! Document 01's trial rows with the counts of F-3, every refusal with its values, the ceilings, clauses read back, and told words that are too few.
+use code_tree::{ceiling, check, fresh, insert, query, raw, read_back, remove};
+use code_tree::{Cover, Refusal, OUTPUT_WORDS, WITNESS_WORDS};
 use model::limits::{KEPT, LITERALS};
 
 const P3: u16 = 0x9801;
@@ -291,6 +292,77 @@ fn list_full() {
     assert_eq!(answer(&words, &[0x8000 | 1024], 9), covered(77, 1));
 }
 
+// The clause read back; what an output held before is 9, and the words after the clause still hold it.
+fn back(tree: &[u64], number: u32) -> Result<Vec<u16>, Refusal> {
+    let mut out = vec![9; OUTPUT_WORDS];
+    let answer = read_back(tree, number, &mut out);
+    let (clause, rest) = out.split_at(answer.unwrap_or(0));
+    assert!(rest.iter().all(|word| *word == 9));
+    answer.map(|_| clause.to_vec())
+}
+
+#[test]
+fn clauses_read_back() {
+    let clauses: [&[u16]; 6] = [
+        PXAX,
+        &[P3, Z, Z, B],
+        &[P2, Y, F, X, P2, Z, F, F, Z],
+        &[P1, 0x47FF, Q1, 0x47FF],
+        &[0xC001, 0xF802, X, Y, Z, Y, X, A, 0x0FFF, Z],
+        &[P0; 8],
+    ];
+    let expected: [&[u16]; 6] = [
+        PXAX,
+        PXXB,
+        LONG,
+        PXQX,
+        &[0xC001, 0xF802, X, Y, Z, Y, X, A, 0x0FFF, Z],
+        &[P0; 8],
+    ];
+    let words = tree(90, &clauses);
+    assert_eq!(check(&words), Ok(()));
+    for (i, clause) in expected.iter().enumerate() {
+        assert_eq!(back(&words, i as u32 + 1), Ok(clause.to_vec()));
+    }
+    for number in [0, 7, 1 << 16 | 1, u32::MAX] {
+        assert_eq!(back(&words, number), Err(Refusal::NoSuchNumber));
+    }
+    let mut long = [9; OUTPUT_WORDS + 1];
+    assert_eq!(read_back(&words, 4, &mut long), Ok(4));
+    assert_eq!(long[..4], *PXQX);
+    assert_eq!(long[4..], [9; OUTPUT_WORDS - 3]);
+    let mut short = [9; OUTPUT_WORDS - 1];
+    assert_eq!(read_back(&words, 4, &mut short), Err(Refusal::ShortOutput));
+    assert_eq!(short, [9; OUTPUT_WORDS - 1]);
+}
+
+#[test]
+fn refusals_of_saved_slices() {
+    for n in [0, 1, 65537] {
+        assert_eq!(check(&vec![0; n]), Err(Refusal::BadSlice));
+        assert_eq!(back(&vec![0; n], 1), Err(Refusal::BadSlice));
+    }
+    for n in [2, 65536] {
+        assert_eq!(check(&vec![0; n]), Ok(()));
+        assert_eq!(back(&vec![0; n], 1), Err(Refusal::NoSuchNumber));
+        assert_eq!(check(&vec![7; n]), Err(Refusal::Broken));
+        assert_eq!(back(&vec![7; n], 1), Err(Refusal::Broken));
+    }
+    // a Success at the top
+    assert_eq!(check(&[1 << 32 | 1, 1 << 28 | 1]), Err(Refusal::NoSuchTree));
+    // the second clause's number made the first one's
+    let mut words = tree(24, &[PXAX, PXXB]);
+    let second = words.iter().position(|&word| word == 2 << 28 | 1);
+    words[second.expect("a Success")] = 1 << 28 | 1;
+    assert_eq!(check(&words), Err(Refusal::NoSuchTree));
+    for number in [1, 2] {
+        assert_eq!(back(&words, number), Err(Refusal::NoSuchTree));
+    }
+    assert_eq!(remove(&mut words, 1), Ok(()));
+    assert_eq!(check(&words), Ok(()));
+    assert_eq!(back(&words, 1), Ok(PXAX.to_vec()));
+}
+
 #[test]
 fn ceilings() {
     assert_eq!(ceiling(0, 1, 1), Ok(0));
@@ -381,6 +453,27 @@ fn told_by_insertions_and_ceilings() {
     }
 }
 
+#[test]
+fn told_by_readings_back() {
+    let pxqx = tree(24, &[PXQX]);
+    let (no_tree, broken) = (vec![1 << 32 | 1, 1 << 28 | 1], vec![9 << 32, 0]);
+    let rows: [(&[u64], u32, usize, u64, &[u64]); 6] = [
+        (&pxqx, 1, 64, 0, &[4]),
+        (&pxqx, 2, 64, 9, &[]),
+        (&pxqx, 1, 63, 15, &[]),
+        (&no_tree, 1, 64, 14, &[]),
+        (&broken, 1, 64, 2, &[]),
+        (&[0], 1, 64, 1, &[]),
+    ];
+    for (tree, number, out, code, values) in rows {
+        for t in 0..6 {
+            let read_back =
+                |words: &mut [u64]| raw::read_back(tree, number, &mut vec![0; out], words);
+            assert_eq!(told(t, read_back), so_far(t, code, values));
+        }
+    }
+}
+
 // Nested words, each with so many siblings after it that cannot be taken: a First, Puts, and a Check that fails.
 fn nested(levels: usize, siblings: usize) -> Vec<u64> {
     let each = 1 + siblings;
@@ -411,6 +504,8 @@ fn deepest_trees() {
         words[0] |= 1;
         words[65535] = 5 << 28 | 1;
         assert_eq!(insert(&mut words, &[0x8001], 1), Err(Refusal::NoRoom));
+        assert_eq!(check(&words), Err(Refusal::NoSuchTree));
+        assert_eq!(back(&words, 5), Err(Refusal::NoSuchTree));
         assert_eq!(remove(&mut words, 1), Err(Refusal::NoSuchNumber));
         assert_eq!(remove(&mut words, 5), Ok(()));
         assert_eq!(words, [0; 65536]);

@@ -4,69 +4,10 @@ mod beside;
 use beside::{Asked, UNWRITTEN};
 use model::calls::Cover;
 use model::instruction::{header, Instruction, Operation};
-use model::limits::WITNESS_WORDS;
+use model::limits::{OUTPUT_WORDS, WITNESS_WORDS};
+use model::notation::{clause, path, tree, NAMES};
 use model::refusal::Refusal;
-
-// The words of a clause in the notation P2 f x y.
-fn clause(text: &str) -> Vec<u16> {
-    text.split_whitespace().map(symbol).collect()
-}
-
-fn symbol(name: &str) -> u16 {
-    match name {
-        "P0" => 0x8001,
-        "P1" => 0x8801,
-        "P2" => 0x9001,
-        "P4" => 0xA001,
-        "Q0" => 0x8002,
-        "Q1" => 0x8802,
-        "a" => 0x0001,
-        "b" => 0x0002,
-        "f" => 0x0803,
-        "x" => 0x4000,
-        "y" => 0x4001,
-        hexadecimal => u16::from_str_radix(hexadecimal, 16).expect("a word"),
-    }
-}
-
-const NAMES: [(&str, Operation); 9] = [
-    ("Success", Operation::Success),
-    ("First", Operation::First),
-    ("Down", Operation::Down),
-    ("Right", Operation::Right),
-    ("Put", Operation::Put),
-    ("Push", Operation::Push),
-    ("Pop", Operation::Pop),
-    ("Check", Operation::Check),
-    ("Compare", Operation::Compare),
-];
-
-// A tree word in the notation `Check P0/2`; Compare's operand is m.k.
-fn tree_word(text: &str) -> u64 {
-    let (name, rest) = text.trim().split_once(' ').expect("an operation");
-    let (operand, extent) = rest.split_once('/').expect("an extent");
-    let operation = NAMES
-        .iter()
-        .find(|known| known.0 == name)
-        .expect("a name")
-        .1;
-    let operand = match (operation, operand.split_once('.')) {
-        (_, Some((m, k))) => m.parse::<u32>().unwrap() << 16 | k.parse::<u32>().unwrap(),
-        (Operation::Check, None) if operand == "18001" => 0x18001,
-        (Operation::Check, None) => symbol(operand) as u32,
-        _ => operand.parse().unwrap(),
-    };
-    Instruction::new(operation, operand).pack(extent.parse().unwrap())
-}
-
-// A tree with a true header.
-fn tree(text: &str) -> Vec<u64> {
-    let mut words = vec![0];
-    words.extend(text.split(',').map(tree_word));
-    let kept = words[1..].iter().filter(|word| **word >> 60 == 0).count();
-    words[0] = header(words.len() - 1, kept);
-    words
-}
+use model::tree::Tree;
 
 fn said_refusal(refusal: Refusal) -> String {
     let values = refusal
@@ -370,6 +311,122 @@ fn order_of_refusals() {
     assert_eq!(beside::ceiling(0, 1, 1), Ok(0));
     // a slice of two words has room for none
     assert_eq!(inserted(&mut [0; 2], "P1 x", 1), "refused 11");
+}
+
+fn checked(tree: &[u64]) -> String {
+    beside::check(tree).map_or_else(said_refusal, |()| "passed".to_string())
+}
+
+fn back(tree: &[u64], number: u32, out_words: usize) -> String {
+    let back = beside::read_back(tree, number, out_words);
+    let length = |length| format!("{:04x?}", &back.out[..length]);
+    back.answer.map_or_else(said_refusal, length)
+}
+
+// A tree of one path, with a word to spare.
+fn laid(text: &str) -> Vec<u64> {
+    Tree::of_paths(&[path(text)], 1).words()
+}
+
+#[test]
+fn saved_trees() {
+    // F5-1
+    assert_eq!(back(&[9 << 32, 0], 1, 63), "refused 15");
+    assert_eq!(back(&[9 << 32, 0], 1, 64), "refused 2");
+    assert_eq!(back(&[9 << 32], 1, 63), "refused 1");
+    // F5-2
+    let bare = tree("Success 5/1");
+    assert_eq!(checked(&bare), "refused 14");
+    assert_eq!(back(&bare, 5, 64), "refused 14");
+    assert_eq!(back(&bare, 5, 63), "refused 15");
+    // F5-3
+    let literals = |n| laid(&format!("{}Success 1", "First, Check P0, ".repeat(n)));
+    assert_eq!(checked(&literals(8)), "passed");
+    assert_eq!(checked(&literals(9)), "refused 14");
+    assert_eq!(back(&literals(9), 1, 64), "refused 14");
+    // F5-4
+    let mut twice = tree("First 0/5, Check P0/2, Success 1/1, Check Q0/2, Success 1/1");
+    assert_eq!(checked(&twice), "refused 14");
+    assert_eq!(back(&twice, 1, 64), "refused 14");
+    assert_eq!(back(&twice, 2, 64), "refused 14");
+    assert_eq!(beside::remove(&mut twice, 1), Ok(()));
+    assert_eq!(checked(&twice), "passed");
+    assert_eq!(back(&twice, 1, 64), "[8002]");
+    assert_eq!(back(&twice, 2, 64), "refused 9");
+}
+
+// F5-5: paths of clauses with what is read back, and such as are near them.
+const PATHS: [(&str, &str); 14] = [
+    (
+        "First, Check P2, Down, Put 0, Right, Put 1, Compare 0.1",
+        "[9001, 4000, 4000]",
+    ),
+    (
+        "First, Check P2, Down, Put 0, Right, Put 1",
+        "[9001, 4000, 4001]",
+    ),
+    (
+        "First, Check P2, Down, Put 0, Right, Put 1, Compare 1.0",
+        "refused 14",
+    ),
+    (
+        "First, Check P2, Down, Put 0, Right, Put 1, Compare 0.1, Compare 0.1",
+        "refused 14",
+    ),
+    ("First, Check P2, Down, Put 0, Right, Put 0", "refused 14"),
+    ("First, Check P1, Down, Check x", "refused 14"),
+    ("First, Check 18001", "refused 14"),
+    (
+        "First, Check P1, Down, Put 0, First, Check Q1, Down, Put 1, Compare 0.1",
+        "[8801, 4000, 8802, 4000]",
+    ),
+    (
+        "First, Check P2, Down, Put 0, Right, Put 1, First, Check P0, Compare 0.1",
+        "refused 14",
+    ),
+    (
+        "First, Check P3, Down, Put 0, Right, Put 1, Right, Put 2, Compare 0.1, Compare 0.2",
+        "[9801, 4000, 4000, 4000]",
+    ),
+    (
+        "First, Check P3, Down, Put 0, Right, Put 1, Right, Put 2, Compare 0.1, Compare 1.2",
+        "refused 14",
+    ),
+    (
+        "First, Check P3, Down, Put 0, Right, Put 1, Right, Put 2, Compare 0.2, Compare 0.1",
+        "refused 14",
+    ),
+    (
+        "First, Check P2, Down, Check f, Push 0, Down, Put 0, Pop 0, Put 1",
+        "[9001, 0803, 4000, 4001]",
+    ),
+    (
+        "First, Check P2, Down, Check f, Push 1, Down, Put 0, Pop 1, Put 1",
+        "refused 14",
+    ),
+];
+
+#[test]
+fn saved_paths() {
+    for (text, answer) in PATHS {
+        let words = laid(&format!("{text}, Success 1"));
+        assert_eq!(back(&words, 1, OUTPUT_WORDS), answer, "{text}");
+        let passed = !answer.starts_with("refused");
+        let answer = if passed { "passed" } else { answer };
+        assert_eq!(checked(&words), answer, "{text}");
+    }
+}
+
+// F5-6: words between the length and 64, and past 64, stay.
+#[test]
+fn output_words() {
+    let mut words = [0; 12];
+    assert_eq!(inserted(&mut words, "P1 y", 1), "kept");
+    for out_words in [64, 65, 100] {
+        let out = beside::read_back(&words, 1, out_words).out;
+        assert_eq!(out[..2], clause("P1 x"));
+        assert_eq!(out[2..], vec![UNWRITTEN; out_words - 2]);
+    }
 }
 
 // A chain of a First and Puts down to a last word: the deepest tree of all.

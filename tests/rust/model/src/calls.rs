@@ -1,10 +1,11 @@
-//! The five calls on lent words, with their refusals in document 01's order.
+//! The seven calls on lent words, with their refusals in the order of documents 01 and 02.
 use crate::compiler::sequence;
 use crate::instruction::used;
 use crate::laid::well_laid;
-use crate::limits::{KEPT, LITERALS, TREE_LEAST, TREE_MOST, WITNESS_WORDS};
+use crate::limits::{KEPT, LITERALS, OUTPUT_WORDS, TREE_LEAST, TREE_MOST, WITNESS_WORDS};
 use crate::reader::read;
 use crate::refusal::Refusal;
+use crate::saved::{renumbered, saved};
 use crate::tree::Tree;
 use crate::walk::walk;
 
@@ -90,4 +91,23 @@ pub fn ceiling(kept: u64, q: u64, m: u64) -> Result<u64, Refusal> {
     let sizes = kept <= KEPT as u64 && literals.contains(&q) && literals.contains(&m);
     refuse_if(!sizes, Refusal::BadSize)?;
     Ok((1..=m as u32).map(|i| kept * q.pow(i)).sum())
+}
+
+/// Whether a slice is the tree of some clauses, or none, with different numbers.
+pub fn check(tree: &[u64]) -> Result<(), Refusal> {
+    length(tree)?;
+    refuse_if(!well_laid(tree), Refusal::Broken)?;
+    refuse_if(saved(tree).is_none(), Refusal::NoSuchTree)
+}
+
+/// Writes the clause with a number, its variables numbered by first appearance; gives its length.
+pub fn read_back(tree: &[u64], number: u32, out: &mut [u16]) -> Result<usize, Refusal> {
+    length(tree)?;
+    refuse_if(out.len() < OUTPUT_WORDS, Refusal::ShortOutput)?;
+    refuse_if(!well_laid(tree), Refusal::Broken)?;
+    let pairs = saved(tree).ok_or(Refusal::NoSuchTree)?.pairs;
+    let numbered = pairs.iter().find(|pair| pair.number == number);
+    let clause = renumbered(&numbered.ok_or(Refusal::NoSuchNumber)?.words);
+    out[..clause.len()].copy_from_slice(&clause);
+    Ok(clause.len())
 }

@@ -1,5 +1,5 @@
 //! The rows of crates/cases/stdin run on the model. The commands are told at the top of crates/cases/src/main.rt.
-use crate::calls::{ceiling, fresh, insert, query, remove, Cover};
+use crate::calls::{ceiling, check, fresh, insert, query, read_back, remove, Cover};
 use crate::compiler::sequence;
 use crate::instruction::Instruction;
 use crate::limits::TREE_MOST;
@@ -7,7 +7,7 @@ use crate::reader::{read, Term};
 use crate::refusal::Refusal;
 use crate::words::{word, POSITIVE};
 
-// What a witness holds before a query: no literal and no position.
+// What a word of a witness or an output holds before a call: no literal and no position, and no word of a clause that a row reads back.
 const BLANK: u16 = u16::MAX;
 
 /// The lines of rows.
@@ -16,7 +16,8 @@ pub fn output(rows: &str) -> String {
     rows.lines().map(|row| cases.line(row) + "\n").collect()
 }
 
-// What the commands have set: the words that slices are the first of, the slice's length, the clause, how often the slice's next word stands, the budget.
+// What the commands have set: the words that slices are the first of, the slice's length, the clause, how often the slice's next word stands, the budget
+// or the number of a clause to read back.
 struct Cases {
     words: Vec<u64>,
     length: usize,
@@ -87,6 +88,8 @@ impl Cases {
             "V" => written(read(clause), |literals| format!("whole {}", literals.len())),
             "G" => written(read(clause), |literals| compiled(&literals)),
             "W" => self.ask(clause, number as usize),
+            "O" => self.read_back(number as usize),
+            "H" => written(check(self.slice()), |()| numbers(&[0])),
             "N" => self.ceiling(),
             "S" => return self.laid(),
             _ => panic!("{letter} is no command"),
@@ -119,10 +122,14 @@ impl Cases {
     fn ask(&mut self, clause: &[u16], length: usize) -> String {
         let (budget, mut witness) = (self.budget, vec![BLANK; length]);
         let answer = query(self.slice(), clause, budget, &mut witness);
-        let words = witness.iter().enumerate();
-        let words = words.filter(|(_, &value)| value != BLANK);
-        let words: String = words.map(|(i, value)| format!(" {i}:{value}")).collect();
-        written(answer, covered) + &words
+        written(answer, covered) + &entries(&witness)
+    }
+
+    // The answer to reading a clause back and the words that it wrote.
+    fn read_back(&mut self, length: usize) -> String {
+        let (number, mut out) = (self.budget as u32, vec![BLANK; length]);
+        let answer = read_back(self.slice(), number, &mut out);
+        written(answer, |length| numbers(&[0, length as u64])) + &entries(&out)
     }
 
     fn ceiling(&self) -> String {
@@ -153,6 +160,13 @@ fn numbers(numbers: &[u64]) -> String {
 fn written<T>(answer: Result<T, Refusal>, write: impl FnOnce(T) -> String) -> String {
     let refused = |refusal: Refusal| numbers(&[vec![refusal.code()], refusal.values()].concat());
     answer.map_or_else(refused, write)
+}
+
+// The words that were written, each with its index.
+fn entries(words: &[u16]) -> String {
+    let words = words.iter().enumerate();
+    let words = words.filter(|(_, &value)| value != BLANK);
+    words.map(|(i, value)| format!(" {i}:{value}")).collect()
 }
 
 fn covered(cover: Cover) -> String {

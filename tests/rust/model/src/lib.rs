@@ -1,4 +1,4 @@
-//! Document 01 with the changes F-1 to F-3 of document 02 in plain Rust, written from their words and with nothing of the proved code.
+//! Document 01 with the changes F-1 to F-5 of document 02 in plain Rust, written from their words and with nothing of the proved code.
 //! The tests hold the proved calls and the program against it, and it makes the expected lines of tests/pages and crates/cases.
 //! A change of documents 01 and 02 is made here first.
 
@@ -10,10 +10,12 @@ pub mod instruction;
 pub mod laid;
 pub mod limits;
 pub mod matcher;
+pub mod notation;
 pub mod pages;
 pub mod program;
 pub mod reader;
 pub mod refusal;
+pub mod saved;
 pub mod tree;
 pub mod walk;
 pub mod words;

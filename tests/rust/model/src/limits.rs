@@ -12,6 +12,9 @@ pub const NUMBERS: usize = 64;
 /// The least length of a witness: the literals, then the positions.
 pub const WITNESS_WORDS: usize = LITERALS + NUMBERS;
 
+/// The least length of a slice to which a clause is read back: room for the longest.
+pub const OUTPUT_WORDS: usize = CLAUSE_WORDS;
+
 /// The lengths of a tree slice.
 pub const TREE_LEAST: usize = 2;
 pub const TREE_MOST: usize = 65_536;

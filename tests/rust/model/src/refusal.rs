@@ -1,4 +1,4 @@
-//! What is returned on refusal: document 01's table.
+//! What is returned on refusal: document 01's table, with the codes that document 02 adds.
 
 #[derive(Clone, Copy, Debug, PartialEq, Eq)]
 pub enum Refusal {
@@ -19,6 +19,8 @@ pub enum Refusal {
     /// With the count, which is the budget.
     Spent(u64),
     BadSize,
+    NoSuchTree,
+    ShortOutput,
 }
 
 impl Refusal {
@@ -37,6 +39,8 @@ impl Refusal {
             Refusal::NoRoom => 11,
             Refusal::Spent(_) => 12,
             Refusal::BadSize => 13,
+            Refusal::NoSuchTree => 14,
+            Refusal::ShortOutput => 15,
         }
     }
 

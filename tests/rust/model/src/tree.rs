@@ -39,6 +39,16 @@ impl Tree {
         }
     }
 
+    /// The tree of paths, whatever they are, in a slice with so many words to spare.
+    pub fn of_paths(paths: &[Path], spare: usize) -> Tree {
+        let mut tree = Tree::new(0);
+        for path in paths {
+            tree.add(path.clone());
+        }
+        tree.length = 1 + tree.used() + spare;
+        tree
+    }
+
     /// The tree of well-laid words.
     pub fn of(words: &[u64]) -> Tree {
         let mut tree = Tree::new(words.len());

@@ -6,7 +6,7 @@ use model::refusal::Refusal;
 
 const UNTOLD: u64 = 0xDEAD;
 
-/// What a witness word holds before a query.
+/// What a word of a witness or an output holds before a call.
 pub const UNWRITTEN: u16 = 0xBEEF;
 
 // The number returned and the told words of an answer with its values.
@@ -109,4 +109,63 @@ pub fn ceiling(kept: u64, q: u64, m: u64) -> Result<u64, Refusal> {
     let code = raw::ceiling(kept, q, m, &mut words);
     assert_eq!((code, words), told(answer.map(|ceiling| vec![ceiling])));
     answer
+}
+
+/// Checks a slice, where the answer has to be this.
+pub fn expect_check(tree: &[u64], answer: Result<(), Refusal>) {
+    let before = tree.to_vec();
+    let code = raw::check(tree);
+    assert_eq!(code, told(answer.map(|()| vec![])).0, "check");
+    assert!(tree == before, "words after check");
+}
+
+/// Checks a slice.
+pub fn check(tree: &[u64]) -> Result<(), Refusal> {
+    let answer = calls::check(tree);
+    expect_check(tree, answer);
+    answer
+}
+
+/// The answer to a reading back and the output afterwards.
+#[derive(Debug, PartialEq)]
+pub struct ReadBack {
+    pub answer: Result<usize, Refusal>,
+    pub out: Vec<u16>,
+}
+
+impl ReadBack {
+    /// The reading back of a clause to so many words.
+    pub fn of(clause: &[u16], out_words: usize) -> ReadBack {
+        let mut out = vec![UNWRITTEN; out_words];
+        out[..clause.len()].copy_from_slice(clause);
+        let answer = Ok(clause.len());
+        ReadBack { answer, out }
+    }
+
+    /// A refused one.
+    pub fn refused(refusal: Refusal, out_words: usize) -> ReadBack {
+        let (answer, out) = (Err(refusal), vec![UNWRITTEN; out_words]);
+        ReadBack { answer, out }
+    }
+}
+
+/// Reads back, where the answer and the output afterwards have to be these.
+pub fn expect_read_back(tree: &[u64], number: u32, expected: &ReadBack) {
+    let before = tree.to_vec();
+    let mut out = vec![UNWRITTEN; expected.out.len()];
+    let mut words = [UNTOLD; 4];
+    let code = raw::read_back(tree, number, &mut out, &mut words);
+    let length = expected.answer.map(|length| vec![length as u64]);
+    assert_eq!((code, words), told(length), "read back {number}");
+    assert_eq!(out, expected.out, "output of {number}");
+    assert!(tree == before, "words after read back {number}");
+}
+
+/// Reads back to so many words.
+pub fn read_back(tree: &[u64], number: u32, out_words: usize) -> ReadBack {
+    let mut out = vec![UNWRITTEN; out_words];
+    let answer = calls::read_back(tree, number, &mut out);
+    let expected = ReadBack { answer, out };
+    expect_read_back(tree, number, &expected);
+    expected
 }

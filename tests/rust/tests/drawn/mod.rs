@@ -1,5 +1,6 @@
 //! Random clauses: few symbols and variables, new ones and such as are made from another clause.
 #![allow(dead_code)]
+pub mod paths;
 pub mod repeated;
 pub mod tally;
 pub mod units;

@@ -21,7 +21,7 @@ pub fn literals(clause: &[u16]) -> Vec<&[u16]> {
 }
 
 impl Random {
-    fn shuffle<T>(&mut self, items: &mut [T]) {
+    pub fn shuffle<T>(&mut self, items: &mut [T]) {
         for i in (1..items.len()).rev() {
             items.swap(i, self.below(i + 1));
         }

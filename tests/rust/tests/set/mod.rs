@@ -36,6 +36,10 @@ impl<'a> Set<'a> {
         }
     }
 
+    pub fn tree(&self) -> &[u64] {
+        &self.tree
+    }
+
     // The model's call on words, which has to agree with the book, is run on the smaller slices.
     fn by_words(&self) -> bool {
         self.tree.len() < 160

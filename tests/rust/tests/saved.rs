@@ -1,0 +1,499 @@
+//! Saved trees checked and read back: those of lists of calls beside the clause book, spoilt and hand-made slices beside the model.
+mod beside;
+mod drawn;
+mod set;
+
+use beside::ReadBack;
+use drawn::tally::Tally;
+use drawn::{Random, Style, STYLES};
+use model::book::Book;
+use model::compiler::sequence;
+use model::instruction::{header, used, Instruction, Operation};
+use model::laid::well_laid;
+use model::limits::{FULL_BUDGET, KEPT, OUTPUT_WORDS, TREE_MOST, WITNESS_WORDS};
+use model::notation::{clause, path, tree};
+use model::reader::read;
+use model::refusal::Refusal;
+use model::saved::renumbered;
+use model::tree::{Path, Tree};
+use model::words::{word, NEGATIVE};
+use set::Set;
+
+// Lengths of an output.
+const OUTPUTS: [usize; 4] = [OUTPUT_WORDS, OUTPUT_WORDS + 1, OUTPUT_WORDS + 2, 300];
+
+// The numbers of the clauses of a well-laid slice.
+fn numbers(tree: &[u64]) -> Vec<u32> {
+    let words = tree[1..=used(tree[0])].iter();
+    let successes = words.filter(|word| **word >> 60 == 0);
+    successes.map(|word| (word >> 28) as u32).collect()
+}
+
+// Every so many-th clause of a book read back out of its tree: it comes as it was kept but for the names of its variables, and compiles to the same.
+fn read_book_back(tree: &[u64], book: &Book, every: usize, random: &mut Random, tally: &mut Tally) {
+    for pair in book.pairs.iter().step_by(every) {
+        let clause = renumbered(&pair.words);
+        let expected = ReadBack::of(&clause, random.of(&OUTPUTS));
+        beside::expect_read_back(tree, pair.number, &expected);
+        let literals = read(&clause).expect("an accepted clause");
+        assert_eq!(sequence(&literals), sequence(&pair.literals));
+        tally.count("clauses read back");
+        tally.count_if("read back equal", clause == pair.words);
+        tally.count_if("read back with 60 or more words", clause.len() >= 60);
+    }
+}
+
+// A slice that passes is made again of the clauses read back, in any order and with any words to spare; queries are answered the same.
+fn make_again(tree: &[u64], queries: &[Vec<u16>], random: &mut Random, tally: &mut Tally) {
+    let length = (tree.len() + random.below(9)).min(TREE_MOST);
+    let mut again = vec![!0; length];
+    assert_eq!(code_tree::fresh(&mut again), Ok(()));
+    let mut numbers = numbers(tree);
+    random.shuffle(&mut numbers);
+    for number in numbers {
+        let mut out = [0; OUTPUT_WORDS];
+        let length = code_tree::read_back(tree, number, &mut out).expect("a clause");
+        let inserted = code_tree::insert(&mut again, &out[..length], number);
+        assert_eq!(inserted, Ok(()));
+    }
+    let (words, spare) = again.split_at(tree.len());
+    assert!(words == tree && spare.iter().all(|word| *word == 0));
+    assert_eq!(code_tree::check(&again), Ok(()));
+    tally.count("made again");
+    for query in queries {
+        let ask = |tree| beside::query(tree, query, FULL_BUDGET, WITNESS_WORDS);
+        let asked = ask(tree);
+        assert_eq!(asked, ask(&again));
+        tally.answer("queries of both", "answered", asked.answer);
+    }
+}
+
+impl Set<'_> {
+    fn call(&mut self, style: Style) {
+        if self.random.one_in(4) {
+            let number = self.any_removal();
+            return self.remove(number);
+        }
+        let (clause, number) = (self.any_clause(style), self.any_number());
+        self.insert(&clause, number);
+    }
+
+    // The slice passes, the book is read back, and no other number is.
+    fn judge_saved(&mut self) {
+        let tree = self.tree().to_vec();
+        assert_eq!(beside::check(&tree), Ok(()));
+        self.tally.count("lists passed");
+        read_book_back(&tree, &self.book, 1, self.random, self.tally);
+        let known = numbers(&tree);
+        let near = |number: &u32| [number.wrapping_add(1), number ^ 1 << 16, number ^ 1 << 31];
+        let any = (0..18).chain([u32::MAX - 1, u32::MAX]);
+        let others = known.iter().flat_map(near).chain(any);
+        for other in others.filter(|other| !known.contains(other)) {
+            let refused = ReadBack::refused(Refusal::NoSuchNumber, self.random.of(&OUTPUTS));
+            beside::expect_read_back(&tree, other, &refused);
+            self.tally.count("other numbers refused");
+        }
+        // the model's own reading of the words
+        let number = self.any_removal();
+        let back = beside::read_back(&tree, number, OUTPUT_WORDS);
+        assert_eq!(back.answer.is_ok(), known.contains(&number));
+    }
+}
+
+// Lists of insertions and removals, refused ones among them.
+#[test]
+fn lists_of_calls() {
+    let mut random = Random(51);
+    let mut tally = Tally::default();
+    for i in 0..2_000 {
+        let style = STYLES[i % STYLES.len()];
+        let most = if random.one_in(2) { 150 } else { 2000 };
+        let length = 2 + random.below(most);
+        let mut set = Set::new(length, &mut random, &mut tally);
+        set.judge_saved();
+        for _ in 0..5 + set.random.below(20) {
+            set.call(style);
+            if set.random.one_in(6) {
+                set.judge_saved();
+            }
+        }
+        set.judge_saved();
+        let queries: Vec<Vec<u16>> = (0..4).map(|_| set.any_clause(style)).collect();
+        let tree = set.tree().to_vec();
+        make_again(&tree, &queries, set.random, set.tally);
+        set.finish();
+        set.judge_saved();
+    }
+    tally.assert_least(&[
+        ("lists passed", 8_000),
+        ("clauses read back", 12_000),
+        ("read back equal", 4_000),
+        ("read back with 60 or more words", 600),
+        ("other numbers refused", 100_000),
+        ("made again", 2_000),
+        ("queries of both answered", 6_000),
+        ("insertions kept", 6_000),
+        ("insertions refused 4", 500),
+        ("insertions refused 7", 1_000),
+        ("insertions refused 8", 1_000),
+        ("insertions refused 11", 1_000),
+        ("removals made", 6_000),
+        ("removals refused 9", 1_000),
+    ]);
+}
+
+// A slice of the greatest length with its book.
+struct Full {
+    tree: Vec<u64>,
+    book: Book,
+}
+
+impl Full {
+    fn keep(&mut self, clause: &[u16], number: u32) -> Result<(), Refusal> {
+        let answer = self.book.insert(clause, number);
+        let inserted = code_tree::insert(&mut self.tree, clause, number);
+        assert_eq!(inserted.is_ok(), answer.is_ok());
+        answer
+    }
+
+    // Random clauses up to the most, or until little room is left: none takes more than 321 words.
+    fn of(style: Style, random: &mut Random) -> Full {
+        let (tree, book) = (vec![0; TREE_MOST], Book::new(TREE_MOST));
+        let mut full = Full { tree, book };
+        while full.book.pairs.len() < KEPT && full.book.tree.used() < TREE_MOST - 400 {
+            let (clause, number) = (random.clause(style), random.next() as u32);
+            let _ = full.keep(&clause, number);
+        }
+        full
+    }
+
+    // Literals without arguments up to the last word: one alone takes two words, the first one twice takes three.
+    fn fill_up(&mut self) {
+        let head = |n: u32| word(NEGATIVE, 0, 99 + n as u16);
+        assert_eq!(self.keep(&[head(0)], 0), Ok(()));
+        if (TREE_MOST - 1 - self.book.tree.used()) % 2 == 1 {
+            assert_eq!(self.keep(&[head(0), head(0)], 1), Ok(()));
+        }
+        for n in 2.. {
+            if self.book.tree.used() == TREE_MOST - 1 {
+                break;
+            }
+            assert_eq!(self.keep(&[head(n)], n), Ok(()));
+        }
+    }
+
+    // A Check of 17 bits, at any place where that leaves the slice well laid, is no clause's.
+    fn judge_widened(&self, random: &mut Random, tally: &mut Tally) {
+        for _ in 0..200 {
+            let mut changed = self.tree.clone();
+            let at = 1 + random.below(used(changed[0]));
+            changed[at] |= 1 << (28 + 16);
+            if changed[at] >> 60 == Operation::Check as u64 && well_laid(&changed) {
+                beside::expect_check(&changed, Err(Refusal::NoSuchTree));
+                tally.count("Checks widened");
+            }
+        }
+    }
+
+    fn judge(&self, every: usize, random: &mut Random, tally: &mut Tally) {
+        let Full { tree, book } = self;
+        assert!(*tree == book.tree.words(), "the words of a full tree");
+        assert_eq!(beside::check(tree), Ok(()));
+        read_book_back(tree, book, every, random, tally);
+        let known = numbers(tree);
+        let other = (0..).find(|other| !known.contains(other)).unwrap();
+        let refused = ReadBack::refused(Refusal::NoSuchNumber, OUTPUT_WORDS);
+        beside::expect_read_back(tree, other, &refused);
+        // the last number is the first one's, too
+        let mut twice = tree.clone();
+        twice[used(tree[0])] = Instruction::new(Operation::Success, known[0]).pack(1);
+        assert_eq!(beside::check(&twice), Err(Refusal::NoSuchTree));
+        self.judge_widened(random, tally);
+        println!("{} clauses in {} words", known.len(), used(tree[0]));
+    }
+}
+
+#[test]
+fn full_trees() {
+    let mut random = Random(52);
+    let mut tally = Tally::default();
+    let [middle, large] = [STYLES[3], STYLES[6]];
+    let full = Full::of(middle, &mut random);
+    assert_eq!(full.book.pairs.len(), KEPT);
+    full.judge(1, &mut random, &mut tally);
+    let mut full = Full::of(large, &mut random);
+    full.fill_up();
+    full.judge(5, &mut random, &mut tally);
+    tally.assert_least(&[
+        ("clauses read back", 1_100),
+        ("read back with 60 or more words", 50),
+        ("Checks widened", 40),
+    ]);
+}
+
+// Both calls on any slice; one that passes is, now and then, made again.
+fn call_both(tree: &[u64], random: &mut Random, tally: &mut Tally) {
+    let checked = beside::check(tree);
+    tally.answer("checks", "passed", checked);
+    let (number, short) = (random.below(5) as u32, random.one_in(8));
+    let out_words = OUTPUT_WORDS + random.below(2) - short as usize;
+    let back = beside::read_back(tree, number, out_words);
+    tally.answer("readings back", "made", back.answer);
+    if checked.is_ok() && random.one_in(8) {
+        make_again(tree, &[], random, tally);
+    }
+}
+
+// How often each answer has to occur.
+const LEAST: [(&str, u64); 9] = [
+    ("checks passed", 1_000),
+    ("checks refused 2", 500),
+    ("checks refused 14", 1_000),
+    ("readings back made", 1_000),
+    ("readings back refused 2", 500),
+    ("readings back refused 9", 1_000),
+    ("readings back refused 14", 1_000),
+    ("readings back refused 15", 1_000),
+    ("made again", 100),
+];
+
+// A tree of few clauses, under numbers from 0.
+fn small_tree(style: Style, random: &mut Random) -> Vec<u64> {
+    let mut tree = vec![0; 12 + random.below(24)];
+    for number in 0..4 {
+        let _ = model::calls::insert(&mut tree, &random.clause(style), number);
+    }
+    tree
+}
+
+// In small trees each bit of each word changed, each two words exchanged, and each field (extent, operand or kept, used) one more and one less.
+#[test]
+fn each_word_changed() {
+    let mut random = Random(53);
+    let mut tally = Tally::default();
+    for i in 0..48 {
+        let tree = small_tree(STYLES[i % STYLES.len()], &mut random);
+        let mut call = |changes: &[(usize, u64)]| {
+            let mut changed = tree.clone();
+            for (at, word) in changes {
+                changed[*at] = *word;
+            }
+            call_both(&changed, &mut random, &mut tally);
+        };
+        for at in 0..tree.len() {
+            for bit in 0..64 {
+                call(&[(at, tree[at] ^ 1 << bit)]);
+            }
+            for and in 0..at {
+                call(&[(at, tree[and]), (and, tree[at])]);
+            }
+            for by in [1, 1 << 28, 1 << 32] {
+                call(&[(at, tree[at].wrapping_add(by))]);
+                call(&[(at, tree[at].wrapping_sub(by))]);
+            }
+        }
+    }
+    tally.assert_least(&LEAST);
+}
+
+// Sequences near those of clauses, each under a number that is mostly its own, laid out as a tree's paths are.
+#[test]
+fn paths_near_clauses() {
+    let mut random = Random(54);
+    let mut tally = Tally::default();
+    for i in 0..24_000 {
+        let large = i % 32 == 0;
+        let style = STYLES[if large { 6 + random.below(2) } else { i % 6 }];
+        let clauses = [(); 4].map(|()| random.clause(style));
+        let accepted = clauses.iter().filter_map(|clause| read(clause).ok());
+        let sequences: Vec<Path> = accepted.map(|literals| sequence(&literals)).collect();
+        let changed = random.of(&[0, 1, 1, 2]);
+        let mut paths = Vec::new();
+        for (i, mut path) in sequences.iter().cloned().enumerate() {
+            if i < changed {
+                let other = random.below(sequences.len());
+                path = random.near(&path, &sequences[other]);
+            }
+            let number = if random.one_in(20) { 0 } else { i as u32 };
+            path.push(Instruction::new(Operation::Success, number));
+            paths.push(path);
+        }
+        paths.sort();
+        paths.dedup();
+        let tree = Tree::of_paths(&paths, 1 + random.below(9)).words();
+        call_both(&tree, &mut random, &mut tally);
+        let mut apart = numbers(&tree);
+        apart.sort();
+        apart.dedup();
+        let twice = changed == 0 && apart.len() < paths.len();
+        tally.count_if("a number twice, no path changed", twice);
+    }
+    let more = [
+        ("checks passed", 5_000),
+        ("checks refused 14", 10_000),
+        ("a number twice, no path changed", 500),
+    ];
+    tally.assert_least(&[&LEAST[..], &more].concat());
+}
+
+// Numbers that differ in a bit are different, and each has its own clause.
+#[test]
+fn numbers_a_bit_apart() {
+    let numbers = [0, u32::MAX].map(|n| (0..32).map(move |bit| n ^ 1 << bit).chain([n]));
+    let numbers: Vec<u32> = numbers.into_iter().flatten().collect();
+    let mut tree = [0; 200];
+    let clause = |i: usize| [word(NEGATIVE, 0, i as u16)];
+    for (i, number) in numbers.iter().enumerate() {
+        assert_eq!(beside::insert(&mut tree, &clause(i), *number), Ok(()));
+    }
+    assert_eq!(beside::check(&tree), Ok(()));
+    for (i, number) in numbers.iter().enumerate() {
+        let back = beside::read_back(&tree, *number, OUTPUT_WORDS);
+        assert_eq!(back, ReadBack::of(&clause(i), OUTPUT_WORDS));
+    }
+}
+
+// A chain of instructions, one below the other, with a Success below the last and below each that is chosen, numbered by its place.
+fn chain(instructions: &[Instruction], ends: impl Fn(usize) -> bool) -> Vec<u64> {
+    let last = instructions.len() - 1;
+    let ended = instructions
+        .iter()
+        .enumerate()
+        .flat_map(|(i, instruction)| {
+            let success = Instruction::new(Operation::Success, i as u32);
+            let success = (ends(i) || i == last).then_some(success);
+            [*instruction].into_iter().chain(success)
+        });
+    let row: Vec<Instruction> = ended.collect();
+    let success = |instruction: &Instruction| instruction.operation == Operation::Success;
+    let kept = row.iter().filter(|it| success(it)).count();
+    let extent = |i: usize| if success(&row[i]) { 1 } else { row.len() - i };
+    let words = (0..row.len()).map(|i| row[i].pack(extent(i)));
+    [header(row.len(), kept)].into_iter().chain(words).collect()
+}
+
+// So many instructions: these, then others over and over.
+fn going_on(first: &str, over: &str, count: usize) -> Path {
+    let (first, over) = (path(first), path(over));
+    let going_on = first.into_iter().chain(over.into_iter().cycle());
+    going_on.take(count).collect()
+}
+
+// Paths about as long as any clause's can be, and the longest of all: none is a clause's, alone, before a clause's path or after one.
+#[test]
+fn deep_paths() {
+    let calls = || {
+        let literal = "First, Check P1, Down, Put 0";
+        let over = ["Compare 0.0", "Put 1", "Check f, Down", "First, Check P0"];
+        for depth in [317, 318, 319, 320, 321, 322, 323, 400, 30_000, 65_534] {
+            for over in over {
+                let tree = chain(&going_on(literal, over, depth), |_| false);
+                assert_eq!(beside::check(&tree), Err(Refusal::NoSuchTree));
+                let number = depth as u32 - 1;
+                let back = beside::read_back(&tree, number, OUTPUT_WORDS);
+                assert_eq!(back.answer, Err(Refusal::NoSuchTree));
+                for other in ["P0", "Q1 x"] {
+                    let mut two = tree.clone();
+                    two.resize((tree.len() + 9).min(TREE_MOST), 0);
+                    let inserted = code_tree::insert(&mut two, &clause(other), 7);
+                    assert_eq!(inserted.is_ok(), two.len() > tree.len());
+                    beside::expect_check(&two, Err(Refusal::NoSuchTree));
+                    let refused = ReadBack::refused(Refusal::NoSuchTree, OUTPUT_WORDS);
+                    beside::expect_read_back(&two, 7, &refused);
+                }
+            }
+        }
+    };
+    let thread = std::thread::Builder::new().stack_size(512 << 20);
+    thread.spawn(calls).unwrap().join().unwrap();
+}
+
+// Literals one below the other, each the end of a clause: eight are, nine or more are not.
+#[test]
+fn clauses_below_clauses() {
+    for (literals, answer) in [
+        (1, Ok(())),
+        (8, Ok(())),
+        (9, Err(Refusal::NoSuchTree)),
+        (300, Err(Refusal::NoSuchTree)),
+        (1_024, Err(Refusal::NoSuchTree)),
+        (1_025, Err(Refusal::Broken)),
+    ] {
+        let path = going_on("First, Check P0", "First, Check P0", 2 * literals);
+        let tree = chain(&path, |i| i % 2 == 1);
+        assert_eq!(beside::check(&tree), answer);
+        let back = beside::read_back(&tree, 1, OUTPUT_WORDS);
+        assert_eq!(back.answer, answer.map(|()| 1));
+        let back = beside::read_back(&tree, 15, OUTPUT_WORDS).answer;
+        assert_eq!(back.is_ok(), literals == 8);
+    }
+}
+
+// 1, 15, 2, 14, 9: of those that apply the first.
+#[test]
+fn order_of_refusals() {
+    let saved = tree("First 0/3, Check P0/2, Success 1/1");
+    let no_tree = tree("First 0/2, Success 1/1");
+    let broken = tree("First 0/2, Success 1/2");
+    let lengths = [1, TREE_MOST + 1].map(|length| vec![u64::MAX; length]);
+    let [one, too_long] = &lengths;
+    for (words, code) in [
+        (one, 1),
+        (too_long, 1),
+        (&broken, 2),
+        (&no_tree, 14),
+        (&saved, 0),
+    ] {
+        let checked = beside::check(words);
+        assert_eq!(checked.err().map_or(0, Refusal::code), code);
+        for (out_words, number) in [(0, 1), (63, 1), (63, 9), (64, 1), (64, 9), (65, 9)] {
+            let applies = [
+                (code == 1, 1),
+                (out_words < 64, 15),
+                (code == 2, 2),
+                (code == 14, 14),
+                (number != 1, 9),
+            ];
+            let first = applies.into_iter().find(|(applies, _)| *applies);
+            let back = beside::read_back(words, number, out_words);
+            let said = back.answer.err().map_or(0, Refusal::code);
+            assert_eq!(said, first.map_or(0, |(_, code)| code));
+        }
+    }
+}
+
+// Slices of each length at the bounds, empty, with a clause or of one word over and over.
+#[test]
+fn slices_of_each_length() {
+    let mut random = Random(55);
+    let mut tally = Tally::default();
+    for length in [0, 1, 2, 3, 4, 5, TREE_MOST - 1, TREE_MOST, TREE_MOST + 1] {
+        for word in [0, 1, 1 << 32, 1 << 32 | 1, u64::MAX] {
+            call_both(&vec![word; length], &mut random, &mut tally);
+        }
+        for text in [
+            "First 0/3, Check P0/2, Success 1/1",
+            "First 0/2, Success 1/1",
+            "Success 1/1",
+        ] {
+            let mut words = tree(text);
+            words.resize(length, 0);
+            for number in [1, 2] {
+                let back = beside::read_back(&words, number, OUTPUT_WORDS);
+                tally.answer("readings back", "made", back.answer);
+            }
+            tally.answer("checks", "passed", beside::check(&words));
+        }
+    }
+    tally.assert_least(&[
+        ("checks passed", 8),
+        ("checks refused 1", 20),
+        ("checks refused 2", 20),
+        ("checks refused 14", 8),
+        ("readings back made", 4),
+        ("readings back refused 1", 20),
+        ("readings back refused 2", 20),
+        ("readings back refused 9", 4),
+        ("readings back refused 14", 16),
+    ]);
+}
