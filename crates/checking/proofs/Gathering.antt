@@ -1,13 +1,12 @@
 -- The turns of the two passes from Success to Success.
 use mathlib.Core.Path.{_≡_, refl, sym, ap, _∙_}
 use mathlib.Core.Logic.{_≢_}
-use mathlib.Core.Bool.{true, false, _&&_, true≢false, and-eq-true-iff}
-use mathlib.Core.Option.{none, some}
+use mathlib.Core.Bool.{true, false, true≢false, and-eq-true-iff}
+use mathlib.Core.Option.{none}
 use mathlib.Core.List.{List, [], _∷_, _++_, append-nil, append-assoc}
-use Prim.Native.Nat.{ℕ, suc, _+_, _≤_, _<_}
+use Prim.Native.Nat.{ℕ, _+_, _≤_, _<_}
 use native.Mathlib.Numerals.{add-one}
 use native.Mathlib.Omega.{arith}
-use lib.Dec.{eqb}
 use lib.ListN.{length, getD, take, set, length-append, length-map, length-set}
 use lib.Seq.{take-suc-set, length-take-le}
 use borrow.Author.Tests.{eq-eqb, ne-eqb}
@@ -17,9 +16,9 @@ use Rattle.tree.specs.Entries.{Entry}
 use Rattle.tree.specs.Laws.{firstWith}
 use Rattle.readback.specs.Saved.{readable, allReadable, numbersOf}
 use Rattle.checking.specs.inner.Scan.{scan, scanFrom, opens, Comes, Gathers, Finds}
-use Rattle.checking.specs.declared.Ahead.the-variants.{Success, Nothing, TooDeep}
+use Rattle.checking.specs.declared.Ahead.the-variants.{Success}
 use Rattle.checking.specs.declared.Gathered.the-variants.{Numbers, Foreign}
-use Rattle.checking.specs.declared.Found.the-variants.{At, Nowhere}
+use Rattle.checking.specs.declared.Found.the-variants.{At}
 use Rattle.checking.proofs.Scanning.{from-end}
 
 -- the entries of words

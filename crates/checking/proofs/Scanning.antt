@@ -1,14 +1,13 @@
 -- The pass over a tree's words finds the paths of its forest.
 use mathlib.Core.Path.{_≡_, refl, sym, ap, ap₂, _∙_}
-use mathlib.Core.Bool.{Bool, true, false, _&&_}
+use mathlib.Core.Bool.{false}
 use mathlib.Core.List.{List, [], _∷_, _++_, map, map-append, append-nil, append-assoc}
 use Prim.Native.Nat.{ℕ, zero, suc, _+_, _-_, _^_, _≤_, _<_}
 use native.Mathlib.Nat.{add-zero}
 use native.Mathlib.Numerals.{add-one}
 use native.Mathlib.Omega.{arith}
 use native.Mathlib.Decide.{decLt}
-use lib.Dec.{ltb}
-use lib.ListN.{length, getD, take, drop, set, length-append, length-drop, length-set, drop-of-length-le}
+use lib.ListN.{length, getD, take, drop, set, length-append, length-set, drop-of-length-le}
 use lib.Seq.{drop-cons, take-suc, getD-set-same, getD-set-other}
 use borrow.Author.Tests.{lt-ltb, le-ltb}
 use Rattle.machine.specs.Compiled.{maxKeys}
@@ -19,7 +18,7 @@ use Rattle.tree.specs.Entries.{Entry}
 use Rattle.tree.specs.Laws.{under, pathsOf}
 use Rattle.clause.proofs.Lists.{length-snoc}
 use Rattle.tree.proofs.Words.{key-word, extent-word, length-encode}
-use Rattle.readback.specs.Saved.{allReadable, readable}
+use Rattle.readback.specs.Saved.{allReadable}
 use Rattle.readback.proofs.Laws.{deep-unreadable}
 use Rattle.checking.specs.inner.Scan.{Open, stillOpen, pathTo, scan, scanFrom, opens, Closed, Nested, done, word, Comes}
 use Rattle.checking.specs.declared.Ahead.the-variants.{Success}
@@ -98,7 +97,8 @@ scan-forest b (node i empty R) f small ws at os r =
     scan-success w (encode R ++ ws) at os (rw k (f .shape))
     ∙ rw (k, o)
     (ap₂ _∷_ (ap (λ (l : List ℕ). record { number = i; keys = l }) p)
-    (scan-forest (nextKey i) R (f .rest) (omega arith) ws (suc at) os (reaches-less (suc at + size R) _ os r (omega arith)) ∙ ap (λ n. map (underAll os) (pathsOf R) ++ scan ws n os) e))
+    (scan-forest (nextKey i) R (f .rest) (omega arith) ws (suc at) os (reaches-less (suc at + size R) _ os r (omega arith))
+    ∙ ap (λ n. map (underAll os) (pathsOf R) ++ scan ws n os) e))
 scan-forest b (node i (node j C S) R) f small ws at os r =
     let B : Forest = node j C S in
     let w = Forest·word i (suc (size B)) in
@@ -115,7 +115,8 @@ scan-forest b (node i (node j C S) R) f small ws at os r =
     scan-forest 0 (node j C S) (f .below) (omega arith) (encode R ++ ws) (suc at) (above ∷ os) (omega arith) in
     let after : scan (encode R ++ ws) (suc at + size B) (above ∷ os) ≡ map (underAll os) (pathsOf R) ++ scan ws (at + suc (size B + size R)) os =
     scan-past (encode R ++ ws) (suc at + size B) above os (omega arith)
-    ∙ scan-forest (nextKey i) R (f .rest) (omega arith) ws (suc at + size B) os (reaches-less (suc at + size B + size R) _ os r (omega arith)) ∙ ap (λ n. map (underAll os) (pathsOf R) ++ scan ws n os) e in
+    ∙ scan-forest (nextKey i) R (f .rest) (omega arith) ws (suc at + size B) os (reaches-less (suc at + size B + size R) _ os r (omega arith))
+    ∙ ap (λ n. map (underAll os) (pathsOf R) ++ scan ws n os) e in
     first ∙ inside ∙ ap₂ _++_ (under-one above os (pathsOf B)) after
     ∙ sym (append-assoc (map (underAll os) (map (under i) (pathsOf B))) (map (underAll os) (pathsOf R)) (scan ws (at + suc (size B + size R)) os))
     ∙ ap (λ l. l ++ scan ws (at + suc (size B + size R)) os) (sym (map-append (underAll os) (map (under i) (pathsOf B)) (pathsOf R)))

@@ -1,7 +1,7 @@
 -- The used words of a well-laid slice, as the code lends them to the pass.
-use mathlib.Core.Path.{_≡_, refl, sym, ap, ap₂, _∙_}
-use mathlib.Core.Bool.{Bool, true, false, _&&_, cond, true≢false, and-eq-true-iff}
-use mathlib.Core.Option.{Option, none, some}
+use mathlib.Core.Path.{_≡_, sym, ap, _∙_}
+use mathlib.Core.Bool.{Bool, true, false, cond, true≢false, and-eq-true-iff}
+use mathlib.Core.Option.{none, some}
 use mathlib.Core.List.{List, [], _∷_}
 use Prim.Native.Nat.{ℕ, _+_, _-_, _^_, _≤_, _<_}
 use native.Mathlib.Omega.{arith}
@@ -10,14 +10,13 @@ use lib.ListN.{length, getD, take, drop}
 use Rattle.clause.specs.Clause.{maxWords}
 use Rattle.clause.proofs.Apart.{apart}
 use Rattle.tree.specs.Keys.{firstKey}
-use Rattle.tree.specs.Forest.{size, encode, layout, find}
+use Rattle.tree.specs.Forest.{size, encode, find}
 use Rattle.tree.specs.Laid.{maxKept, usedOf, region, sized, wellLaid, decode}
 use Rattle.tree.specs.Entries.{Entry}
 use Rattle.tree.specs.Laws.{Stands, pathsOf, firstWith}
 use Rattle.tree.proofs.Grow.{laid-decode, sized-high}
 use Rattle.tree.proofs.Words.{region-layout}
 use Rattle.tree.proofs.Laws.{tree-laws}
-use Rattle.readback.specs.Readback.{clauseOf}
 use Rattle.readback.specs.Saved.{readable, allReadable, allDiffer, ofClauses}
 use Rattle.readback.specs.Calls.{check, unread, given, readBack}
 use Rattle.readback.specs.declared.CheckAnswer.the-variants.{Passed}

@@ -19,7 +19,7 @@ use Rattle.machine.specs.Instr.{Down, Right, Put, Push, Pop, Check, Compare, In
 use Rattle.machine.specs.Compile.{keys}
 use Rattle.compiling.specs.inner.Compiling.{Stored}
 use Rattle.machine.specs.Machine.{slots}
-use Rattle.compiling.proofs.Stores.{stored-none, stored-snoc}
+use Rattle.compiling.proofs.Stores.{stored-none, stored-snoc, stored-length}
 use Rattle.decompiling.specs.declared.Word.the-variants.{Stands, Silent, Outside}
 use Rattle.decompiling.specs.declared.ReadOff.the-variants.{Words}
 use Rattle.readback.specs.Readback.{variableWord, newBelow, instructions, origin, wordOf, wordsOf, putNumber, readOff, clauseOf}
@@ -87,7 +87,7 @@ module _ (p os cs : List ℕ) (O : Origins (instructions p) os) (C : Counts os c
   by-table (Do (Compare m k)) h = tt
 
   -- the words of the first i keys
-  abbrev pub wordsTo : ℕ → List ℕ
+  abbrev wordsTo : ℕ → List ℕ
   wordsTo i = wordsOf (putNumber (instructions p)) (instructions (take i p))
 
   clause-is : clauseOf p ≡ wordsOf (putNumber (instructions p)) (instructions p)
@@ -100,36 +100,84 @@ module _ (p os cs : List ℕ) (O : Origins (instructions p) os) (C : Counts os c
         let f : wordIn (putNumber (instructions p)) (instrOf (getD p i 0)) ≡ w ∷ [] = rw e (sym (same-word j s) ∙ q) in
         rw add-one (words-turn (putNumber (instructions p)) p i h ∙ ap (λ (l : List ℕ). wordsTo i ++ l) f)
 
-    pub to-silent : Names os cs (getD p i 0) Silent → wordsTo (i + 1) ≡ wordsTo i
+    to-silent : Names os cs (getD p i 0) Silent → wordsTo (i + 1) ≡ wordsTo i
     to-silent n =
         rw add-one (words-turn (putNumber (instructions p)) p i h ∙ ap (λ (l : List ℕ). wordsTo i ++ l) (n (putNumber (instructions p))) ∙ append-nil (wordsTo i))
 
     module _ (before now : List ℕ) (count : ℕ) (S : Stored (wordsTo i) before 0 now count) where
-      pub store-word : (w : ℕ) → Names os cs (getD p i 0) (Stands w) → Stored (wordsTo (i + 1)) before 0 (set now count w) (count + 1)
+      store-word : (w : ℕ) → Names os cs (getD p i 0) (Stands w) → Stored (wordsTo (i + 1)) before 0 (set now count w) (count + 1)
       store-word w n = rw (to-word w n) (stored-snoc w S)
 
-      pub store-none : Names os cs (getD p i 0) Silent → Stored (wordsTo (i + 1)) before 0 now count
+      store-none : Names os cs (getD p i 0) Silent → Stored (wordsTo (i + 1)) before 0 now count
       store-none n = rw (to-silent n) S
 
       -- no room for a 65th word
-      pub too-many : (w : ℕ) → Names os cs (getD p i 0) (Stands w) → maxWords ≤ count → Modest p → ⊥
+      too-many : (w : ℕ) → Names os cs (getD p i 0) (Stands w) → maxWords ≤ count → Modest p → ⊥
       too-many w n l M =
           let e : length (wordsTo (i + 1)) ≡ length (wordsTo i) + 1 = ap length (to-word w n) ∙ length-append (wordsTo i) (w ∷ []) in
           omega (arith, S .end-is, words-begin (putNumber (instructions p)) p (i + 1), M .few-words, ap length clause-is)
 
-    pub too-big : Names os cs (getD p i 0) Outside → Modest p → ⊥
+    too-big : Names os cs (getD p i 0) Outside → Modest p → ⊥
     too-big (j, e, n) M = n (by-table j (at-key p (M .small) i h j e))
 
-  pub all-stored : (before now : List ℕ) (count i : ℕ) → length p ≤ i → count ≤ maxWords → maxWords ≤ length before → Stored (wordsTo i) before 0 now count
+  all-stored : (before now : List ℕ) (count i : ℕ) → length p ≤ i → count ≤ maxWords → maxWords ≤ length before → Stored (wordsTo i) before 0 now count
       → Written p before (Words count) now
   all-stored before now count i h few room S =
       let e : wordsTo i ≡ clauseOf p = ap (λ (l : List ℕ). wordsOf (putNumber (instructions p)) (instructions l)) (take-all i p h) ∙ sym clause-is in
       let n : count ≡ length (clauseOf p) = omega (arith, S .end-is, ap length e) in
       (n, few, rw n (S .after-is ∙ ap (λ (l : List ℕ). sets before 0 l) e ∙ sets-eq (clauseOf p) before 0 (omega arith) ∙ rw zero-add))
 
-pub store-first : (p before : List ℕ) → Stored (wordsOf (putNumber (instructions p)) (instructions (take 0 p))) before 0 before 0
+-- ---- turn by turn
+
+-- the words of the first i keys are written over the lent words, with the two tables of the keys
+pub record Writing (p os cs before now : List ℕ) (count i : ℕ) : Type 0 where
+  pub origins : Origins (instructions p) os
+  pub counts : Counts os cs
+  pub inside : i ≤ length p
+  pub few : count ≤ maxWords
+  pub room : maxWords ≤ length before
+  pub stored : Stored (wordsOf (putNumber (instructions p)) (instructions (take i p))) before 0 now count
+
+pub writing-first : (p os cs before : List ℕ) → Origins (instructions p) os → Counts os cs → maxWords ≤ length before → Writing p os cs before before 0 0
 unfolding instructions wordsOf
-store-first p before = stored-none before 0
+writing-first p os cs before O C h = record { origins = O; counts = C; inside = omega arith; few = omega arith; room = h; stored = stored-none before 0 }
+
+module _ {p os cs before now : List ℕ} {count i : ℕ} (w : Writing p os cs before now count i) where
+  pub writing-length : length now ≡ length before
+  writing-length = stored-length (w .stored)
+
+  pub writing-end : length p ≤ i → Written p before (Words count) now
+  writing-end h = all-stored p os cs (w .origins) (w .counts) before now count i h (w .few) (w .room) (w .stored)
+
+  module _ (h : i < length p) where
+    pub writing-word : (x : ℕ) → Names os cs (getD p i 0) (Stands x) → count < maxWords → Writing p os cs before (set now count x) (count + 1) (i + 1)
+    writing-word x n l =
+        record {
+          origins = w .origins;
+          counts = w .counts;
+          inside = omega arith;
+          few = omega arith;
+          room = w .room;
+          stored = store-word p os cs (w .origins) (w .counts) i h before now count (w .stored) x n;
+        }
+
+    pub writing-silent : Names os cs (getD p i 0) Silent → Writing p os cs before now count (i + 1)
+    writing-silent n =
+        record {
+          origins = w .origins;
+          counts = w .counts;
+          inside = omega arith;
+          few = w .few;
+          room = w .room;
+          stored = store-none p os cs (w .origins) (w .counts) i h before now count (w .stored) n;
+        }
+
+    -- no clause has one word more, nor what stands for no word of a clause
+    pub writing-many : (x : ℕ) → Names os cs (getD p i 0) (Stands x) → maxWords ≤ count → Modest p → ⊥
+    writing-many x n l = too-many p os cs (w .origins) (w .counts) i h before now count (w .stored) x n l
+
+    pub writing-outside : Names os cs (getD p i 0) Outside → Modest p → ⊥
+    writing-outside n = too-big p os cs (w .origins) (w .counts) i h n
 
 -- ---- the test
 

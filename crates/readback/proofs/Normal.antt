@@ -2,7 +2,7 @@
 use mathlib.Core.Path.{_≡_, refl, sym, ap, ap₂, _∙_}
 use mathlib.Core.Logic.{_↔_, _≢_}
 use mathlib.Core.List.{List, [], _∷_, _++_, map}
-use Prim.Native.Nat.{ℕ, suc, _+_, _-_, _^_, _≤_, _<_}
+use Prim.Native.Nat.{ℕ, suc, _+_, _^_, _≤_, _<_}
 use native.Mathlib.Omega.{arith}
 use native.Mathlib.Decide.{ℕ-discrete, decLt}
 use lib.ListN.{length, getD, length-append}
@@ -204,7 +204,9 @@ module _ (c : List ℕ) (C : Clause c) (words : Words c) where
   normal-words = go words
     where
       word : (w : ℕ) → w < 2 ^ 16 → Dec (sort w ≡ variable) → renamed (named-anew (vars c)) w < 2 ^ 16
-      word w h (yes e) = rw (renamed-variable (named-anew (vars c)) (variables (vars c) (few-vars c C)) w e) (variableWord-top _ (omega (arith, number-top (vars c) w, few-vars c C)))
+      word w h (yes e) =
+          rw (renamed-variable (named-anew (vars c)) (variables (vars c) (few-vars c C)) w e)
+          (variableWord-top _ (omega (arith, number-top (vars c) w, few-vars c C)))
       word w h (no n) = rw (renamed-other (named-anew (vars c)) (variables (vars c) (few-vars c C)) w n) h
 
       go : {ws : List ℕ} → All (λ w. w < 2 ^ 16) ws → All (λ w. w < 2 ^ 16) (map (renamed (named-anew (vars c))) ws)

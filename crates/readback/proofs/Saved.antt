@@ -3,7 +3,7 @@ use mathlib.Core.Path.{_≡_, refl, sym, ap, ap₂, _∙_}
 use mathlib.Core.Logic.{_↔_, _≢_, inl, inr}
 use mathlib.Core.Bool.{true, false, _&&_, not, true≢false, and-eq-true-iff}
 use mathlib.Core.Option.{Option, none, some}
-use mathlib.Core.List.{List, [], _∷_, map, List·Memᴰ, List·Memᴰ·head, List·Memᴰ·tail}
+use mathlib.Core.List.{List, [], _∷_, map, List·Memᴰ}
 use Prim.Native.Nat.{ℕ, suc, _^_, _≤_, _<_}
 use native.Mathlib.Omega.{arith}
 use lib.Dec.{leb, ltb, eqb}
@@ -99,7 +99,9 @@ all-new d es = (to es, from)
 
     to : (es : List Entry) → isNew (d .number) (numbersOf es) ≡ true → All (Differ d) es
     to [] e = all-none
-    to (f ∷ es) e = let (a, b) = and-eq-true-iff (not (eqb (d .number) (f .number))) (isNew (d .number) (numbersOf es)) .0 e in also {x = f} (differs (d .number) (f .number) a) (to es b)
+    to (f ∷ es) e =
+        let (a, b) = and-eq-true-iff (not (eqb (d .number) (f .number))) (isNew (d .number) (numbersOf es)) .0 e in
+        also {x = f} (differs (d .number) (f .number) a) (to es b)
 
     from : {es : List Entry} → All (Differ d) es → isNew (d .number) (numbersOf es) ≡ true
     from all-none = refl

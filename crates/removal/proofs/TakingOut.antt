@@ -20,7 +20,7 @@ use Rattle.tree.specs.Calls.{Called, refused}
 use Rattle.tree.specs.inner.ByWords.{removeByWords}
 use Rattle.tree.specs.declared.CallAnswer.the-variants.{Removed}
 use Rattle.tree.specs.declared.Refusal.the-variants.{NoSuchNumber}
-use Rattle.tree.proofs.Grow.{rows-under, Tests, tests, zeros-replicated, laid-room}
+use Rattle.tree.proofs.Grow.{rows-under, Tests, tests, zeros-replicated}
 use Rattle.tree.proofs.RemoveWords.{cut-parts}
 use Rattle.removal.proofs.Locating.{Found, found}
 use Rattle.clause.proofs.Apart.{apart}

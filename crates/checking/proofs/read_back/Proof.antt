@@ -14,7 +14,7 @@ returns : tie.Need-returns
 returns c = sym (read-bad _ _ _ (sym (c .before .sized .ensures) ∙ not-true _ (c .if1 .taken)))
 
 returns-2 : tie.Need-returns-2
-returns-2 c = sym (read-short _ _ _ (sym (c .before .before .sized .ensures) ∙ not-false _ (c .before .if1 .left)) (c .if2 .taken))
+returns-2 c = let e = c .before in sym (read-short _ _ _ (sym (e .before .sized .ensures) ∙ not-false _ (e .if1 .left)) (c .if2 .taken))
 
 check-requires : tie.Need-check-requires
 check-requires c κs = search needs
@@ -29,7 +29,11 @@ read-known-requires : tie.Need-read-known-requires
 read-known-requires c κs = (sym (c .before .before .before .check .ensures) ∙ c .before .enum-told .given .1, omega (arith, c .before .before .before .before .if2 .left))
 
 returns-3 : tie.Need-returns-3
-returns-3 c = sym (read-failed _ _ _ _ (sym (c .before .before .before .before .before .before .sized .ensures) ∙ not-false _ (c .before .before .before .before .before .if1 .left)) (omega (arith, c .before .before .before .before .if2 .left)) (sym (c .before .before .before .check .ensures) ∙ c .before .refusal .given .1))
+returns-3 c =
+    let k = c .before .before .before in
+    let e = k .before .before in
+    sym (read-failed _ _ _ _ (sym (e .before .sized .ensures) ∙ not-false _ (e .if1 .left)) (omega (arith, k .before .if2 .left))
+    (sym (k .check .ensures) ∙ c .before .refusal .given .1))
 
 same-length : tie.Need-same-length
 same-length c = search needs

@@ -4,7 +4,6 @@ use Rattle.clause.specs.Lists.{alike}
 use Rattle.decompiling.proofs.Wording.{keys-faulty, keys-whole}
 use lib.Seq.{length-take-le}
 use Rattle.machine.proofs.Compiled.{compiled-fits, compiled-keys}
-use borrow.Author.Needs.{needs}
 use native.Mathlib.Omega.{arith}
 use borrow.Author.Needs.{needs}
 use Rattle.decompiling.proofs.has_keys.Statement.{statement}
@@ -45,10 +44,14 @@ same-keys-requires c κs = search needs
 
 returns-2 : tie.Need-returns-2
 returns-2 c =
-    let (x, e) = c .before .before .before .before .before .enum-told .given in
-    let s = c .before .before .before .before .before .before .before .before .before .before in
-    c .same-keys .ensures ∙ ap (λ l. alike l (s .args .keys .now)) (compiled-keys (c .before .before .before .compile .ensures))
-    ∙ keys-whole (s .args .words .now) (s .args .keys .now) (c .before .before .before .before .before .before .before .read .result) (x .0) (c .before .before .before .before .before .before .before .read .ensures) e (λ i. omega (arith, c .before .before .before .before .before .before .before .before .before .shared-slice-known .given i))
+    let w = c .before .before .before in
+    let t = w .before .before in
+    let r = t .before .before in
+    let s = r .before .before .before in
+    let (x, e) = t .enum-told .given in
+    c .same-keys .ensures ∙ ap (λ l. alike l (s .args .keys .now)) (compiled-keys (w .compile .ensures))
+    ∙ keys-whole (s .args .words .now) (s .args .keys .now) (r .read .result) (x .0) (r .read .ensures) e
+    (λ i. omega (arith, r .before .before .shared-slice-known .given i))
 
 pub has-keys-spec : {M : Type 1} → statement M
 has-keys-spec =

@@ -26,7 +26,10 @@ shared-slice-read-m : tie.Need-shared-slice-read-m
 shared-slice-read-m c = search needs
 
 returns-4 : tie.Need-returns-4
-returns-4 c = let a = c .before .before .before .before .before .args in outside-origin (a .origins .now) (a .counts .now) (a .x) (c .before .before .before .if3 .taken) (c .if5 .taken)
+returns-4 c =
+    let p = c .before .before .before in
+    let a = p .before .before .args in
+    outside-origin (a .origins .now) (a .counts .now) (a .x) (p .if3 .taken) (c .if5 .taken)
 
 mul-number : tie.Need-mul-number
 mul-number c = search needs
@@ -36,24 +39,22 @@ shared-slice-read-number c = search needs
 
 add-variable : tie.Need-add-variable
 add-variable c =
-    let a = c .before .before .before .before .before .before .args in
-    omega (
-      arith,
-      number-low (a .origins .now) (a .counts .now) (getD (a .origins .now) (a .x % 2 ^ 32) 0) (c .before .before .before .before .before .before .pre .2) (omega (arith, c .before .if5 .left)),
-    )
+    let s = c .before .before .before .before .before .before in
+    let m = getD (s .args .origins .now) (s .args .x % 2 ^ 32) 0 in
+    omega (arith, number-low (s .args .origins .now) (s .args .counts .now) m (s .pre .2) (omega (arith, c .before .if5 .left)))
 
 cast-word-2 : tie.Need-cast-word-2
 cast-word-2 c =
-    let a = c .before .before .before .before .before .before .args in
-    omega (
-      arith,
-      number-low (a .origins .now) (a .counts .now) (getD (a .origins .now) (a .x % 2 ^ 32) 0) (c .before .before .before .before .before .before .pre .2) (omega (arith, c .before .if5 .left)),
-    )
+    let s = c .before .before .before .before .before .before in
+    let m = getD (s .args .origins .now) (s .args .x % 2 ^ 32) 0 in
+    omega (arith, number-low (s .args .origins .now) (s .args .counts .now) m (s .pre .2) (omega (arith, c .before .if5 .left)))
 
 returns-5 : tie.Need-returns-5
 returns-5 c =
-    let a = c .before .before .before .before .before .before .args in
-    names-put (a .origins .now) (a .counts .now) (a .x) (c .before .before .before .before .if3 .taken) (omega (arith, c .before .before .before .if4 .left)) (omega (arith, c .before .if5 .left))
+    let f = c .before .before .before in
+    let p = f .before in
+    let a = p .before .before .args in
+    names-put (a .origins .now) (a .counts .now) (a .x) (p .if3 .taken) (omega (arith, f .if4 .left)) (omega (arith, c .before .if5 .left))
 
 returns-6 : tie.Need-returns-6
 returns-6 c = let a = c .before .before .args in names-none (a .origins .now) (a .counts .now) (a .x) (c .before .if1 .left) (c .if3 .left)

@@ -1,11 +1,8 @@
 -- `write_words` meets its contract: the words of the first i keys are written.
 use mathlib.Core.Logic.{⊎-elim}
-use Prim.Native.Nat.{_-_, _≤_}
-use lib.ListN.{length, take}
-use Rattle.compiling.specs.inner.Compiling.{Stored}
-use Rattle.compiling.proofs.Stores.{stored-length}
-use Rattle.readback.specs.Readback.{instructions, wordsOf, putNumber}
-use Rattle.decompiling.proofs.Wording.{store-first, store-word, store-none, too-many, too-big, all-stored}
+use Prim.Native.Nat.{_-_}
+use lib.ListN.{length}
+use Rattle.decompiling.proofs.Wording.{Writing, writing-first, writing-length, writing-end, writing-word, writing-silent, writing-many, writing-outside}
 use borrow.Author.Needs.{needs}
 use native.Mathlib.Omega.{arith}
 use Rattle.decompiling.proofs.write_words.Statement.{statement}
@@ -13,13 +10,13 @@ use Rattle.decompiling.proofs.write_words.Tie as tie
 use Rattle.decompiling.proofs.word_of.Reads as word-of-reads
 
 abbrev Inv-loop : tie.InvT-loop
-Inv-loop keys origins counts out₀ count₀ i₀ out count i = (i ≤ length keys) × (count ≤ 64) × Stored (wordsOf (putNumber (instructions keys)) (instructions (take i keys))) out₀ 0 out count
+Inv-loop keys origins counts out₀ count₀ i₀ out count i = Writing keys origins counts out₀ out count i
 
 abbrev μ-loop : tie.MeasureT-loop
 μ-loop keys origins counts out₀ count₀ i₀ out count i = length keys - i
 
 loop-holds : tie.Need-loop-holds Inv-loop μ-loop
-loop-holds c = (omega arith, omega arith, store-first (c .before .before .before .before .args .keys .now) (c .before .before .before .before .args .out .now))
+loop-holds c = let p = c .before .before .before .before .pre in writing-first _ _ _ _ (p .2) (p .3) (p .4)
 
 mul-word-of : tie.Need-mul-word-of Inv-loop μ-loop
 mul-word-of c = search needs
@@ -36,23 +33,22 @@ enum-known-found : tie.Need-enum-known-found Inv-loop μ-loop
 enum-known-found c = search needs
 
 same-length : tie.Need-same-length Inv-loop μ-loop
-same-length c = stored-length (c .before .before .before .before .before .before .before .loop .inv .2)
+same-length c = writing-length (c .before .before .before .before .before .before .before .loop .inv)
 
 returns : tie.Need-returns Inv-loop μ-loop
 returns c =
-    let s = c .before .before .before .before .before .before .before .before .before .before .before .before in
-    let l = c .before .before .before .before .before .before .before .loop in
-    let f = c .before .before .before .before .word-of in
-    let (x, e) = c .before .before .found .given in
-    too-many (s .args .keys .now) (s .args .origins .now) (s .args .counts .now) (s .pre .2) (s .pre .3) (l .i) (omega arith) (s .args .out .now) (l .out) (l .count) (l .inv .2) (x .0) (rw e at (f .ensures)) (omega arith)
+    let f = c .before .before in
+    let l = f .before .before .before .before .before .loop in
+    let (x, e) = f .found .given in
+    writing-many (l .inv) (omega arith) (x .0) (rw e at (f .before .before .word-of .ensures)) (omega arith)
 
 mul-out : tie.Need-mul-out Inv-loop μ-loop
 mul-out c = search needs
 
 slice-write-out : tie.Need-slice-write-out Inv-loop μ-loop
 slice-write-out c =
-    let l = c .before .before .before .before .before .before .before .loop in
-    omega (arith, stored-length (l .inv .2), c .before .before .before .before .before .before .before .before .before .before .before .before .pre .4)
+    let g = c .before .before .before .before .before .before .before .loop .inv in
+    omega (arith, writing-length g, g .room)
 
 add-count : tie.Need-add-count Inv-loop μ-loop
 add-count c = search needs
@@ -64,14 +60,12 @@ enum-told-2 : tie.Need-enum-told-2 Inv-loop μ-loop
 enum-told-2 c = search needs
 
 same-length-2 : tie.Need-same-length-2 Inv-loop μ-loop
-same-length-2 c = stored-length (c .before .before .before .before .before .loop .inv .2)
+same-length-2 c = writing-length (c .before .before .before .before .before .loop .inv)
 
 returns-2 : tie.Need-returns-2 Inv-loop μ-loop
 returns-2 c =
-    let s = c .before .before .before .before .before .before .before .before .before .before in
-    let l = c .before .before .before .before .before .loop in
-    let f = c .before .before .word-of in
-    too-big (s .args .keys .now) (s .args .origins .now) (s .args .counts .now) (s .pre .2) (s .pre .3) (l .i) (omega arith) (rw (c .enum-told2 .given .1) at (f .ensures))
+    let f = c .before .before in
+    writing-outside (f .before .before .before .loop .inv) (omega arith) (rw (c .enum-told2 .given .1) at (f .word-of .ensures))
 
 add-i : tie.Need-add-i Inv-loop μ-loop
 add-i c = search needs
@@ -81,21 +75,18 @@ loop-less c = search needs
 
 loop-again : tie.Need-loop-again Inv-loop μ-loop
 loop-again c =
-    let s = c .before .before .before .before .before .before .before .before .before in
     let l = c .before .before .before .before .loop in
     let f = c .before .word-of in
     ⊎-elim
-    (λ w. let (x, e) = w .1 .given in rw (w .4, w .5) (omega arith, omega (arith, w .3 .left), store-word (s .args .keys .now) (s .args .origins .now) (s .args .counts .now) (s .pre .2) (s .pre .3) (l .i) (omega arith) (s .args .out .now) (l .out) (l .count) (l .inv .2) (x .0) (rw e at (f .ensures))))
-    (λ w. rw (w .2, w .3) (omega arith, l .inv .1, store-none (s .args .keys .now) (s .args .origins .now) (s .args .counts .now) (s .pre .2) (s .pre .3) (l .i) (omega arith) (s .args .out .now) (l .out) (l .count) (l .inv .2) (rw (w .1 .given .1) at (f .ensures))))
+    (λ w. let (x, e) = w .1 .given in rw (w .4, w .5) (writing-word (l .inv) (omega arith) (x .0) (rw e at (f .ensures)) (omega (arith, w .3 .left))))
+    (λ w. rw (w .2, w .3) (writing-silent (l .inv) (omega arith) (rw (w .1 .given .1) at (f .ensures))))
     (c .match .came)
 
 same-length-3 : tie.Need-same-length-3 Inv-loop μ-loop
-same-length-3 c = stored-length (c .before .loop .inv .2)
+same-length-3 c = writing-length (c .before .loop .inv)
 
 returns-3 : tie.Need-returns-3 Inv-loop μ-loop
-returns-3 c =
-    let s = c .before .before .before .before .before .before in
-    all-stored (s .args .keys .now) (s .args .origins .now) (s .args .counts .now) (s .pre .2) (s .pre .3) (s .args .out .now) (c .before .loop .out) (c .before .loop .count) (c .before .loop .i) (omega arith) (c .before .loop .inv .1) (s .pre .4) (c .before .loop .inv .2)
+returns-3 c = writing-end (c .before .loop .inv) (omega arith)
 
 pub write-words-spec : {M : Type 1} → statement M
 write-words-spec =

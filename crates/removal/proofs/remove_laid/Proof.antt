@@ -1,7 +1,6 @@
 -- `remove_laid` meets its contract: where the scan finds the number, its run is taken out, and else nothing is changed.
 use mathlib.Core.Path.{_≡_, sym, ap, _∙_}
 use mathlib.Core.Option.{some}
-use Prim.Native.Nat.{_-_}
 use native.Mathlib.Omega.{arith}
 use Rattle.removal.specs.inner.Close.{spanOf}
 use Rattle.tree.proofs.Grow.{sized-low, sized-high, laid-room}

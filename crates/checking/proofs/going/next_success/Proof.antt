@@ -1,8 +1,8 @@
 -- `next_success` meets its contract: what is left from the word at hand on is what was left at first.
-use mathlib.Core.Path.{_≡_, refl, sym, _∙_}
-use Prim.Native.Nat.{_-_, _≤_}
+use mathlib.Core.Path.{refl, sym, _∙_}
+use Prim.Native.Nat.{_-_}
 use native.Mathlib.Omega.{arith}
-use lib.ListN.{length, length-set}
+use lib.ListN.{length}
 use borrow.Author.Needs.{needs}
 use Rattle.checking.proofs.Scanning.{Gone, gone-end, gone-success, gone-deep, gone-next}
 use Rattle.checking.proofs.going.next_success.Statement.{statement}
@@ -32,24 +32,27 @@ still-open-requires : tie.Need-still-open-requires Inv-loop μ-loop
 still-open-requires c κs = let g = c .before .before .before .before .loop .inv in omega (arith, g .few, g .ends-length)
 
 same-length : tie.Need-same-length Inv-loop μ-loop
-same-length c = c .before .before .before .before .before .before .loop .inv .keys-length ∙ sym (c .before .before .before .before .before .before .before .before .before .before .pre .3)
+same-length c = let l = c .before .before .before .before .before .before in l .loop .inv .keys-length ∙ sym (l .before .before .before .before .pre .3)
 
 same-length-2 : tie.Need-same-length-2 Inv-loop μ-loop
-same-length-2 c = c .before .before .before .before .before .before .loop .inv .ends-length ∙ sym (c .before .before .before .before .before .before .before .before .before .before .pre .4)
+same-length-2 c = let l = c .before .before .before .before .before .before in l .loop .inv .ends-length ∙ sym (l .before .before .before .before .pre .4)
 
 returns : tie.Need-returns Inv-loop μ-loop
-returns c = gone-success (c .before .before .before .before .before .before .loop .inv) (omega arith) _ (c .before .still-open .ensures) (rw (c .before .before .before .key .ensures) at (c .if1 .taken))
+returns c =
+    let l = c .before .before .before .before .before .before in
+    gone-success (l .loop .inv) (omega arith) _ (c .before .still-open .ensures) (rw (c .before .before .before .key .ensures) at (c .if1 .taken))
 
 same-length-3 : tie.Need-same-length-3 Inv-loop μ-loop
-same-length-3 c = c .before .before .before .before .before .before .before .loop .inv .keys-length ∙ sym (c .before .before .before .before .before .before .before .before .before .before .before .pre .3)
+same-length-3 c = let l = c .before .before .before .before .before .before .before in l .loop .inv .keys-length ∙ sym (l .before .before .before .before .pre .3)
 
 same-length-4 : tie.Need-same-length-4 Inv-loop μ-loop
-same-length-4 c = c .before .before .before .before .before .before .before .loop .inv .ends-length ∙ sym (c .before .before .before .before .before .before .before .before .before .before .before .pre .4)
+same-length-4 c = let l = c .before .before .before .before .before .before .before in l .loop .inv .ends-length ∙ sym (l .before .before .before .before .pre .4)
 
 returns-2 : tie.Need-returns-2 Inv-loop μ-loop
 returns-2 c =
+    let l = c .before .before .before .before .before .before .before in
     let k = rw (c .before .before .before .before .key .ensures) at (c .before .if1 .left) in
-    gone-deep (c .before .before .before .before .before .before .before .loop .inv) (omega arith) _ (c .before .before .still-open .ensures) (c .before .before .before .before .before .before .before .before .before .before .before .pre .0) (omega arith) (c .if2 .taken)
+    gone-deep (l .loop .inv) (omega arith) _ (c .before .before .still-open .ensures) (l .before .before .before .before .pre .0) (omega arith) (c .if2 .taken)
 
 extent-requires : tie.Need-extent-requires Inv-loop μ-loop
 extent-requires c κs = search needs
@@ -80,9 +83,11 @@ loop-less c = search needs
 
 loop-again : tie.Need-loop-again Inv-loop μ-loop
 loop-again c =
-    let g = c .before .before .before .before .before .before .before .before .loop .inv in
-    let k = rw (c .before .before .before .before .before .key .ensures) at (c .before .before .if1 .left) in
-    rw (c .before .before .before .before .before .key .ensures, c .extent .ensures) (gone-next g (omega arith) _ (c .before .before .before .still-open .ensures) (omega arith) (omega (arith, c .before .if2 .left)))
+    let o = c .before .before .before in
+    let l = o .before .before .before .before .before in
+    let k = rw (o .before .before .key .ensures) at (c .before .before .if1 .left) in
+    rw (o .before .before .key .ensures, c .extent .ensures)
+    (gone-next (l .loop .inv) (omega arith) _ (o .still-open .ensures) (omega arith) (omega (arith, c .before .if2 .left)))
 
 same-length-5 : tie.Need-same-length-5 Inv-loop μ-loop
 same-length-5 c = c .before .loop .inv .keys-length ∙ sym (c .before .before .before .before .before .pre .3)

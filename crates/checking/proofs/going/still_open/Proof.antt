@@ -1,5 +1,4 @@
 -- `still_open` meets its contract: the words above are closed one by one, from the lowest up.
-use Prim.Native.Nat.{_≤_}
 use native.Mathlib.Omega.{arith}
 use borrow.Author.Needs.{needs}
 use Rattle.checking.proofs.Scanning.{Closing, closing-first, closing-stops, closing-next, closing-none}
