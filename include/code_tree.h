@@ -4,8 +4,9 @@
  * Link libcodetree.a (made by `rt staticlib codetree`, for x86-64). Each function is proved, for all words,
  * lengths and numbers, to return the number and to leave the words that its definition says
  * (crates/interface/specs/Calls.antt), to read and write nothing but the slices that it is handed, and to end.
- * What queries say after any list of calls, and that with three told words or more no two answers of a function
- * are told the same, is proved of those definitions (crates/interface/specs/Claims.antt).
+ * What queries, checks and clauses read back say after any list of calls, and that with three told words or more
+ * no two answers of a function are told the same, is proved of those definitions
+ * (crates/interface/specs/Claims.antt).
  *
  * A slice is a pointer and the number of its elements. The pointer must be aligned and valid for all of them;
  * with 0 elements it may be null. Slices handed to one call must not overlap. No pointer is kept, nothing is
@@ -136,8 +137,8 @@ uint64_t ct_ceiling(uint64_t kept, uint64_t q, uint64_t m, uint64_t *told, size_
  * A tree that these calls have made returns 0. And a tree that returns 0 is word for word the one that ct_fresh
  * and the insertion of its clauses make, so that all that is said of trees made by these calls holds of it, and
  * of what further calls make of it.
- * One pass over the words, one reading and one compiling for each kept clause, and the numbers compared with
- * each other, at most 523,776 times.
+ * After the well-laid test one pass over the used words, at most one reading and one compiling for each kept
+ * clause, and the numbers compared with each other, at most 523,776 times.
  */
 uint64_t ct_check(const uint64_t *tree, size_t n);
 

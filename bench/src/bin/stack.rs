@@ -1,24 +1,32 @@
-//! The stack that a query takes on the deepest slices, by trial: the least thread stack on which the proved library answers.
-//! An overflow kills, so each trial is a process of its own: `stack SHAPE WORDS KIB`.
-use code_tree::{fresh, insert, query, Cover, WITNESS_WORDS};
+//! The stack that calls of the proved library take, by trial: the least thread stack on which a query of the deepest slices is answered, and the
+//! least that a thread needs to have left for a check or a reading back. An overflow kills, so each trial is a process of its own:
+//! `stack CALL SHAPE WORDS KIB FRAMES`.
+use code_tree::{check, fresh, insert, query, read_back, Cover, OUTPUT_WORDS, WITNESS_WORDS};
+use std::cell::Cell;
+use std::hint::black_box;
 use std::process::{exit, Command, Stdio};
 use std::{env, io, thread};
-use yardsticks::code::{CHECK, FIRST, PUT, SUCCESS};
+use yardsticks::code::{CHECK, CLAUSES, FIRST, PUT, SUCCESS};
 
 const MOST_WORDS: usize = 65_536;
 const FIRSTS: usize = 8;
 const PAGE_KIB: usize = 4;
 const MOST_KIB: usize = 1 << 16;
+/// The thread of a check or a reading back, well over the least that the system gives.
+const THREAD_KIB: usize = 128;
 /// A literal without arguments.
 const UNIT: u16 = 0x8001;
 /// Heads with seven arguments, from here on, and one that is none of the first eight.
 const HEAD: u16 = 0xb800;
 const OTHER_HEAD: u16 = 0xb8ff;
+/// Heads with one argument, from here on, and a function with one.
+const SMALL_HEAD: u16 = 0x8800;
+const FUNCTION: u16 = 0x0803;
 const VARIABLE: u16 = 0x4000;
 const OTHER_VARIABLE: u16 = 0x4001;
 const CONSTANT: u16 = 0x0001;
 
-/// A slice with the query put to it. A Success with number 0 stands deepest, and no other Success is met.
+/// A slice with the query put to it, which meets no Success but the deepest, with number 0: in a tree made by calls its own.
 struct Question {
     tree: Vec<u64>,
     clause: Vec<u16>,
@@ -102,49 +110,155 @@ fn by_calls(words: usize) -> Question {
     }
 }
 
+/// A tree made by insertions that fills the slice: 1,024 clauses P(f(..f(x))), 64 words for each but the first, 63 for that with the First.
+fn full(words: usize) -> Question {
+    let mut tree = vec![0; words];
+    fresh(&mut tree).expect("a slice of this length");
+    let clause = |i: usize| {
+        let functions = if i == 0 { 29 } else { 30 };
+        let head = SMALL_HEAD + i as u16;
+        [vec![head], vec![FUNCTION; functions], vec![VARIABLE]].concat()
+    };
+    for i in 0..CLAUSES {
+        insert(&mut tree, &clause(i), i as u32).expect("room for each");
+    }
+    assert_eq!(tree[0], (words as u64 - 1) << 32 | CLAUSES as u64);
+    Question {
+        tree,
+        clause: clause(0),
+    }
+}
+
 fn question(shape: &str, words: usize) -> Question {
     match shape {
         "checks" => rows(words, CHECK, UNIT),
         "puts" => rows(words, PUT, 0),
         "chain" => chain(words),
+        "full" => full(words),
         _ => by_calls(words),
     }
 }
 
-/// Puts a shape's query on a thread of its own; says whether it gets to the deepest word.
-fn answers(shape: &str, words: usize, kib: usize) -> bool {
-    let Question { tree, clause } = question(shape, words);
-    let work = move || query(&tree, &clause, u64::MAX, &mut [0; WITNESS_WORDS]);
-    let thread = thread::Builder::new().stack_size(kib * 1024).spawn(work);
-    let answer = thread.expect("a thread").join().expect("an answer");
+/// A query gets to the deepest word.
+fn asked(Question { tree, clause }: &Question) -> bool {
+    let answer = query(tree, clause, u64::MAX, &mut [0; WITNESS_WORDS]);
     matches!(answer, Ok(Cover::Covered { number: 0, .. }))
 }
 
-fn answers_in_child(shape: &str, words: usize, kib: usize) -> io::Result<bool> {
-    let status = Command::new(env::current_exe()?)
-        .args([shape, &words.to_string(), &kib.to_string()])
-        .stderr(Stdio::null())
-        .status()?;
-    Ok(status.success())
+fn read(Question { tree, clause }: &Question) -> bool {
+    let mut out = [0; OUTPUT_WORDS];
+    read_back(tree, 0, &mut out) == Ok(clause.len()) && out.starts_with(clause)
 }
 
-/// The least thread stack on which a shape is answered, by halving, in KiB.
-fn least(shape: &str, words: usize) -> io::Result<usize> {
-    let (mut fails, mut answers) = (0, MOST_KIB / PAGE_KIB);
-    if !answers_in_child(shape, words, MOST_KIB)? {
-        return Err(io::Error::other(format!(
-            "{shape}: not answered on {MOST_KIB} KiB"
-        )));
+/// Makes a call below so many frames of this function.
+#[inline(never)]
+fn below(frames: usize, call: &dyn Fn() -> bool) -> bool {
+    if frames == 0 {
+        return call();
+    }
+    let here = 0u8;
+    black_box(&here);
+    let answer = below(frames - 1, call);
+    black_box(&here);
+    answer
+}
+
+/// The bytes of such a frame.
+fn frame() -> usize {
+    let place = Cell::new(0);
+    let note = || {
+        let here = 0u8;
+        place.set(black_box(&raw const here).addr());
+        true
+    };
+    let [high, low] = [100, 200].map(|frames| {
+        below(frames, &note);
+        place.get()
+    });
+    (high - low) / 100
+}
+
+/// A call on a slice of a shape and a length, on a thread of so many KiB and below so many frames.
+#[derive(Clone, Copy)]
+struct Trial<'a> {
+    call: &'a str,
+    shape: &'a str,
+    words: usize,
+    kib: usize,
+    frames: usize,
+}
+
+impl Trial<'_> {
+    /// Says whether the call is answered as it has to be.
+    fn answered(self) -> bool {
+        let call: fn(&Question) -> bool = match self.call {
+            "none" => |_| true,
+            "check" => |it| check(&it.tree).is_ok(),
+            "read back" => read,
+            _ => asked,
+        };
+        let question = question(self.shape, self.words);
+        let work = move || below(self.frames, &|| call(&question));
+        let thread = thread::Builder::new().stack_size(self.kib * 1024);
+        thread::scope(|scope| {
+            let thread = thread.spawn_scoped(scope, work).expect("a thread");
+            thread.join().expect("an answer")
+        })
+    }
+
+    fn answered_in_child(self) -> io::Result<bool> {
+        let numbers = [self.words, self.kib, self.frames].map(|number| number.to_string());
+        let status = Command::new(env::current_exe()?)
+            .args([self.call, self.shape])
+            .args(numbers)
+            .stderr(Stdio::null())
+            .status()?;
+        Ok(status.success())
+    }
+}
+
+/// The least number, up to the most, for which a trial is answered, by halving.
+fn least<'a>(most: usize, trial: impl Fn(usize) -> Trial<'a>) -> io::Result<usize> {
+    let (mut fails, mut answers) = (0, most);
+    if !trial(most).answered_in_child()? {
+        let Trial { call, shape, .. } = trial(most);
+        return Err(io::Error::other(format!("{call}, {shape}: not answered")));
     }
     while fails + 1 < answers {
         let middle = (fails + answers) / 2;
-        if answers_in_child(shape, words, middle * PAGE_KIB)? {
+        if trial(middle).answered_in_child()? {
             answers = middle;
         } else {
             fails = middle;
         }
     }
-    Ok(answers * PAGE_KIB)
+    Ok(answers)
+}
+
+/// The least thread stack on which a query is answered, in KiB.
+fn least_thread(shape: &str, words: usize) -> io::Result<usize> {
+    let trial = |pages| Trial {
+        call: "query",
+        shape,
+        words,
+        kib: pages * PAGE_KIB,
+        frames: 0,
+    };
+    Ok(least(MOST_KIB / PAGE_KIB, trial)? * PAGE_KIB)
+}
+
+/// The least stack left of a thread on which a call is answered, in bytes: the rest is taken by frames above it.
+fn least_left(call: &str, shape: &str) -> io::Result<usize> {
+    let frame = frame();
+    let all = THREAD_KIB * 1024 / frame;
+    let trial = |left| Trial {
+        call,
+        shape,
+        words: MOST_WORDS,
+        kib: THREAD_KIB,
+        frames: all - left,
+    };
+    Ok(least(all, trial)? * frame)
 }
 
 /// How many rows nest in a slice of so many words.
@@ -155,8 +269,8 @@ fn depth(shape: &str, words: usize) -> usize {
     }
 }
 
-/// Tab-separated: the shape, how many rows nest, the least stack in KiB, its bytes a row (from a slice of half the length).
-fn measure() -> io::Result<()> {
+/// Tab-separated: call and slice, how many rows nest, the least stack in KiB, its bytes a row (from a slice of half the length).
+fn measure_queries() -> io::Result<()> {
     let half = MOST_WORDS / 2;
     let shapes = [
         ("checks", "8 Firsts, then rows of two Checks (the deepest)"),
@@ -164,24 +278,41 @@ fn measure() -> io::Result<()> {
         ("chain", "a First, then a chain of Puts"),
     ];
     for (shape, name) in shapes {
-        let (whole, part) = (least(shape, MOST_WORDS)?, least(shape, half)?);
+        let (whole, part) = (least_thread(shape, MOST_WORDS)?, least_thread(shape, half)?);
         let rows = depth(shape, MOST_WORDS);
         let bytes = 1024 * (whole - part) / (rows - depth(shape, half));
-        println!("{name}\t{rows}\t{whole}\t{bytes}");
+        println!("query: {name}\t{rows}\t{whole}\t{bytes}");
     }
-    println!(
-        "a tree made by calls\t184\t{}\t-",
-        least("calls", MOST_WORDS)?
-    );
+    let calls = least_thread("calls", MOST_WORDS)?;
+    println!("query: a tree made by calls\t184\t{calls}\t-");
+    Ok(())
+}
+
+/// The same for a check and a reading back; what a thread takes without a call is taken off.
+fn measure_saved() -> io::Result<()> {
+    let none = least_left("none", "chain")?;
+    for call in ["check", "read back"] {
+        for (shape, tree) in [("full", "1,024 clauses"), ("calls", "clauses of 64 words")] {
+            let kib = (least_left(call, shape)? - none) as f64 / 1024.0;
+            println!("{call}: {tree} made by calls\t-\t{kib:.1}\t-");
+        }
+    }
     Ok(())
 }
 
 fn main() -> io::Result<()> {
     let words: Vec<String> = env::args().skip(1).collect();
-    let [shape, length, kib] = &words[..] else {
-        return measure();
+    let [call, shape, length, kib, frames] = &words[..] else {
+        measure_queries()?;
+        return measure_saved();
     };
     let number = |text: &str| text.parse().map_err(io::Error::other);
-    let answered = answers(shape, number(length)?, number(kib)?);
-    exit(i32::from(!answered))
+    let trial = Trial {
+        call,
+        shape,
+        words: number(length)?,
+        kib: number(kib)?,
+        frames: number(frames)?,
+    };
+    exit(i32::from(!trial.answered()))
 }

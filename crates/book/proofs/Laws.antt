@@ -15,11 +15,10 @@ use Rattle.book.specs.Table.{Title, ready, kept, removed, is-covered, is
 use Rattle.book.specs.Laws.{BookLaws}
 use Rattle.clause.proofs.Lists.{all-mem}
 use Rattle.clause.proofs.Literals.{accepted}
-use Rattle.machine.proofs.Keys.{keys-same}
-use Rattle.machine.proofs.Codes.{sequence-plain}
 use Rattle.book.proofs.Beginnings.{counted}
 use Rattle.tree.proofs.Changes.{kept-numbered, numbered-kept, kept-varied, varied-kept}
 use Rattle.tree.proofs.Pairs.{kept-pair, pair-kept}
+use Rattle.readback.proofs.Saved.{sound-good, same-keys}
 use Rattle.clause.specs.declared.Fault.the-variants.{BadLength, Bad, Ninth}
 use Rattle.tree.specs.Entries.{Pair, Sound, entry}
 use Rattle.clause.specs.Word.{Words}
@@ -42,16 +41,12 @@ number n K = (
   λ h. let (p, m, g) = h in kept-numbered n (keys (p .clause)) (map entry K) (rw g at (pair-kept K p m)),
 )
 
--- clauses with the same keys are variants
-pub same-keys : (c : List ℕ) → Accepted c → Words c → (p : Pair) → Sound p → keys c ≡ keys (p .clause) → Variants c (p .clause)
-same-keys c C w p s e = keys-same (sequence-plain c (accepted c C) w) (sequence-plain (p .clause) (accepted (p .clause) (s .accepted)) (s .words)) e
-
 variant : (c : List ℕ) (K : List Pair) → Accepted c → Words c → All Sound K
     → (varied (keys c) (map entry K) ≡ true) ↔ ((p : Pair) × List·Memᴰ p K × Variants c (p .clause))
 variant c K C w S = (
   λ e. let (n, k) = varied-kept (keys c) (map entry K) (rw e tt) in
       let (p, m, f, g) = kept-pair K (keys c) n k in
-      (p, m, same-keys c C w p (all-mem S m) f),
+      (p, m, same-keys c (p .clause) (record { accepted = C; words = w }) (sound-good p (all-mem S m)) f),
   λ h. let (p, m, v) = h in kept-varied (keys c) (p .number) (map entry K) (rw (← ap (map key) v) at (pair-kept K p m)),
 )
 

@@ -19,7 +19,7 @@ use Rattle.walk.specs.Query.{witnessWords, walkSlice, query}
 use Rattle.tree.specs.Calls.{fresh, insertion, removal}
 use Rattle.readback.specs.Readback.{clauseAt}
 use Rattle.readback.specs.Saved.{ofClauses}
-use Rattle.readback.specs.Calls.{check, given, readBack}
+use Rattle.readback.specs.Calls.{check, writtenOut, readBack}
 use Rattle.book.specs.Table.{ready, kept, removed, returned, passed, saidCeiling, saidCheck, called, asked, givenBack}
 use Rattle.book.specs.Refusals.{firstOf, freshRows, ceilingRows, insertRows, removeRows, queryRows, checkRows, readRows, finished, unlessRefused, unlessSaid, walkResult, readResult}
 use Rattle.book.specs.Claims.{Demand1}
@@ -116,7 +116,7 @@ short-test a b = go (leb b a) refl
 reads : (T : List ℕ) (n : ℕ) (W : List ℕ) (s l w c : Bool) (o : Option (List ℕ))
     → sized T ≡ s → leb maxWords (length W) ≡ l → wellLaid T ≡ w → ofClauses (decode T) ≡ c → find n (decode T) ≡ o
     → givenBack (readBack T n W) ≡ unlessRefused (firstOf (readRows T n W)) W (readResult (clauseAt (find n (decode T))) W)
-unfolding readBack given
+unfolding readBack writtenOut
 reads T n W false l w c o es el ew ec eo = rw es
 reads T n W true false w c o es el ew ec eo = rw (es, short-test (length W) maxWords, el)
 reads T n W true true false c o es el ew ec eo = rw (es, short-test (length W) maxWords, el, ew)
@@ -139,6 +139,6 @@ demand1 =
           λ T d b W. asks T d b W (sized T) (ltb (length W) witnessWords) (ltb (length T - 1) (usedOf (getD T 0 0))) (shape d) (walkSlice T d b) refl refl refl refl refl;
       bounding = λ k q m. bounds k q m (leb k maxKept && leb 1 q && leb q maxLiterals && leb 1 m && leb m maxLiterals) refl;
       checking = λ T. checks T (sized T) (wellLaid T) (ofClauses (decode T)) refl refl refl;
-      reading =
+      reading-back =
           λ T n W. reads T n W (sized T) (leb maxWords (length W)) (wellLaid T) (ofClauses (decode T)) (find n (decode T)) refl refl refl refl refl;
     }

@@ -1,13 +1,13 @@
 -- Saved slices: the claims of specs/Saved.
 use mathlib.Core.Path.{_≡_, refl, sym, ap, _∙_}
 use mathlib.Core.Bool.{false}
-use mathlib.Core.List.{List, [], _∷_, _++_, map, List·Memᴰ}
+use mathlib.Core.List.{List, [], _∷_, _++_, map}
 use Prim.Native.Nat.{ℕ, _≤_, _<_}
 use native.Mathlib.Omega.{arith}
 use lib.ListN.{length, length-map}
 use borrow.Author.Tests.{lt-leb}
 use Rattle.clause.specs.Lists.{All, none, also}
-use Rattle.clause.proofs.Lists.{all-head, all-mem}
+use Rattle.clause.proofs.Lists.{all-head, all-mem, each-head}
 use Rattle.clause.proofs.Tests.{T-false}
 use Rattle.machine.specs.Compile.{keys}
 use Rattle.tree.specs.Forest.{size, layout}
@@ -24,13 +24,11 @@ use Rattle.tree.proofs.Mirror.{mirrors-build}
 use Rattle.tree.proofs.InsertWords.{ins-grows}
 use Rattle.tree.proofs.Changes.{numbered-kept, varied-kept}
 use Rattle.readback.specs.Saved.{IsTreeOf}
-use Rattle.readback.specs.Laws.{ReadsBack}
-use Rattle.readback.proofs.Saved.{Kept, kept-tail, each-head, apart-pairs, right-size}
-use Rattle.readback.proofs.Laws.{readback-laws}
+use Rattle.readback.proofs.Saved.{Kept, kept-tail, apart-pairs, right-size}
+use Rattle.readback.proofs.Laws.{readback-laws, passed-saved as check-saved}
 use Rattle.book.specs.Book.{Call, insert, AllFit, after, sliceOf, bookStep, bookFrom, bookOf, treeOf}
 use Rattle.book.specs.Claims.{Run}
 use Rattle.book.specs.Saved.{ReachSaved, PassedSaved, insertAll, Resumed, SavedIsMade, SavedDemand2, SavedDemand3, ReadsBook}
-use Rattle.book.proofs.Laws.{same-keys}
 use Rattle.book.proofs.Holds.{holds-tree, holds-numbers, holds-clauses}
 use Rattle.book.proofs.Reach.{start, laid, reach, demand2}
 use Rattle.book.proofs.Agreement.{demand3}
@@ -56,7 +54,7 @@ reach-saved T xs R =
     }
 
 pub passed-saved : PassedSaved
-passed-saved = readback-laws .checks
+passed-saved = check-saved
 
 -- ---- calls one after the other
 
@@ -121,11 +119,10 @@ module _ (T : List ℕ) (K : List Pair) (I : IsTreeOf T K) where
 
   resumed : (xs : List Call) → AllFit xs → Resumed T K xs
   resumed xs f =
-      record {
-        run = runs xs f;
-        slice = after-append (insertAll K) xs (fresh T .slice) ∙ ap (λ S. after S xs) slice-made;
-        book = book-append (length T) (insertAll K) xs [] ∙ ap (λ L. bookFrom (length T) L xs) made;
-      }
+      let slice : sliceOf T (insertAll K ++ xs) ≡ after T xs = after-append (insertAll K) xs (fresh T .slice) ∙ ap (λ S. after S xs) slice-made in
+      let book : bookOf (length T) (insertAll K ++ xs) ≡ bookFrom (length T) K xs =
+      book-append (length T) (insertAll K) xs [] ∙ ap (λ L. bookFrom (length T) L xs) made in
+      record { run = runs xs f; slice = slice; book = book; tree = rw (slice, book) at (reach-saved T (insertAll K ++ xs) (runs xs f)) }
 
 pub saved-is-made : SavedIsMade
 saved-is-made = resumed
@@ -144,13 +141,4 @@ saved-demand3 S K xs T L ys I f J g =
 -- ---- clauses read back
 
 pub reads-book : ReadsBook
-reads-book T xs R W room =
-    let I = reach-saved T xs R in
-    let back : (p : Pair) → List·Memᴰ p (bookOf (length T) xs) → ReadsBack (p .clause) =
-    λ p m. let s = all-mem (I .sound) m in readback-laws .back (p .clause) (record { accepted = s .accepted; words = s .words }) in
-    record {
-      each = readback-laws .each _ _ I W room;
-      variant = λ p m. same-keys _ (back p m .accepted) (back p m .words) p (all-mem (I .sound) m) (back p m .same-keys);
-      same = λ p m n. sym (back p m .read) ∙ back p m .same n;
-      unknown = readback-laws .unknown _ _ I W room;
-    }
+reads-book T xs R W room = readback-laws .kept _ _ (reach-saved T xs R) W room

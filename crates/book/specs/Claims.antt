@@ -41,7 +41,7 @@ pub record Demand1 : Type 0 where
       → saidCeiling (ceilingCall k q m) ≡ unlessSaid (firstOf (ceilingRows k q m)) (record { title = returned; values = ceiling k q m ∷ [] })
   pub checking : (T : List ℕ)
       → saidCheck (check T) ≡ unlessSaid (firstOf (checkRows T)) (record { title = passed; values = [] })
-  pub reading : (T : List ℕ) (n : ℕ) (W : List ℕ)
+  pub reading-back : (T : List ℕ) (n : ℕ) (W : List ℕ)
       → givenBack (readBack T n W) ≡ unlessRefused (firstOf (readRows T n W)) W (readResult (clauseAt (find n (decode T))) W)
 
 -- a list of calls on a slice on which fresh has answered "ready"

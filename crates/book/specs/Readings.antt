@@ -173,6 +173,12 @@ pile (suc n) = at 1 0 (2 * n + 3) ∷ at 7 P₀ (2 * n + 2) ∷ pile n
 abbrev pub answerBack : (slice : List ℕ) (number : ℕ) → ReadAnswer
 answerBack T n = readBack T n (replicate maxWords 9) .answer
 
+-- the path of P(x,y,y,x) with two Compares
+abbrev pub compared : (first second : ℕ) → List ℕ
+compared m n =
+    at 1 0 13 ∷ at 7 P₄ 12 ∷ at 2 0 11 ∷ at 4 0 10 ∷ at 3 0 9 ∷ at 4 1 8 ∷ at 3 0 7 ∷ at 4 2 6 ∷ at 3 0 5 ∷ at 4 3 4
+    ∷ at 8 m 3 ∷ at 8 n 2 ∷ at 0 1 1 ∷ []
+
 -- checking, and reading back
 abbrev pub saving : List (Type 0)
 saving =
@@ -185,6 +191,8 @@ saving =
     ∷ (check (sliceWith 1 (pile 9)) ≡ Failed NoSuchTree) ∷ (check (sliceWith 1 (pile 8)) ≡ Passed)
     ∷ (check (two 1 1) ≡ Failed NoSuchTree) ∷ (answerBack (two 1 1) 1 ≡ Unread NoSuchTree) ∷ (removal (two 1 1) 1 .answer ≡ Removed)
     ∷ (check (two 1 2) ≡ Passed)
+    -- P(x,y,y,x): its Compares in order, and in another
+    ∷ (check (sliceWith 1 (compared 3 0x10002)) ≡ Passed) ∷ (check (sliceWith 1 (compared 0x10002 3)) ≡ Failed NoSuchTree)
     -- paths of no clause: a Check over 16 bits, a Put at a head, a Put of 1 before any other; no clause kept
     ∷ (check (sliceWith 1 (at 1 0 3 ∷ at 7 0x18001 2 ∷ at 0 1 1 ∷ [])) ≡ Failed NoSuchTree)
     ∷ (check (sliceWith 1 (at 1 0 3 ∷ at 4 0 2 ∷ at 0 1 1 ∷ [])) ≡ Failed NoSuchTree)

@@ -1,23 +1,19 @@
 -- What is claimed of saved slices: those that calls make pass the check, those that pass are made by calls, and their clauses are read back.
 use mathlib.Core.Path.{_≡_}
-use mathlib.Core.Logic.{_↔_, _≢_}
-use mathlib.Core.List.{List, [], _∷_, _++_, List·Memᴰ}
-use Prim.Native.Nat.{ℕ, _≤_, _<_}
+use mathlib.Core.Logic.{_↔_}
+use mathlib.Core.List.{List, [], _∷_, _++_}
+use Prim.Native.Nat.{ℕ, _≤_}
 use lib.ListN.{length}
 use Rattle.clause.specs.Clause.{Accepted, maxWords}
-use Rattle.machine.specs.Compile.{Variants}
-use Rattle.tree.specs.Keys.{firstKey}
 use Rattle.tree.specs.Entries.{Pair}
 use Rattle.walk.specs.Query.{witnessWords}
 use Rattle.walk.specs.Covering.{Answers}
-use Rattle.readback.specs.Readback.{normal, Numbered}
 use Rattle.readback.specs.Saved.{IsTreeOf, IsSaved}
-use Rattle.readback.specs.Calls.{check, over, unread, readBack}
+use Rattle.readback.specs.Calls.{check}
+use Rattle.readback.specs.Laws.{ReadsKept}
 use Rattle.book.specs.Book.{Call, insert, AllFit, after, sliceOf, bookFrom, bookOf, treeOf}
 use Rattle.book.specs.Claims.{Run, Both}
 use Rattle.readback.specs.declared.CheckAnswer.the-variants.{Passed}
-use Rattle.readback.specs.declared.ReadAnswer.the-variants.{Read}
-use Rattle.tree.specs.declared.Refusal.the-variants.{NoSuchNumber}
 
 -- every slice that calls make is the tree of the clauses that they keep
 abbrev pub ReachSaved : Type 0
@@ -39,6 +35,8 @@ pub record Resumed (T : List ℕ) (K : List Pair) (xs : List Call) : Type 0 wher
   pub run : Run T (insertAll K ++ xs)
   pub slice : sliceOf T (insertAll K ++ xs) ≡ after T xs
   pub book : bookOf (length T) (insertAll K ++ xs) ≡ bookFrom (length T) K xs
+  -- so it is a saved slice again
+  pub tree : IsTreeOf (after T xs) (bookFrom (length T) K xs)
 
 -- so all that is claimed of lists of calls from fresh holds of a saved slice, and of further calls on it
 abbrev pub SavedIsMade : Type 0
@@ -59,17 +57,6 @@ SavedDemand3 =
     → Both (after S xs) (bookFrom (length S) K xs) (after T ys) (bookFrom (length T) L ys)
 
 -- ---- clauses read back
-
--- reading back from a slice where the pairs K are kept, into the output W
-pub record ReadsKept (T : List ℕ) (K : List Pair) (W : List ℕ) : Type 0 where
-  -- by its number each clause comes back, with its variables numbered by first appearance, and the other words stay
-  pub each : (p : Pair) → List·Memᴰ p K
-      → readBack T (p .number) W ≡ record { answer = Read (length (p .clause)); output = over (normal (p .clause)) W }
-  -- that is the clause up to variable names, and word for word if its variables were so numbered
-  pub variant : (p : Pair) → List·Memᴰ p K → Variants (normal (p .clause)) (p .clause)
-  pub same : (p : Pair) → List·Memᴰ p K → Numbered 0 (p .clause) → normal (p .clause) ≡ p .clause
-  -- 9 comes exactly for the other numbers
-  pub unknown : (n : ℕ) → n < firstKey → (readBack T n W ≡ unread NoSuchNumber W) ↔ ((p : Pair) → List·Memᴰ p K → p .number ≢ n)
 
 -- after any list of calls the clauses of the book are read back
 abbrev pub ReadsBook : Type 0

@@ -1,7 +1,8 @@
 // Runs the cases of documents 01 and 02 on standard input: 01's unstarred rows, each limit on both sides, each refusal, and the readings that the two
 // leave open (a label such as C-1, W-9 or F3-1 names one). The expected lines are the plain model's: in tests/rust, `cargo run --release -p model --bin cases`
 // writes them, and tests/rust/tests/cases.rs holds the model to them. A line to be added is read against documents 01 and 02.
-// A line of the input is a label, a colon and commands; written is the label and what the commands answer. One without a colon is written as it is.
+// The input has at most 65,536 bytes. A line of it is a label, a colon and commands; written is the label and what the commands answer. One without a
+// colon is written as it is.
 // A command is a number in hexadecimal and a letter. What a command sets stays for the lines after it, but a clause for one call.
 // L: the slice ends at this index, and its next word stands there; 0L begins one. T: its next word. M: so many times that. C: the next word of the clause.
 // B: the budget, or the number of a clause to read back.

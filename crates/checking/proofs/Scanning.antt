@@ -158,7 +158,7 @@ unfolding opens
 opens-same ks ls es fs zero f g = refl
 opens-same ks ls es fs (suc d) f g = rw (f d (omega arith), g d (omega arith), opens-same ks ls es fs d (λ i h. f i (omega arith)) (λ i h. g i (omega arith)))
 
-pub opens-push : (ks es : List ℕ) (d k e : ℕ) → d < length ks → d < length es
+opens-push : (ks es : List ℕ) (d k e : ℕ) → d < length ks → d < length es
     → opens (set ks d k) (set es d e) (d + 1) ≡ record { key = k; end = e } ∷ opens ks es d
 unfolding opens
 opens-push ks es d k e h g =
@@ -166,12 +166,12 @@ opens-push ks es d k e h g =
     opens-same (set ks d k) ks (set es d e) es d (λ i l. getD-set-other ks d i k 0 (λ q. omega arith)) (λ i l. getD-set-other es d i e 0 (λ q. omega arith)) in
     simp add-one (rw (getD-set-same ks d k 0 h, getD-set-same es d e 0 g, below))
 
-pub opens-path : (ks es : List ℕ) (d : ℕ) → d ≤ length ks → pathTo (opens ks es d) ≡ take d ks
+opens-path : (ks es : List ℕ) (d : ℕ) → d ≤ length ks → pathTo (opens ks es d) ≡ take d ks
 unfolding opens pathTo
 opens-path ks es zero h = refl
 opens-path ks es (suc d) h = rw (opens-path ks es d (omega arith)) (sym (take-suc ks d 0 (omega arith)))
 
-pub length-opens : (ks es : List ℕ) (d : ℕ) → length (opens ks es d) ≡ d
+length-opens : (ks es : List ℕ) (d : ℕ) → length (opens ks es d) ≡ d
 unfolding opens
 length-opens ks es zero = refl
 length-opens ks es (suc d) = ap suc (length-opens ks es d)
@@ -215,7 +215,7 @@ module _ (es : List ℕ) (d at a : ℕ) (c : Closing es d at a) where
 
 -- ---- words that are nested
 
-pub nested-drop : (n : ℕ) {ws : List ℕ} → Nested ws → Nested (drop n ws)
+nested-drop : (n : ℕ) {ws : List ℕ} → Nested ws → Nested (drop n ws)
 nested-drop zero h = h
 nested-drop (suc n) done = done
 nested-drop (suc n) (word a b h) = nested-drop n h
@@ -248,7 +248,7 @@ nested-forest F f small = rw append-nil at (nested-encode 0 F f small [] done)
 -- ---- a path that is too deep
 
 -- a word above reaches past the place, and there are too many: what is found below it is no clause's
-pub too-deep : {ws : List ℕ} → Nested ws → (at : ℕ) (o : Open) (os : List Open) → at < o .end → o .end ≤ at + length ws → maxKeys < length (o ∷ os)
+too-deep : {ws : List ℕ} → Nested ws → (at : ℕ) (o : Open) (os : List Open) → at < o .end → o .end ≤ at + length ws → maxKeys < length (o ∷ os)
     → allReadable (scan ws at (o ∷ os)) ≡ false
 too-deep done at o os h g l = absurd (omega arith)
 too-deep (word {w = w} {ws = ws} inside below n) at o os h g l =

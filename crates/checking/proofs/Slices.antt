@@ -18,12 +18,12 @@ use Rattle.tree.proofs.Grow.{laid-decode, sized-high}
 use Rattle.tree.proofs.Words.{region-layout}
 use Rattle.tree.proofs.Laws.{tree-laws}
 use Rattle.readback.specs.Saved.{readable, allReadable, allDiffer, ofClauses}
-use Rattle.readback.specs.Calls.{check, unread, given, readBack}
+use Rattle.readback.specs.Calls.{check, unread, writtenOut, readBack}
 use Rattle.readback.specs.declared.CheckAnswer.the-variants.{Passed}
 use Rattle.readback.specs.declared.ReadAnswer.the-variants.{Read}
 use Rattle.tree.specs.declared.Refusal.the-variants.{NoSuchNumber}
 use Rattle.readback.proofs.Listed.{length-paths}
-use Rattle.readback.proofs.Laws.{Passing, check-passing, given-is}
+use Rattle.readback.proofs.Laws.{Passing, check-passing, written-is}
 use Rattle.decompiling.specs.inner.Reader.{Modest, Written}
 use Rattle.decompiling.specs.declared.ReadOff.the-variants.{Words}
 use Rattle.decompiling.proofs.Wording.{unreadable}
@@ -105,14 +105,14 @@ module _ (T : List ℕ) (passed : check T ≡ Passed) where
   read-foreign n p e f = absurd (true≢false (sym (found-readable n (scan (lent T) 0 []) p passed-clauses e) ∙ unreadable p f))
 
   module _ (n : ℕ) (l : n < firstKey) (W : List ℕ) (room : maxWords ≤ length W) where
-    found : readBack T n W ≡ given (firstWith n (scan (lent T) 0 [])) W
-    found = given-is T n W passing room ∙ ap (λ o. given o W) (sym (lent-find T passed-sized passed-laid n l))
+    found : readBack T n W ≡ writtenOut (firstWith n (scan (lent T) 0 [])) W
+    found = written-is T n W passing room ∙ ap (λ o. writtenOut o W) (sym (lent-find T passed-sized passed-laid n l))
 
     pub read-none : firstWith n (scan (lent T) 0 []) ≡ none → unread NoSuchNumber W ≡ readBack T n W
-    unfolding given
+    unfolding writtenOut
     read-none e = sym (found ∙ rw e)
 
     pub read-some : (p : List ℕ) → firstWith n (scan (lent T) 0 []) ≡ some p → (U : List ℕ) (k : ℕ) → Written p W (Words k) U
         → record { answer = Read k; output = U } ≡ readBack T n W
-    unfolding given
+    unfolding writtenOut
     read-some p e U k (a, b, c) = sym (found ∙ rw (e, c, a))

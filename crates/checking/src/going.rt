@@ -27,7 +27,7 @@ fn still_open(ends: &[usize], depth: usize, at: usize) -> usize
 }
 
 // Goes on to the next Success, from a place with `depth` words above the one before it: their keys and the ends of their extents are in the two arrays.
-pub(crate) fn next_success(
+pub fn next_success(
     words: &[u64],
     from: usize,
     depth: usize,

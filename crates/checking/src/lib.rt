@@ -1,5 +1,5 @@
-// Checking a saved slice, and reading a clause back out of it (docs/REFERENCE.md, "Calls"): one pass over the tree's words, with the keys above the next
-// one in an array that a sequence's keys fit into, no stack.
+// Checking a saved slice, and reading a clause back out of it (docs/REFERENCE.md, "Calls"). After the well-laid test the check is one pass over the used
+// words, with the keys above the next one in an array that a sequence's keys fit into; reading back is one more, up to the number. No stack.
 use clause::Clause;
 use decompiling::ReadOff;
 use decompiling::is_path;
@@ -27,7 +27,7 @@ ghost use Rattle.checking.specs.inner.Scan.{Nested, scan, Gathers, areCl
 mod going;
 mod numbers;
 
-use going::next_success;
+pub use going::next_success;
 use numbers::all_differ;
 
 // What comes next: a Success at a place, with so many keys above it; no more; or a word deeper than any clause's.

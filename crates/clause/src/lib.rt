@@ -49,6 +49,12 @@ impl Clause {
     // Arities are below this: 0 to 7.
     pub const ARITIES: usize = 8;
 
+    // Words are below this: 16 bits.
+    pub const VALUES: u64 = 0x1_0000;
+
+    // The word of variable 0; those of the others follow it.
+    pub const VARIABLE: u64 = 0x4000;
+
     // Where the ends stand in the tables, after the starts of the literals.
     pub const ENDS: usize = Clause::LITERALS;
 

@@ -2,96 +2,34 @@
 use mathlib.Core.Path.{_≡_, refl, sym, ap, _∙_}
 use mathlib.Core.Logic.{_≢_}
 use mathlib.Core.Option.{Option, none, some}
-use mathlib.Core.List.{List, [], _∷_, _++_, map, append-assoc, append-nil}
+use mathlib.Core.List.{List, [], _∷_, _++_, append-assoc, append-nil}
 use Prim.Native.Nat.{ℕ, zero, suc, _+_, _/_, _%_, _^_, _≤_, _<_}
 use native.Mathlib.Omega.{arith}
-use lib.ListN.{length, getD, take, drop, length-append, length-map}
-use Rattle.clause.specs.Lists.{All, none as all-none, also}
-use Rattle.clause.specs.Word.{Words, arity, variable, sort-discrete, sort, ifVariable}
+use lib.ListN.{length, getD, take, drop, length-append}
+use Rattle.clause.specs.Lists.{All}
+use Rattle.clause.specs.Word.{Words}
 use Rattle.clause.specs.Clause.{vars}
-use Rattle.clause.proofs.Lists.{all-append, all-head, all-tail, all-weaken}
+use Rattle.clause.proofs.Lists.{all-head, all-tail, all-weaken}
 use Rattle.clause.proofs.Literals.{Clause, accepted}
-use Rattle.clause.proofs.Terms.{if-other}
-use Rattle.machine.specs.Instr.{Step, Down, Right, Put, Push, Pop, Check, Compare, Instr, First, Do, Success, key, instruction, instrOf}
-use Rattle.machine.specs.Compile.{Saved, Place, ended, inside, way, wayFrom, opening, begun, closing, act, putsAfter, sequenceFrom, sequence}
+use Rattle.machine.specs.Instr.{Down, Right, Put, Push, Pop, Check, Compare, Instr, First, Do, Success, key, instruction, instrOf}
+use Rattle.machine.specs.Compile.{ended, sequence}
 use Rattle.machine.proofs.Replace.{length-vars}
 use Rattle.machine.proofs.Codes.{sequence-plain}
-use Rattle.machine.proofs.Compares.{first-le, compares-all}
-use Rattle.machine.proofs.Length.{sequence-length}
+use Rattle.machine.proofs.Compares.{first-le}
 use Rattle.readback.specs.Readback.{instructions, comparedBy, origin, wordOf, wordsOf, clauseOf}
 use Rattle.readback.specs.Laws.{Readable}
 use Rattle.decompiling.specs.inner.Reader.{comparedIn, wordIn, Small, Modest}
-use Rattle.readback.proofs.Read.{instructions-keys, put-is}
-use Rattle.readback.proofs.Origin.{origin-first}
+use Rattle.readback.proofs.Read.{instructions-keys}
+use Rattle.readback.proofs.Origin.{Of, all-of, origin-first}
 
 -- ---- a path that a clause has is modest
 
--- an instruction of a clause with the variables us
-abbrev Of : List ℕ → Instr → Type 0
-Of us First = Unit {0}
-Of us (Success n) = Unit {0}
-Of us (Do Down) = Unit {0}
-Of us (Do Right) = Unit {0}
-Of us (Do (Put k)) = k < length us
-Of us (Do (Push n)) = Unit {0}
-Of us (Do (Pop n)) = Unit {0}
-Of us (Do (Check w)) = w < 2 ^ 16
-Of us (Do (Compare m k)) = Unit {0}
-
-module _ (us : List ℕ) where
-  way-of : (a l : ℕ) (saved : List Saved) (n : ℕ) → All (λ x. Of us (Do x)) (way a l saved n .steps)
-  unfolding way
-  way-of (suc a) (suc l) saved n = also {x = Push n} tt (also {x = Down} tt all-none)
-  way-of (suc a) zero saved n = also {x = Down} tt all-none
-  way-of zero (suc l) saved n = also {x = Right} tt all-none
-  way-of zero zero (s ∷ saved) n = also {x = Pop (s .slot)} tt all-none
-  way-of zero zero [] n = all-none
-
-  wayFrom-of : (place : Place) (a n : ℕ) → All (λ x. Of us (Do x)) (wayFrom place a n .steps)
-  unfolding wayFrom
-  wayFrom-of ended a n = way-of a 0 [] n
-  wayFrom-of (inside l saved) a n = way-of a l saved n
-
-  do-of : {xs : List Step} → All (λ x. Of us (Do x)) xs → All (Of us) (map Do xs)
-  do-of all-none = all-none
-  do-of (also h p) = also h (do-of p)
-
-  opening-of : (place : Place) → All (Of us) (opening place)
-  unfolding opening
-  opening-of ended = also {x = First} tt all-none
-  opening-of (inside l saved) = all-none
-
-  closing-of : (place : Place) (puts : List ℕ) (from : ℕ) → All (λ x. Of us (Do x)) (closing place puts from)
-  unfolding closing
-  closing-of (inside l saved) puts from = all-none
-  closing-of ended puts from = compares-all puts from (λ m k i j e. tt)
-
-  act-of : (puts : List ℕ) (w : ℕ) (ws : List ℕ) → us ≡ puts ++ vars (w ∷ ws) → w < 2 ^ 16 → Of us (Do (act puts w))
-  unfolding act
-  act-of puts w ws q h = go (sort-discrete (sort w) variable)
-    where
-      go : Dec (sort w ≡ variable) → Of us (Do (ifVariable (sort w) (Put (length puts)) (Check w)))
-      go (yes e) = rw e (put-is puts w ws e q .1)
-      go (no n) = rw (if-other (sort w) n (Put (length puts)) (Check w)) h
-
-  puts-on : (puts : List ℕ) (w : ℕ) (ws : List ℕ) → us ≡ puts ++ vars (w ∷ ws) → us ≡ putsAfter puts w ++ vars ws
-  unfolding vars putsAfter
-  puts-on puts w ws q = q ∙ sym (append-assoc puts (ifVariable (sort w) (w ∷ []) []) (vars ws))
-
-  all-of : (ws : List ℕ) → Words ws → (place : Place) (puts : List ℕ) (from n : ℕ) → us ≡ puts ++ vars ws → All (Of us) (sequenceFrom ws place puts from n)
-  unfolding sequenceFrom
-  all-of [] h place puts from n q = all-none
-  all-of (w ∷ ws) (also g h) place puts from n q =
-      let t = wayFrom place (arity w) n in
-      let puts′ = putsAfter puts w in
-      let from′ = begun place puts from in
-      all-append (opening-of place)
-      (also (act-of puts w ws q g)
-      (all-append (do-of (wayFrom-of place (arity w) n))
-      (all-append (do-of (closing-of (t .place) puts′ from′)) (all-of ws h (t .place) puts′ from′ (t .pushed) (puts-on puts w ws q)))))
+-- a word of 16 bits
+abbrev Narrow : ℕ → Type 0
+Narrow w = w < 2 ^ 16
 
 module _ (c : List ℕ) (C : Clause c) where
-  of-small : (i : Instr) → Of (vars c) i → Small (origin (sequence c)) i
+  of-small : (i : Instr) → Of Narrow (vars c) i → Small (origin (sequence c)) i
   of-small First h = tt
   of-small (Success n) h = tt
   of-small (Do Down) h = tt
@@ -104,17 +42,16 @@ module _ (c : List ℕ) (C : Clause c) where
 
   sequence-small : Words c → All (Small (origin (sequence c))) (sequence c)
   unfolding sequence
-  sequence-small h = all-weaken of-small (all-of (vars c) c h ended [] 0 0 refl)
+  sequence-small h = all-weaken of-small (all-of Narrow (vars c) c h ended [] 0 0 refl)
 
 pub readable-modest : (p : List ℕ) → Readable p → Modest p
 readable-modest p R =
     let c : List ℕ = clauseOf p in
-    let C : Clause c = accepted c (R .accepted) in
-    let e : instructions p ≡ sequence c = ap instructions (sym (R .is)) ∙ instructions-keys (sequence-plain c C (R .words)) in
+    let C : Clause c = accepted c (R .good .accepted) in
+    let e : instructions p ≡ sequence c = ap instructions (sym (R .is)) ∙ instructions-keys (sequence-plain c C (R .good .words)) in
     record {
-      small = rw e (sequence-small c C (R .words));
+      small = rw e (sequence-small c C (R .good .words));
       few-words = C .fits;
-      few-keys = omega (arith, ap length (R .is), length-map (sequence c) key, sequence-length c C);
     }
 
 -- ---- key by key

@@ -45,7 +45,7 @@ module _ (os cs : List ℕ) (x : ℕ) where
   pub outside-origin : x / 2 ^ 32 ≡ 4 → slots ≤ getD os (x % 2 ^ 32) 0 → Names os cs x Outside
   outside-origin e h = (Do (Put (x % 2 ^ 32)), key-put x e, λ g. omega (arith, g .1))
 
-  pub names-put : x / 2 ^ 32 ≡ 4 → x % 2 ^ 32 < slots → getD os (x % 2 ^ 32) 0 < slots → Names os cs x (Stands (16384 + getD cs (getD os (x % 2 ^ 32) 0) 0))
+  pub names-put : x / 2 ^ 32 ≡ 4 → x % 2 ^ 32 < slots → getD os (x % 2 ^ 32) 0 < slots → Names os cs x (Stands (variableWord (getD cs (getD os (x % 2 ^ 32) 0) 0)))
   unfolding wordOf variableWord
   names-put e h g = (Do (Put (x % 2 ^ 32)), key-put x e, (h, g), refl)
 

@@ -37,12 +37,6 @@ impl Operation {
     const COMPARE: u64 = Key::COMPARE / Key::OPERANDS;
 }
 
-// The word of variable 0; the others follow it.
-const VARIABLE: u64 = 0x4000;
-
-// Words are below this.
-const WORDS: u64 = 0x1_0000;
-
 // Each put is its own origin at first, the first put of its variable.
 fn start_origins(origins: &mut [u64])
     requires { ⌜ length (now origins) ≡ slots ⌝ }
@@ -78,15 +72,15 @@ fn note_counts(origins: &[u64], counts: &mut [u64])
     requires { ⌜ (length (now origins) ≡ slots) × (length (now counts) ≡ suc slots) ⌝ }
     ensures { λ _. ⌜ Counts (now (origins .entry)) (now (counts .exit)) ⌝ }
 {
-    let mut count = 0;
+    let mut firsts = 0;
     let mut k = 0;
     counts[0] = 0;
     while k < Sequence::NUMBERS {
         if origins[k] == k as u64 {
-            count += 1;
+            firsts += 1;
         }
         k += 1;
-        counts[k] = count;
+        counts[k] = firsts;
     }
 }
 
@@ -98,7 +92,7 @@ fn word_of(x: u64, origins: &[u64], counts: &[u64]) -> Word
     let op = x / Key::OPERANDS;
     let operand = x % Key::OPERANDS;
     if op == Operation::CHECK {
-        if operand < WORDS {
+        if operand < Clause::VALUES {
             let word = operand as u16;
             return Word::Stands(word);
         }
@@ -113,7 +107,7 @@ fn word_of(x: u64, origins: &[u64], counts: &[u64]) -> Word
             return Word::Outside;
         }
         let number = counts[m as usize];
-        let variable = VARIABLE + number;
+        let variable = Clause::VARIABLE + number;
         let word = variable as u16;
         return Word::Stands(word);
     }

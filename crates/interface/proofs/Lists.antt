@@ -25,7 +25,8 @@ use Rattle.book.specs.Book.{Call, insert, remove, call, done, after, sliceOf, b
 use Rattle.book.specs.Claims.{Run, Reached, Together, Same, Exact}
 use Rattle.book.proofs.Reach.{reach, demand2}
 use Rattle.book.proofs.Agreement.{demand3}
-use Rattle.book.specs.Saved.{insertAll, ReadsKept}
+use Rattle.book.specs.Saved.{insertAll}
+use Rattle.readback.specs.Laws.{ReadsKept}
 use Rattle.book.proofs.Exact.{exact-count}
 use Rattle.book.proofs.Saved.{reach-saved, passed-saved, saved-is-made, reads-book}
 use Rattle.interface.specs.Told.{numberOf, shownAs, replied}

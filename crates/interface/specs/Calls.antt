@@ -8,7 +8,7 @@ use Rattle.readback.specs.Calls.{check, readBack}
 use Rattle.book.specs.Table.{Result, saidCeiling, saidCheck, called, asked, givenBack}
 use Rattle.interface.specs.Told.{numberOf, Reply, replied}
 
--- the number returned, and the words of the tree or the witness afterwards
+-- the number returned, and the words of the tree, the witness or the output afterwards
 pub record Left : Type 0 where
   pub number : ℕ
   pub words : List ℕ

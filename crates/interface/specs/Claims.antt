@@ -1,4 +1,5 @@
--- What is claimed of the calls that C makes: lists of calls and queries after them, in terms of the numbers returned and the words told.
+-- What is claimed of the calls that C makes: lists of calls, queries, checks and clauses read back after them, in terms of the numbers returned and the
+-- words told.
 use mathlib.Core.Path.{_≡_}
 use mathlib.Core.Logic.{_↔_, _≢_, _⊎_}
 use mathlib.Core.Option.{Option}

@@ -16,8 +16,6 @@ use Rattle.clause.proofs.Literals.{accepted}
 use Rattle.machine.specs.Instr.{key}
 use Rattle.machine.specs.Compile.{sequence, Variants, keys}
 use Rattle.machine.specs.Compiled.{maxKeys}
-use Rattle.machine.proofs.Keys.{keys-same}
-use Rattle.machine.proofs.Codes.{sequence-plain}
 use Rattle.machine.proofs.Length.{sequence-length}
 use Rattle.tree.specs.Keys.{firstKey}
 use Rattle.tree.specs.Forest.{find}
@@ -26,20 +24,16 @@ use Rattle.tree.specs.Entries.{Pair}
 use Rattle.tree.specs.declared.Refusal.{Refusal}
 use Rattle.tree.specs.declared.Refusal.the-variants.{BadSlice, Broken, NoSuchNumber, NoSuchTree, ShortOutput}
 use Rattle.readback.specs.Readback.{normal, clauseOf}
-use Rattle.readback.specs.Saved.{IsTreeOf, IsSaved, readable, ofClauses}
-use Rattle.readback.specs.Calls.{Given, check, over, unread, given, readBack}
-use Rattle.readback.specs.Laws.{Good, ReadsBack, IsRead, ReadbackLaws}
+use Rattle.readback.specs.Saved.{IsTreeOf, IsSaved, pairsOf, readable, ofClauses}
+use Rattle.readback.specs.Calls.{Given, check, over, unread, writtenOut, readBack}
+use Rattle.readback.specs.Laws.{Good, ReadsBack, IsRead, ReadsKept, ReadbackLaws}
 use Rattle.readback.specs.declared.CheckAnswer.the-variants.{Failed, Passed}
 use Rattle.readback.specs.declared.ReadAnswer.the-variants.{Read}
 use Rattle.readback.proofs.Normal.{reads-back, path-readable}
-use Rattle.readback.proofs.Saved.{readable-iff, right-size, laid, of-clauses, is-tree, only, finds}
+use Rattle.readback.proofs.Saved.{readable-iff, sound-good, same-keys, right-size, laid, of-clauses, is-tree, only, finds}
 
 back : (c : List ℕ) → Good c → ReadsBack c
 back c g = reads-back c (g .accepted) (g .words)
-
--- clauses with the same keys are variants
-same-keys : (c d : List ℕ) → Good c → Good d → keys c ≡ keys d → Variants c d
-same-keys c d g h e = keys-same (sequence-plain c (accepted c (g .accepted)) (g .words)) (sequence-plain d (accepted d (h .accepted)) (h .words)) e
 
 variants : (c d : List ℕ) → Good c → Good d → Variants c d ↔ (normal c ≡ normal d)
 variants c d g h = (
@@ -47,7 +41,7 @@ variants c d g h = (
   λ e. same-keys c d g h (sym (back c g .same-keys) ∙ ap keys e ∙ back d h .same-keys),
 )
 
-pub length-normal : (c : List ℕ) → length (normal c) ≡ length c
+length-normal : (c : List ℕ) → length (normal c) ≡ length c
 unfolding normal
 length-normal c = length-map c _
 
@@ -59,7 +53,7 @@ deep-unreadable p h = go (readable p) refl
     go false e = refl
     go true e =
         let R = readable-iff p .0 e in
-        let l = sequence-length (clauseOf p) (accepted (clauseOf p) (R .accepted)) in
+        let l = sequence-length (clauseOf p) (accepted (clauseOf p) (R .good .accepted)) in
         absurd (omega (arith, ap length (R .is), length-map (sequence (clauseOf p)) key))
 
 -- ---- checking
@@ -98,18 +92,18 @@ pub check-foreign : (T : List ℕ) → sized T ≡ true → wellLaid T ≡ true 
 unfolding check
 check-foreign T e f g = rw (e, f, g)
 
-pub passing-saved : (T : List ℕ) → Passing T → IsSaved T
-passing-saved T p = is-tree T (p .right-size) (p .laid) (p .of-clauses)
+passing-tree : (T : List ℕ) → Passing T → IsTreeOf T (pairsOf (decode T))
+passing-tree T p = is-tree T (p .right-size) (p .laid) (p .of-clauses)
 
-pub saved-passing : (T : List ℕ) (K : List Pair) → IsTreeOf T K → Passing T
+saved-passing : (T : List ℕ) (K : List Pair) → IsTreeOf T K → Passing T
 saved-passing T K I = record { right-size = right-size T K I; laid = laid T K I; of-clauses = of-clauses T K I }
 
 -- ---- reading back
 
 -- where all tests pass, it is the clause of the path to the number
-pub given-is : (T : List ℕ) (n : ℕ) (W : List ℕ) → Passing T → maxWords ≤ length W → readBack T n W ≡ given (find n (decode T)) W
+pub written-is : (T : List ℕ) (n : ℕ) (W : List ℕ) → Passing T → maxWords ≤ length W → readBack T n W ≡ writtenOut (find n (decode T)) W
 unfolding readBack
-given-is T n W p room = rw (p .right-size, le-leb maxWords (length W) room, p .laid, p .of-clauses)
+written-is T n W p room = rw (p .right-size, le-leb maxWords (length W) room, p .laid, p .of-clauses)
 
 -- else it is refused, with the words left
 pub read-bad : (T : List ℕ) (n : ℕ) (W : List ℕ) → sized T ≡ false → readBack T n W ≡ unread BadSlice W
@@ -125,7 +119,7 @@ unfolding check readBack
 read-failed T n W r e room f = rw (e, le-leb maxWords (length W) room) (go (wellLaid T) (ofClauses (decode T)) (rw e at f))
   where
     go : (b c : Bool) → cond b (cond c Passed (Failed NoSuchTree)) (Failed Broken) ≡ Failed r
-        → cond b (cond c (given (find n (decode T)) W) (unread NoSuchTree W)) (unread Broken W) ≡ unread r W
+        → cond b (cond c (writtenOut (find n (decode T)) W) (unread NoSuchTree W)) (unread Broken W) ≡ unread r W
     go false c q = let s : Broken ≡ r = cc in rw s
     go true false q = let s : NoSuchTree ≡ r = cc in rw s
     go true true q = apart cc
@@ -135,42 +129,43 @@ module _ (T : List ℕ) (K : List Pair) (I : IsTreeOf T K) (W : List ℕ) (room 
   passing = saved-passing T K I
 
   each : (p : Pair) → List·Memᴰ p K → readBack T (p .number) W ≡ record { answer = Read (length (p .clause)); output = over (normal (p .clause)) W }
-  unfolding given
+  unfolding writtenOut
   each p m =
       let t = all-mem (I .sound) m in
       let r = reads-back (p .clause) (t .accepted) (t .words) .read in
-      given-is T (p .number) W passing room ∙ rw (finds T K I p m, r, length-normal (p .clause))
+      written-is T (p .number) W passing room ∙ rw (finds T K I p m, r, length-normal (p .clause))
 
   unknown : (n : ℕ) → n < firstKey → (readBack T n W ≡ unread NoSuchNumber W) ↔ ((p : Pair) → List·Memᴰ p K → p .number ≢ n)
-  unfolding given
+  unfolding writtenOut
   unknown n l = (to, from)
     where
       to : readBack T n W ≡ unread NoSuchNumber W → (p : Pair) → List·Memᴰ p K → p .number ≢ n
       to e p m q = let f = ap (λ (r : Given). r .answer) (sym (each p m) ∙ ap (λ k. readBack T k W) q ∙ e) in apart cc
 
       from : ((p : Pair) → List·Memᴰ p K → p .number ≢ n) → readBack T n W ≡ unread NoSuchNumber W
-      from h = given-is T n W passing room ∙ go (find n (decode T)) refl
+      from h = written-is T n W passing room ∙ go (find n (decode T)) refl
         where
-          go : (o : Option (List ℕ)) → find n (decode T) ≡ o → given o W ≡ unread NoSuchNumber W
+          go : (o : Option (List ℕ)) → find n (decode T) ≡ o → writtenOut o W ≡ unread NoSuchNumber W
           go none e = refl
           go (some cs) e = let (p, m, q, r) = only T K I n l cs e in absurd (h p m (sym r))
 
 -- what is read is the clause of a path of the tree
 reads : (T : List ℕ) (n : ℕ) (W : List ℕ) (k : ℕ) → n < firstKey → readBack T n W .answer ≡ Read k → IsRead T n W k
-unfolding readBack given
+unfolding readBack writtenOut
 reads T n W k l e = go (sized T) refl (leb maxWords (length W)) refl (wellLaid T) refl (ofClauses (decode T)) refl (find n (decode T)) refl e
   where
     tested : sized T ≡ true → leb maxWords (length W) ≡ true → wellLaid T ≡ true → ofClauses (decode T) ≡ true → (cs : List ℕ) → find n (decode T) ≡ some cs
         → Read (length (clauseOf cs)) ≡ Read k → IsRead T n W k
     tested a b c d cs f e =
-        let (K, I) = is-tree T a c d in
+        let K = pairsOf (decode T) in
+        let I = is-tree T a c d in
         let (p, m, q, r) = only T K I n l cs f in
         let t = all-mem (I .sound) m in
         let B = reads-back (p .clause) (t .accepted) (t .words) in
         let is : clauseOf cs ≡ normal (p .clause) = ap clauseOf q ∙ B .read in
         record {
           clause = normal (p .clause);
-          good = record { accepted = B .accepted; words = B .words };
+          good = B .good;
           length-is = rw (sym is) cc;
           output = rw (a, b, c, d, f, is);
           path = f ∙ ap some (q ∙ sym (B .same-keys));
@@ -179,7 +174,7 @@ reads T n W k l e = go (sized T) refl (leb maxWords (length W)) refl (wellLaid T
 
     go : (a : Bool) → sized T ≡ a → (b : Bool) → leb maxWords (length W) ≡ b → (c : Bool) → wellLaid T ≡ c → (d : Bool) → ofClauses (decode T) ≡ d
         → (o : Option (List ℕ)) → find n (decode T) ≡ o
-        → cond a (cond b (cond c (cond d (given o W) (unread NoSuchTree W)) (unread Broken W)) (unread ShortOutput W)) (unread BadSlice W) .answer ≡ Read k
+        → cond a (cond b (cond c (cond d (writtenOut o W) (unread NoSuchTree W)) (unread Broken W)) (unread ShortOutput W)) (unread BadSlice W) .answer ≡ Read k
         → IsRead T n W k
     go false a b l c k d m o f e = apart cc
     go true a false l c k d m o f e = apart cc
@@ -188,7 +183,18 @@ reads T n W k l e = go (sized T) refl (leb maxWords (length W)) refl (wellLaid T
     go true a true l true k true m none f e = apart cc
     go true a true l true k true m (some cs) f e = tested a l k m cs f e
 
--- the claim
+-- ---- the claims
+
+kept : (T : List ℕ) (K : List Pair) → IsTreeOf T K → (W : List ℕ) → maxWords ≤ length W → ReadsKept T K W
+kept T K I W room =
+    let good : (p : Pair) → List·Memᴰ p K → Good (p .clause) = λ p m. sound-good p (all-mem (I .sound) m) in
+    record {
+      each = each T K I W room;
+      variant = λ p m. let B = back (p .clause) (good p m) in same-keys (normal (p .clause)) (p .clause) (B .good) (good p m) (B .same-keys);
+      same = λ p m n. let B = back (p .clause) (good p m) in sym (B .read) ∙ B .same n;
+      unknown = unknown T K I W room;
+    }
+
 pub readback-laws : ReadbackLaws
 readback-laws =
     record {
@@ -196,8 +202,12 @@ readback-laws =
       paths = path-readable;
       tested = λ p. (λ e. path-readable p .1 (readable-iff p .0 e), λ I. readable-iff p .1 (path-readable p .0 I));
       variants = variants;
-      checks = λ T. (λ e. passing-saved T (check-passing T e), λ I. passing-check T (saved-passing T (I .0) (I .1)));
+      tested-tree = λ T a l. (λ e. (pairsOf (decode T), is-tree T a l e), λ I. of-clauses T (I .0) (I .1));
+      pairs = λ T I. passing-tree T (saved-passing T (I .0) (I .1));
       reads = reads;
-      each = each;
-      unknown = unknown;
+      kept = kept;
     }
+
+-- a slice passes exactly if it is the tree of some clauses, or of none
+pub passed-saved : (T : List ℕ) → (check T ≡ Passed) ↔ IsSaved T
+passed-saved T = (λ e. (pairsOf (decode T), passing-tree T (check-passing T e)), λ I. passing-check T (saved-passing T (I .0) (I .1)))

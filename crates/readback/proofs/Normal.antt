@@ -182,8 +182,8 @@ module _ (c : List ℕ) (C : Clause c) (words : Words c) where
   put-number : (k : ℕ) → k < length (vars c) → putNumber (sequence c) k ≡ numberOf (vars c) (getD (vars c) k 0)
   unfolding numberOf
   put-number k h =
-      rw (origin-first c C k h)
-      (newBelow-same (origin (sequence c)) (firstOf (vars c)) (firstOf (vars c) k) λ j i. origin-first c C j (omega (arith, first-le (vars c) k h)))
+      ap (newBelow (origin (sequence c))) (origin-first c C k h)
+      ∙ newBelow-same (origin (sequence c)) (firstOf (vars c)) (firstOf (vars c) k) (λ j i. origin-first c C j (omega (arith, first-le (vars c) k h)))
 
   read-sequence : wordsOf (putNumber (sequence c)) (sequence c) ≡ normal c
   unfolding sequence normal
@@ -231,8 +231,7 @@ reads-back c h w =
     let C = accepted c h in
     record {
       read = read c C w;
-      accepted = normal-shape c C w h;
-      words = normal-words c C w;
+      good = record { accepted = normal-shape c C w h; words = normal-words c C w };
       same-keys = ap (map key) (normal-sequence c C w);
       numbered = normal-numbered c C w;
       same = λ N. read c C w ∙ normal-same c C w N;
@@ -240,10 +239,10 @@ reads-back c h w =
 
 -- keys that some clause has are those of the clause read off them
 pub path-readable : (p : List ℕ) → IsPath p ↔ Readable p
-path-readable p = (to, λ R. record { clause = clauseOf p; accepted = R .accepted; words = R .words; is = R .is })
+path-readable p = (to, λ R. record { clause = clauseOf p; good = R .good; is = R .is })
   where
     to : IsPath p → Readable p
     to I =
-        let B = reads-back (I .clause) (I .accepted) (I .words) in
+        let B = reads-back (I .clause) (I .good .accepted) (I .good .words) in
         let e : clauseOf p ≡ normal (I .clause) = ap clauseOf (sym (I .is)) ∙ B .read in
-        record { accepted = rw e (B .accepted); words = rw e (B .words); is = ap keys e ∙ B .same-keys ∙ I .is }
+        record { good = rw e (B .good); is = ap keys e ∙ B .same-keys ∙ I .is }

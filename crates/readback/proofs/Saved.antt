@@ -14,7 +14,7 @@ use Rattle.clause.specs.Word.{Words}
 use Rattle.clause.specs.Clause.{shape, Accepted}
 use Rattle.clause.specs.declared.Shape.{Shape}
 use Rattle.clause.specs.declared.Shape.the-variants.{Faulty, Whole}
-use Rattle.clause.proofs.Lists.{alike-same, alike-refl, all-head, all-tail, all-mem}
+use Rattle.clause.proofs.Lists.{alike-same, alike-refl, all-head, all-tail, all-mem, all-map, each-head, each-tail}
 use Rattle.clause.proofs.Literals.{accepted}
 use Rattle.machine.specs.Instr.{key}
 use Rattle.machine.specs.Compile.{Variants, keys}
@@ -34,16 +34,10 @@ use Rattle.tree.proofs.Delete.{find-none, find-some}
 use Rattle.tree.proofs.Mirror.{mirrors-build}
 use Rattle.tree.proofs.Laws.{tree-laws}
 use Rattle.readback.specs.Readback.{clauseOf}
-use Rattle.readback.specs.Laws.{IsPath, Readable}
-use Rattle.readback.specs.Saved.{IsTreeOf, IsSaved, narrow, isWhole, hasKeys, readable, allReadable, isNew, allDiffer, numbersOf, ofClauses}
+use Rattle.readback.specs.Laws.{Good, IsPath, Readable}
+use Rattle.readback.specs.Saved.{IsTreeOf, pairsOf, narrow, isWhole, hasKeys, readable, allReadable, isNew, allDiffer, numbersOf, ofClauses}
 use Rattle.readback.proofs.Listed.{all-listed, has-listed, listed-has, apart-paths, length-paths}
 use Rattle.readback.proofs.Normal.{path-readable}
-
-pub each-head : {A : Type 0} {R : A → A → Type 0} {x : A} {xs : List A} → Each R (x ∷ xs) → All (R x) xs
-each-head (besides h p) = h
-
-each-tail : {A : Type 0} {R : A → A → Type 0} {x : A} {xs : List A} → Each R (x ∷ xs) → Each R xs
-each-tail (besides h p) = p
 
 -- ---- the tests
 
@@ -70,12 +64,12 @@ readable-iff p = (to, from)
     to e =
         let (a, b) = and-eq-true-iff (narrow (clauseOf p)) _ .0 e in
         let (b, c) = and-eq-true-iff (isWhole (shape (clauseOf p))) _ .0 b in
-        record { accepted = whole-accepted (clauseOf p) b; words = narrow-words (clauseOf p) a; is = alike-same (keys (clauseOf p)) p c }
+        record { good = record { accepted = whole-accepted (clauseOf p) b; words = narrow-words (clauseOf p) a }; is = alike-same (keys (clauseOf p)) p c }
 
     from : Readable p → narrow (clauseOf p) && (isWhole (shape (clauseOf p)) && alike (keys (clauseOf p)) p) ≡ true
     from R =
         let a : alike (keys (clauseOf p)) p ≡ true = ap (λ l. alike l p) (R .is) ∙ alike-refl p in
-        rw (words-narrow (R .words), R .accepted .1) a
+        rw (words-narrow (R .good .words), R .good .accepted .1) a
 
 all-readable : (es : List Entry) → (allReadable es ≡ true) ↔ All (λ e. Readable (e .keys)) es
 all-readable es = (to es, from)
@@ -129,12 +123,16 @@ pub record Kept (K : List Pair) : Type 0 where
 pub kept-tail : {p : Pair} {K : List Pair} → Kept (p ∷ K) → Kept K
 kept-tail {p} {K} k = record { sound = all-tail (k .sound); numbers = each-tail (k .numbers); clauses = each-tail (k .clauses) }
 
-sound-path : (p : Pair) → Sound p → IsPath (keys (p .clause))
-sound-path p s = record { clause = p .clause; accepted = s .accepted; words = s .words; is = refl }
+-- the clause of a sound pair
+pub sound-good : (p : Pair) → Sound p → Good (p .clause)
+sound-good p s = record { accepted = s .accepted; words = s .words }
 
-same-sequence : (p q : Pair) → Sound p → Sound q → keys (p .clause) ≡ keys (q .clause) → Variants (p .clause) (q .clause)
-same-sequence p q s t e =
-    keys-same (sequence-plain (p .clause) (accepted (p .clause) (s .accepted)) (s .words)) (sequence-plain (q .clause) (accepted (q .clause) (t .accepted)) (t .words)) e
+sound-path : (p : Pair) → Sound p → IsPath (keys (p .clause))
+sound-path p s = record { clause = p .clause; good = sound-good p s; is = refl }
+
+-- clauses with the same keys are variants
+pub same-keys : (c d : List ℕ) → Good c → Good d → keys c ≡ keys d → Variants c d
+same-keys c d g h e = keys-same (sequence-plain c (accepted c (g .accepted)) (g .words)) (sequence-plain d (accepted d (h .accepted)) (h .words)) e
 
 pub apart-pairs : (K : List Pair) → Kept K → Apart (map entry K)
 apart-pairs [] k = tt
@@ -143,7 +141,10 @@ apart-pairs (p ∷ K) k =
     record {
       body = plain-body (sequence-plain (p .clause) (accepted (p .clause) (s .accepted)) (s .words));
       number = s .number;
-      new = λ m l. let (q, i, e, r) = kept-pair K (keys (p .clause)) m l in all-mem (each-head (k .clauses)) i (same-sequence p q s (all-mem (all-tail (k .sound)) i) e);
+      new =
+          λ m l.
+          let (q, i, e, r) = kept-pair K (keys (p .clause)) m l in
+          all-mem (each-head (k .clauses)) i (same-keys (p .clause) (q .clause) (sound-good p s) (sound-good q (all-mem (all-tail (k .sound)) i)) e);
       rest = apart-pairs K (kept-tail k);
     }
 
@@ -225,20 +226,16 @@ entries (also {x = e} h p) = ap₂ _∷_ (ap (λ (k : List ℕ). record { number
 sound-pairs : (es : List Entry) → Apart es → All (λ e. Readable (e .keys)) es → All Sound (map pairOf es)
 sound-pairs [] a r = all-none
 sound-pairs (e ∷ es) a (also h p) =
-    also {x = pairOf e} (record { accepted = h .accepted; words = h .words; number = a .number }) (sound-pairs es (a .rest) p)
-
-all-pairs : {P : Pair → Type 0} {es : List Entry} → All (λ e. P (pairOf e)) es → All P (map pairOf es)
-all-pairs all-none = all-none
-all-pairs (also h p) = also h (all-pairs p)
+    also {x = pairOf e} (record { accepted = h .good .accepted; words = h .good .words; number = a .number }) (sound-pairs es (a .rest) p)
 
 number-pairs : {es : List Entry} → Each Differ es → Each (λ p q. p .number ≢ q .number) (map pairOf es)
 number-pairs nobody = nobody
-number-pairs (besides {x = e} h p) = besides {x = pairOf e} (all-pairs h) (number-pairs p)
+number-pairs (besides {x = e} h p) = besides {x = pairOf e} (all-map pairOf h) (number-pairs p)
 
 -- paths with different keys are no variants
 clause-pairs : (es : List Entry) → Apart es → All (λ e. Readable (e .keys)) es → Each (λ p q. Variants (p .clause) (q .clause) → ⊥) (map pairOf es)
 clause-pairs [] a r = nobody
-clause-pairs (e ∷ es) a (also h p) = besides {x = pairOf e} (all-pairs (go es p (λ d l. l))) (clause-pairs es (a .rest) p)
+clause-pairs (e ∷ es) a (also h p) = besides {x = pairOf e} (all-map pairOf (go es p (λ d l. l))) (clause-pairs es (a .rest) p)
   where
     go : (ds : List Entry) → All (λ e. Readable (e .keys)) ds → ((d : Entry) → Listed ds (d .keys) (d .number) → Listed es (d .keys) (d .number))
         → All (λ d. Variants (clauseOf (e .keys)) (clauseOf (d .keys)) → ⊥) ds
@@ -271,7 +268,7 @@ module _ (s : List ℕ) (F : Forest) (S : Stands s F) (R : All (λ e. Readable (
         words = rw rebuilt (S .words);
       }
 
-pub is-tree : (s : List ℕ) → sized s ≡ true → wellLaid s ≡ true → ofClauses (decode s) ≡ true → IsSaved s
+pub is-tree : (s : List ℕ) → sized s ≡ true → wellLaid s ≡ true → ofClauses (decode s) ≡ true → IsTreeOf s (pairsOf (decode s))
 unfolding ofClauses
 is-tree s a laid c =
     let (low, high) = and-eq-true-iff (leb leastWords (length s)) (leb (length s) mostWords) .0 a in
@@ -282,7 +279,7 @@ is-tree s a laid c =
     let q : decode s ≡ F = slices .decoded F S in
     let R : All (λ e. Readable (e .keys)) (pathsOf F) = rw q at (all-readable (pathsOf (decode s)) .0 r) in
     let D : Each Differ (pathsOf F) = rw q at (all-differ (pathsOf (decode s)) .0 d) in
-    (map pairOf (pathsOf F), tree-of s F S R (leb-true leastWords (length s) low) top D)
+    rw q (tree-of s F S R (leb-true leastWords (length s) low) top D)
 
 -- ---- clauses in the tree
 

@@ -34,15 +34,15 @@ unread r W = record { answer = Unread r; output = W }
 abbrev pub over : (new words : List ℕ) → List ℕ
 over c W = c ++ drop (length c) W
 
--- the clause of a path, or 9 where there is none
-unfoldable pub given : (path : Option (List ℕ)) (output : List ℕ) → Given
-given none W = unread NoSuchNumber W
-given (some p) W = record { answer = Read (length (clauseOf p)); output = over (clauseOf p) W }
+-- the clause of a path written over the output, or 9 where there is none
+unfoldable pub writtenOut : (path : Option (List ℕ)) (output : List ℕ) → Given
+writtenOut none W = unread NoSuchNumber W
+writtenOut (some p) W = record { answer = Read (length (clauseOf p)); output = over (clauseOf p) W }
 
 -- reading the clause with a number back: 1, 15, 2, 14, 9
 unfoldable pub readBack : (slice : List ℕ) (number : ℕ) (output : List ℕ) → Given
 readBack T n W =
     cond (sized T)
     (cond (leb maxWords (length W))
-    (cond (wellLaid T) (cond (ofClauses (decode T)) (given (find n (decode T)) W) (unread NoSuchTree W)) (unread Broken W)) (unread ShortOutput W))
+    (cond (wellLaid T) (cond (ofClauses (decode T)) (writtenOut (find n (decode T)) W) (unread NoSuchTree W)) (unread Broken W)) (unread ShortOutput W))
     (unread BadSlice W)

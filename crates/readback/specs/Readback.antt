@@ -47,7 +47,7 @@ pub data Numbered : ℕ → List ℕ → Type 0 where
 
 -- ---- reading back
 
--- the instructions of keys
+-- the instructions of keys; a key that is no instruction's is passed over
 unfoldable pub instructions : List ℕ → List Instr
 instructions [] = []
 instructions (x ∷ p) = elim (instrOf x) [ none ↦ instructions p | some i ↦ i ∷ instructions p ]

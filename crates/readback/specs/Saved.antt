@@ -32,6 +32,10 @@ pub record IsTreeOf (s : List ℕ) (K : List Pair) : Type 0 where
 abbrev pub IsSaved : List ℕ → Type 0
 IsSaved s = (K : List Pair) × IsTreeOf s K
 
+-- the clauses read off the paths of a tree, under their numbers
+abbrev pub pairsOf : Forest → List Pair
+pairsOf F = map (λ e. record { number = e .number; clause = clauseOf (e .keys) }) (pathsOf F)
+
 -- ---- the test
 
 -- the words have 16 bits
@@ -48,7 +52,7 @@ isWhole (Whole n) = true
 unfoldable pub hasKeys : (words keys : List ℕ) → Bool
 hasKeys c p = narrow c && (isWhole (shape c) && alike (keys c) p)
 
--- keys that some clause has: the clause read off them is accepted and has them (ReadbackLaws' `paths`)
+-- keys that some clause has: the clause read off them is accepted and has them (ReadbackLaws' `tested`)
 unfoldable pub readable : List ℕ → Bool
 readable p = hasKeys (clauseOf p) p
 
@@ -71,6 +75,6 @@ allDiffer (n ∷ ns) = isNew n ns && allDiffer ns
 abbrev pub numbersOf : List Entry → List ℕ
 numbersOf es = map (λ e. e .number) es
 
--- the paths are clauses under different numbers (ReadbackLaws' `checks`)
+-- the paths are clauses under different numbers (ReadbackLaws' `tested-tree`)
 unfoldable pub ofClauses : Forest → Bool
 ofClauses F = allReadable (pathsOf F) && allDiffer (numbersOf (pathsOf F))

@@ -52,7 +52,7 @@ use Rattle.walk.proofs.Covering.{query-tree, answers, decided-fits, shows-subsu
 use Rattle.book.proofs.Holds.{Holds, holds-leaves, holds-enough}
 use Rattle.book.proofs.Exact.{holds-few, holds-exact}
 use Rattle.book.proofs.Step.{insertion-is}
-use Rattle.book.proofs.Laws.{same-keys}
+use Rattle.readback.proofs.Saved.{sound-good, same-keys}
 use Rattle.machine.proofs.Matching.{variants-subsume}
 
 -- the witness of every query is long enough
@@ -231,7 +231,9 @@ module _ (K : List Pair) (F : Forest) (h : Holds treeWords K F) (x : Record) (f 
   held-subsumed : (m : ℕ) → Has F (keys (x .words)) m → Subsumed K (x .words)
   held-subsumed m w =
       let (p, k, i, j) = kept-pair K (keys (x .words)) m (h .keeps .mirrors .paths (keys (x .words)) m .0 w) in
-      (p, k, variants-subsume (p .clause) (x .words) (all-mem (h .sound) k .accepted) (q, s) (sym (same-keys (x .words) (q, s) (f .0) p (all-mem (h .sound) k) i)))
+      let t = all-mem (h .sound) k in
+      let v = same-keys (x .words) (p .clause) (record { accepted = (q, s); words = f .0 }) (sound-good p t) i in
+      (p, k, variants-subsume (p .clause) (x .words) (t .accepted) (q, s) (sym v))
 
   -- the larger tree has as many words as there are beginnings
   larger-size : Free (keys (x .words)) F → size (ins (keys (x .words)) (x .number) F) ≡ wordsOf (pairOf x ∷ K)

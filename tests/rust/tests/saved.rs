@@ -7,8 +7,9 @@ use beside::ReadBack;
 use drawn::tally::Tally;
 use drawn::{Random, Style, STYLES};
 use model::book::Book;
+use model::by_hand::{self, chain, going_on, Example};
 use model::compiler::sequence;
-use model::instruction::{header, used, Instruction, Operation};
+use model::instruction::{used, Instruction, Operation};
 use model::laid::well_laid;
 use model::limits::{FULL_BUDGET, KEPT, OUTPUT_WORDS, TREE_MOST, WITNESS_WORDS};
 use model::notation::{clause, path, tree};
@@ -29,7 +30,7 @@ fn numbers(tree: &[u64]) -> Vec<u32> {
     successes.map(|word| (word >> 28) as u32).collect()
 }
 
-// Every so many-th clause of a book read back out of its tree: it comes as it was kept but for the names of its variables, and compiles to the same.
+// Reads every so many-th clause of a book back: it is as it was kept but for the names of its variables, and compiles to the same.
 fn read_book_back(tree: &[u64], book: &Book, every: usize, random: &mut Random, tally: &mut Tally) {
     for pair in book.pairs.iter().step_by(every) {
         let clause = renumbered(&pair.words);
@@ -266,7 +267,7 @@ fn small_tree(style: Style, random: &mut Random) -> Vec<u64> {
     tree
 }
 
-// In small trees each bit of each word changed, each two words exchanged, and each field (extent, operand or kept, used) one more and one less.
+// In small trees each bit changed, each two words exchanged, and each field one more and one less.
 #[test]
 fn each_word_changed() {
     let mut random = Random(53);
@@ -284,8 +285,8 @@ fn each_word_changed() {
             for bit in 0..64 {
                 call(&[(at, tree[at] ^ 1 << bit)]);
             }
-            for and in 0..at {
-                call(&[(at, tree[and]), (and, tree[at])]);
+            for other in 0..at {
+                call(&[(at, tree[other]), (other, tree[at])]);
             }
             for by in [1, 1 << 28, 1 << 32] {
                 call(&[(at, tree[at].wrapping_add(by))]);
@@ -353,44 +354,74 @@ fn numbers_a_bit_apart() {
     }
 }
 
-// A chain of instructions, one below the other, with a Success below the last and below each that is chosen, numbered by its place.
-fn chain(instructions: &[Instruction], ends: impl Fn(usize) -> bool) -> Vec<u64> {
-    let last = instructions.len() - 1;
-    let ended = instructions
-        .iter()
-        .enumerate()
-        .flat_map(|(i, instruction)| {
-            let success = Instruction::new(Operation::Success, i as u32);
-            let success = (ends(i) || i == last).then_some(success);
-            [*instruction].into_iter().chain(success)
-        });
-    let row: Vec<Instruction> = ended.collect();
-    let success = |instruction: &Instruction| instruction.operation == Operation::Success;
-    let kept = row.iter().filter(|it| success(it)).count();
-    let extent = |i: usize| if success(&row[i]) { 1 } else { row.len() - i };
-    let words = (0..row.len()).map(|i| row[i].pack(extent(i)));
-    [header(row.len(), kept)].into_iter().chain(words).collect()
+// Library and model answer each example as it says, and a slice that passes is made again.
+fn judge_examples(examples: Vec<Example>) {
+    let (mut random, mut tally) = (Random(56), Tally::default());
+    with_much_stack(move || {
+        for example in examples {
+            let Example { name, words, .. } = &example;
+            println!("{name}");
+            assert_eq!(beside::check(words), example.checked());
+            let expected = |out_words| match &example.back {
+                Ok(clause) => ReadBack::of(clause, out_words),
+                Err(refusal) => ReadBack::refused(*refusal, out_words),
+            };
+            let back = beside::read_back(words, example.number, OUTPUT_WORDS);
+            assert_eq!(back, expected(OUTPUT_WORDS));
+            for out_words in OUTPUTS {
+                beside::expect_read_back(words, example.number, &expected(out_words));
+            }
+            if example.checked().is_ok() {
+                make_again(words, &[], &mut random, &mut tally);
+            }
+        }
+    });
 }
 
-// So many instructions: these, then others over and over.
-fn going_on(first: &str, over: &str, count: usize) -> Path {
-    let (first, over) = (path(first), path(over));
-    let going_on = first.into_iter().chain(over.into_iter().cycle());
-    going_on.take(count).collect()
+// The model needs much stack for deep slices.
+fn with_much_stack(calls: impl FnOnce() + Send + 'static) {
+    let thread = std::thread::Builder::new().stack_size(512 << 20);
+    thread.spawn(calls).unwrap().join().unwrap();
+}
+
+#[test]
+fn paths_of_clauses() {
+    judge_examples(by_hand::of_clauses());
+}
+
+#[test]
+fn paths_of_no_clause() {
+    judge_examples(by_hand::of_none());
+}
+
+#[test]
+fn words_of_a_path() {
+    judge_examples(by_hand::of_many_words());
+}
+
+#[test]
+fn many_variables() {
+    judge_examples(by_hand::of_many_variables());
+}
+
+#[test]
+fn chains() {
+    judge_examples(by_hand::chains());
 }
 
 // Paths about as long as any clause's can be, and the longest of all: none is a clause's, alone, before a clause's path or after one.
 #[test]
 fn deep_paths() {
-    let calls = || {
+    with_much_stack(|| {
         let literal = "First, Check P1, Down, Put 0";
         let over = ["Compare 0.0", "Put 1", "Check f, Down", "First, Check P0"];
         for depth in [317, 318, 319, 320, 321, 322, 323, 400, 30_000, 65_534] {
             for over in over {
-                let tree = chain(&going_on(literal, over, depth), |_| false);
+                let mut path = going_on(literal, over, depth);
+                path.push(Instruction::new(Operation::Success, 9));
+                let tree = chain(&path);
                 assert_eq!(beside::check(&tree), Err(Refusal::NoSuchTree));
-                let number = depth as u32 - 1;
-                let back = beside::read_back(&tree, number, OUTPUT_WORDS);
+                let back = beside::read_back(&tree, 9, OUTPUT_WORDS);
                 assert_eq!(back.answer, Err(Refusal::NoSuchTree));
                 for other in ["P0", "Q1 x"] {
                     let mut two = tree.clone();
@@ -403,9 +434,7 @@ fn deep_paths() {
                 }
             }
         }
-    };
-    let thread = std::thread::Builder::new().stack_size(512 << 20);
-    thread.spawn(calls).unwrap().join().unwrap();
+    });
 }
 
 // Literals one below the other, each the end of a clause: eight are, nine or more are not.
@@ -419,12 +448,12 @@ fn clauses_below_clauses() {
         (1_024, Err(Refusal::NoSuchTree)),
         (1_025, Err(Refusal::Broken)),
     ] {
-        let path = going_on("First, Check P0", "First, Check P0", 2 * literals);
-        let tree = chain(&path, |i| i % 2 == 1);
+        let literal = |number| path(&format!("First, Check P0, Success {number}"));
+        let tree = chain(&(1..=literals).flat_map(literal).collect::<Path>());
         assert_eq!(beside::check(&tree), answer);
         let back = beside::read_back(&tree, 1, OUTPUT_WORDS);
         assert_eq!(back.answer, answer.map(|()| 1));
-        let back = beside::read_back(&tree, 15, OUTPUT_WORDS).answer;
+        let back = beside::read_back(&tree, 8, OUTPUT_WORDS).answer;
         assert_eq!(back.is_ok(), literals == 8);
     }
 }

@@ -10,10 +10,10 @@ use Rattle.decompiling.proofs.note_counts.Statement.{statement}
 use Rattle.decompiling.proofs.note_counts.Tie as tie
 
 abbrev Inv-loop : tie.InvT-loop
-Inv-loop origins counts₀ count₀ k₀ counts count k = (k ≤ 64) × (length counts ≡ 65) × Counted origins counts count k
+Inv-loop origins counts₀ firsts₀ k₀ counts firsts k = (k ≤ 64) × (length counts ≡ 65) × Counted origins counts firsts k
 
 abbrev μ-loop : tie.MeasureT-loop
-μ-loop origins counts₀ count₀ k₀ counts count k = 64 - k
+μ-loop origins counts₀ firsts₀ k₀ counts firsts k = 64 - k
 
 slice-write-counts : tie.Need-slice-write-counts Inv-loop μ-loop
 slice-write-counts c = search needs
@@ -27,10 +27,10 @@ mul-if1 c = search needs
 shared-slice-read-if1 : tie.Need-shared-slice-read-if1 Inv-loop μ-loop
 shared-slice-read-if1 c = search needs
 
-add-count : tie.Need-add-count Inv-loop μ-loop
-add-count c =
+add-firsts : tie.Need-add-firsts Inv-loop μ-loop
+add-firsts c =
     let l = c .before .before .before .loop in
-    omega (arith, counted-low _ (l .counts) (l .count) (l .k) (l .inv .2))
+    omega (arith, counted-low _ (l .counts) (l .firsts) (l .k) (l .inv .2))
 
 add-k : tie.Need-add-k Inv-loop μ-loop
 add-k c = search needs
@@ -49,10 +49,10 @@ loop-again c =
     let l = c .before .before .before .loop in
     let a = c .before .before .before .before .args in (
       omega arith,
-      length-set (l .counts) (l .k + 1) (c .if1 .count) ∙ l .inv .1,
+      length-set (l .counts) (l .k + 1) (c .if1 .firsts) ∙ l .inv .1,
       ⊎-elim
-          (λ w. rw (w .1) (counted-new (a .origins .now) (l .counts) (l .count) (l .k) (l .inv .2) (omega arith) (w .0 .taken)))
-          (λ w. rw (w .1) (counted-old (a .origins .now) (l .counts) (l .count) (l .k) (l .inv .2) (omega arith) (w .0 .left)))
+          (λ w. rw (w .1) (counted-new (a .origins .now) (l .counts) (l .firsts) (l .k) (l .inv .2) (omega arith) (w .0 .taken)))
+          (λ w. rw (w .1) (counted-old (a .origins .now) (l .counts) (l .firsts) (l .k) (l .inv .2) (omega arith) (w .0 .left)))
           (c .if1 .came),
     )
 
@@ -72,7 +72,7 @@ note-counts-spec =
     loop-holds
     mul-if1
     shared-slice-read-if1
-    add-count
+    add-firsts
     add-k
     mul-counts
     slice-write-counts-2

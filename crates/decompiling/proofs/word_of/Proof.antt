@@ -1,6 +1,7 @@
 -- `word_of` meets its contract: a key by its operation and its operand.
 use Prim.Native.Nat.{_%_, _^_}
 use lib.ListN.{getD}
+use Rattle.readback.specs.Readback.{variableWord}
 use Rattle.decompiling.proofs.Wording.{names-check, outside-check, outside-put, outside-origin, names-put, names-none, number-low}
 use borrow.Author.Needs.{needs}
 use native.Mathlib.Omega.{arith}
@@ -50,6 +51,7 @@ cast-word-2 c =
     omega (arith, number-low (s .args .origins .now) (s .args .counts .now) m (s .pre .2) (omega (arith, c .before .if5 .left)))
 
 returns-5 : tie.Need-returns-5
+unfolding variableWord
 returns-5 c =
     let f = c .before .before .before in
     let p = f .before in

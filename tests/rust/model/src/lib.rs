@@ -3,6 +3,7 @@
 //! A change of documents 01 and 02 is made here first.
 
 pub mod book;
+pub mod by_hand;
 pub mod calls;
 pub mod cases;
 pub mod compiler;

@@ -1,8 +1,9 @@
 //! Saved trees in the model: both sides of each limit, and the paths around those of all short clauses.
+use model::by_hand::{self, laid, Example};
 use model::calls::{check, fresh, insert, read_back};
 use model::compiler::sequence;
-use model::instruction::{header, Instruction, Operation};
-use model::limits::{CLAUSE_WORDS, KEPT, OUTPUT_WORDS, TREE_MOST};
+use model::instruction::{Instruction, Operation};
+use model::limits::{KEPT, OUTPUT_WORDS, TREE_MOST};
 use model::notation::{clause, path, tree};
 use model::reader::read;
 use model::refusal::Refusal;
@@ -10,19 +11,13 @@ use model::saved::{clause_of, renumbered};
 use model::tree::{Path, Tree};
 use model::words::{is_variable, word, FUNCTION, POSITIVE, VARIABLE};
 use std::collections::BTreeMap;
-use Operation::{Check, Compare, Down, First, Pop, Push, Put, Right, Success};
+use Operation::{Check, Compare, Down, First, Pop, Push, Put, Right};
 
 const NO_SUCH_TREE: Result<(), Refusal> = Err(Refusal::NoSuchTree);
 const BROKEN: Result<(), Refusal> = Err(Refusal::Broken);
 
 // What output words hold before a call.
 const UNWRITTEN: u16 = 0xBEEF;
-
-// A slice of paths, with three words to spare.
-fn laid(paths: &[&str]) -> Vec<u64> {
-    let paths: Vec<Path> = paths.iter().map(|text| path(text)).collect();
-    Tree::of_paths(&paths, 3).words()
-}
 
 // A slice with clauses kept under 1, 2, ..
 fn kept(length: usize, clauses: &[&[u16]]) -> Vec<u64> {
@@ -48,135 +43,43 @@ fn clause_back(words: &[u64], number: u32) -> Result<Vec<u16>, Refusal> {
     answer.map(|length| out[..length].to_vec())
 }
 
-// Paths down to a Success, each with the clause that it is of.
-const OF_CLAUSES: [(&str, &str); 13] = [
-    ("First, Check P0", "P0"),
-    ("First, Check C001", "C001"),
-    ("First, Check P1, Down, Put 0", "P1 x"),
-    ("First, Check P1, Down, Check a", "P1 a"),
-    ("First, Check P1, Down, Check f, Down, Put 0", "P1 f x"),
-    ("First, Check P2, Down, Put 0, Right, Put 1", "P2 x y"),
-    ("First, Check P2, Down, Put 0, Right, Put 1, Compare 0.1", "P2 x x"),
-    (
-        "First, Check P3, Down, Put 0, Right, Put 1, Right, Put 2, Compare 0.1, Compare 0.2",
-        "P3 x x x",
-    ),
-    (
-        "First, Check P4, Down, Put 0, Right, Put 1, Right, Put 2, Right, Put 3, Compare 0.3, Compare 1.2",
-        "P4 x y y x",
-    ),
-    (
-        "First, Check P2, Down, Check f, Push 0, Down, Put 0, Pop 0, Put 1",
-        "P2 f x y",
-    ),
-    (
-        "First, Check P1, Down, Put 0, First, Check Q1, Down, Put 1",
-        "P1 x Q1 y",
-    ),
-    (
-        "First, Check P1, Down, Put 0, First, Check Q1, Down, Put 1, Compare 0.1",
-        "P1 x Q1 x",
-    ),
-    (
-        "First, Check P2, Down, Check f, Push 0, Down, Put 0, Pop 0, Put 1, First, Check P2, Down, Check f, Push 1, Down, Put 2, Pop 1, Put 3, Compare 0.2, Compare 1.3",
-        "P2 f x y P2 f x y",
-    ),
-];
+// Each example is answered as it says; the model needs much stack for the deepest.
+fn judge_examples(examples: Vec<Example>) {
+    let calls = move || {
+        for example in examples {
+            let back = clause_back(&example.words, example.number);
+            assert_eq!(back, example.back, "{}", example.name);
+            let checked = check(&example.words);
+            assert_eq!(checked, example.checked(), "{}", example.name);
+        }
+    };
+    let thread = std::thread::Builder::new().stack_size(512 << 20);
+    thread.spawn(calls).unwrap().join().unwrap();
+}
 
 #[test]
 fn paths_of_clauses() {
-    for (text, expected) in OF_CLAUSES {
-        let words = laid(&[&format!("{text}, Success 7")]);
-        assert_eq!(check(&words), Ok(()), "{text}");
-        assert_eq!(clause_back(&words, 7), Ok(clause(expected)), "{text}");
-        assert_eq!(clause_back(&words, 8), Err(Refusal::NoSuchNumber));
-    }
+    judge_examples(by_hand::of_clauses());
 }
-
-// Paths down to a Success that are no clause's; most are one step from one.
-const OF_NONE: [&str; 62] = [
-    // words that are no clause's: no literal begun, no head, a head or a variable's word checked as an argument, operands over 16 bits
-    "First",
-    "Check P0",
-    "Put 0",
-    "First, First, Check P0",
-    "First, Check P0, First",
-    "First, Check P0, Check P0",
-    "First, Check a",
-    "First, Check x",
-    "First, Put 0",
-    "First, Put 0, Down, Put 1",
-    "First, Check 18001",
-    "First, Check FFFF8001",
-    "First, Check P1, Down, Check 10001",
-    "First, Check P1, Down, Check 14000",
-    "First, Check P1, Down, Check P0",
-    "First, Check P1, Down, Check x",
-    "First, Check P1, Down, Check 4800",
-    // arguments and ways
-    "First, Check P0, Down",
-    "First, Check P0, Right",
-    "First, Check P0, Down, Put 0",
-    "First, Check P0, Pop 0",
-    "First, Check P0, Push 0",
-    "First, Check P1",
-    "First, Check P1, Down",
-    "First, Check P1, Put 0",
-    "First, Check P1, Right, Put 0",
-    "First, Check P1, Down, Down, Put 0",
-    "First, Check P1, Down, Put 0, Right",
-    "First, Check P1, Down, Put 0, Right, Put 1",
-    "First, Down, Check P1, Put 0",
-    "First, Check P2, Down, Put 0",
-    "First, Check P2, Down, Put 0, Right",
-    "First, Check P2, Down, Put 0, Put 1",
-    "First, Check P2, Down, Put 0, Down, Put 1",
-    "First, Check P1, Down, First, Check P0",
-    // Put numbers
-    "First, Check P1, Down, Put 1",
-    "First, Check P1, Down, Put 64",
-    "First, Check P1, Down, Put 4294967295",
-    "First, Check P2, Down, Put 0, Right, Put 0",
-    "First, Check P2, Down, Put 1, Right, Put 0",
-    "First, Check P2, Down, Put 0, Right, Put 2",
-    "First, Check P1, Down, Put 0, First, Check Q1, Down, Put 0",
-    "First, Check P1, Down, Put 0, First, Check Q1, Down, Put 0, Compare 0.0",
-    // Compares: which, how often, in what order, where
-    "First, Check P0, Compare 0.0",
-    "First, Check P1, Down, Put 0, Compare 0.0",
-    "First, Check P2, Down, Put 0, Right, Put 1, Compare 1.0",
-    "First, Check P2, Down, Put 0, Right, Put 1, Compare 0.2",
-    "First, Check P2, Down, Put 0, Right, Put 1, Compare 0.65535",
-    "First, Check P2, Down, Put 0, Right, Put 1, Compare 0.1, Compare 0.1",
-    "First, Check P2, Down, Put 0, Compare 0.1, Right, Put 1",
-    "First, Check P3, Down, Put 0, Right, Put 1, Right, Put 2, Compare 0.1, Compare 1.2",
-    "First, Check P3, Down, Put 0, Right, Put 1, Right, Put 2, Compare 0.2, Compare 0.1",
-    "First, Check P3, Down, Put 0, Right, Put 1, Right, Put 2, Compare 0.2, Compare 1.2",
-    "First, Check P3, Down, Put 0, Right, Put 1, Right, Put 2, Compare 0.1, Compare 0.2, Compare 1.2",
-    "First, Check P4, Down, Put 0, Right, Put 1, Right, Put 2, Right, Put 3, Compare 1.2, Compare 0.3",
-    "First, Check P2, Down, Put 0, Right, Put 1, First, Check P0, Compare 0.1",
-    // Push and Pop: numbers, which term has one, used again
-    "First, Check P2, Down, Check f, Push 1, Down, Put 0, Pop 1, Put 1",
-    "First, Check P2, Down, Check f, Push 0, Down, Put 0, Pop 1, Put 1",
-    "First, Check P2, Down, Check f, Down, Put 0, Right, Put 1",
-    "First, Check P2, Down, Check f, Down, Push 0, Put 0, Pop 0, Put 1",
-    "First, Check P1, Down, Check f, Push 0, Down, Put 0",
-    "First, Check P2, Down, Check f, Push 0, Down, Put 0, Pop 0, Put 1, First, Check P2, Down, Check f, Push 0, Down, Put 2, Pop 0, Put 3",
-];
 
 #[test]
 fn paths_of_no_clause() {
-    for text in OF_NONE {
-        let path = format!("{text}, Success 7");
-        let words = laid(&[&path]);
-        assert_eq!(check(&words), NO_SUCH_TREE, "{text}");
-        assert_eq!(clause_back(&words, 7), Err(Refusal::NoSuchTree), "{text}");
-        assert_eq!(clause_back(&words, 8), Err(Refusal::NoSuchTree), "{text}");
-        // beside a clause's path, which cannot be read back either
-        let words = laid(&[&path, "First, Check Q0, Success 8"]);
-        assert_eq!(check(&words), NO_SUCH_TREE, "{text}");
-        assert_eq!(clause_back(&words, 8), Err(Refusal::NoSuchTree), "{text}");
-    }
+    judge_examples(by_hand::of_none());
+}
+
+#[test]
+fn words_of_a_path() {
+    judge_examples(by_hand::of_many_words());
+}
+
+#[test]
+fn many_variables() {
+    judge_examples(by_hand::of_many_variables());
+}
+
+#[test]
+fn chains() {
+    judge_examples(by_hand::chains());
 }
 
 #[test]
@@ -204,7 +107,7 @@ fn empty_trees() {
     }
 }
 
-// The tree of one clause of so many literals, each a head alone.
+// A slice of one path, of so many literals without arguments.
 fn literals(count: usize) -> Vec<u64> {
     laid(&[&format!("{}Success 1", "First, Check P0, ".repeat(count))])
 }
@@ -214,27 +117,6 @@ fn literals_of_a_path() {
     assert_eq!(clause_back(&literals(8), 1), Ok(clause("P0").repeat(8)));
     assert_eq!(check(&literals(9)), NO_SUCH_TREE);
     assert_eq!(check(&literals(64)), NO_SUCH_TREE);
-}
-
-// The tree of P(f(f(..))) with so many words.
-fn nested(count: usize) -> (Vec<u64>, Vec<u16>) {
-    let fs = count - 2;
-    let path = format!(
-        "First, Check P1, {}Down, Put 0, Success 1",
-        "Down, Check f, ".repeat(fs)
-    );
-    let clause = clause(&format!("P1 {} x", "f ".repeat(fs)));
-    (laid(&[&path]), clause)
-}
-
-#[test]
-fn words_of_a_path() {
-    let (words, clause) = nested(64);
-    assert_eq!(clause.len(), CLAUSE_WORDS);
-    assert_eq!(clause_back(&words, 1), Ok(clause));
-    assert_eq!(check(&nested(65).0), NO_SUCH_TREE);
-    let (words, clause) = nested(63);
-    assert_eq!(clause_back(&words, 1), Ok(clause));
 }
 
 #[test]
@@ -275,7 +157,7 @@ fn numbers() {
     assert_eq!(check(&laid(&below)), NO_SUCH_TREE);
 }
 
-// A slice of so many heads, each a clause.
+// A slice of so many paths, each of a head alone.
 fn heads(count: usize) -> Vec<u64> {
     let path = |i: usize| path(&format!("First, Check {:X}, Success {i}", 0x8000 + i));
     Tree::of_paths(&(0..count).map(path).collect::<Vec<_>>(), 0).words()
@@ -344,41 +226,6 @@ fn order_of_refusals() {
     }
 }
 
-// A chain of words down to a Success: a First, then a word for each number.
-fn chain(levels: usize, next: impl Fn(usize) -> Instruction) -> Vec<u64> {
-    let mut words = vec![header(levels, 1)];
-    words.push(Instruction::new(First, 0).pack(levels));
-    words.extend(
-        (2..levels)
-            .rev()
-            .map(|extent| next(levels - extent).pack(extent)),
-    );
-    words.push(Instruction::new(Success, 5).pack(1));
-    words
-}
-
-#[test]
-fn chains() {
-    let calls = || {
-        for levels in [3, 320, 321, 322, 323, 65_535] {
-            let puts = chain(levels, |i| Instruction::new(Put, i as u32 - 1));
-            assert_eq!(check(&puts), NO_SUCH_TREE);
-            let nested = chain(levels, |i| match i % 2 {
-                0 => Instruction::new(Down, 0),
-                _ => Instruction::new(Check, if i == 1 { 0x8801 } else { 0x0803 }),
-            });
-            assert_eq!(check(&nested), NO_SUCH_TREE);
-            assert_eq!(clause_back(&nested, 5), Err(Refusal::NoSuchTree));
-        }
-        assert_eq!(
-            check(&chain(65_536, |_| Instruction::new(Put, 0))),
-            Err(Refusal::BadSlice)
-        );
-    };
-    let thread = std::thread::Builder::new().stack_size(512 << 20);
-    thread.spawn(calls).unwrap().join().unwrap();
-}
-
 #[test]
 fn numbered_by_first_appearance() {
     for (given, expected) in [
@@ -392,22 +239,15 @@ fn numbered_by_first_appearance() {
     }
 }
 
-// Clauses of many variables, each of them named in many ways: eight literals of seven arguments, 64 words.
-#[test]
-fn many_puts() {
-    for names in 1..=56 {
-        let name = |i: usize| word(VARIABLE, 0, (i * i * 7 + i * 3 + 5) as u16 % names);
-        let mut clause = Vec::new();
-        for literal in 0..8 {
-            clause.push(word(POSITIVE, 7, literal as u16));
-            clause.extend((0..7).map(|i| name(7 * literal + i)));
-        }
-        let words = kept(400, &[&clause]);
-        assert_eq!(clause_back(&words, 1), Ok(renumbered(&clause)));
-    }
-}
+const WORDS: [u16; 5] = [
+    word(POSITIVE, 0, 1),
+    word(POSITIVE, 2, 1),
+    word(POSITIVE, 3, 1),
+    word(FUNCTION, 0, 1),
+    word(FUNCTION, 1, 3),
+];
 
-// All clauses of up to so many words over few symbols, up to the names of their variables, by their sequences.
+// By their sequences the clauses of up to so many of these words and variables; of variants one.
 fn all_clauses(most: usize) -> BTreeMap<Path, Vec<u16>> {
     let mut all = BTreeMap::new();
     let mut begun: Vec<Vec<u16>> = vec![vec![]];
@@ -432,15 +272,7 @@ fn all_clauses(most: usize) -> BTreeMap<Path, Vec<u16>> {
     all
 }
 
-const WORDS: [u16; 5] = [
-    word(POSITIVE, 0, 1),
-    word(POSITIVE, 2, 1),
-    word(POSITIVE, 3, 1),
-    word(FUNCTION, 0, 1),
-    word(FUNCTION, 1, 3),
-];
-
-// Instructions over these words.
+// Instructions with these words and small numbers.
 fn instructions() -> Vec<Instruction> {
     let with = |operation, operands: &[u32]| {
         let instruction = |&operand: &u32| Instruction::new(operation, operand);
@@ -462,18 +294,18 @@ fn instructions() -> Vec<Instruction> {
     .concat()
 }
 
-// A path is some clause's exactly if a clause of all the short ones has it; then that clause is found.
+// Whether a path is a clause's: the one found, or none, is that of all the short ones.
 fn judge(path: &[Instruction], all: &BTreeMap<Path, Vec<u16>>) -> bool {
     let found = clause_of(path).map(|clause| renumbered(&clause));
     assert_eq!(found.as_ref(), all.get(path), "{path:?}");
     found.is_some()
 }
 
-// Every path of a short clause, and every one that an edit makes of it: an instruction left out, exchanged with the next one, replaced by any, or any
-// put before it. No edit adds more than a word, so that the clause is among all of a word more.
+// The paths of short clauses, as they are and with an instruction left out, exchanged with the next one, replaced by any, or any put before it.
 #[test]
 fn around_all_short_clauses() {
     let (words, any) = (6, instructions());
+    // a change adds at most one word
     let all = all_clauses(words + 1);
     let (mut some, mut none) = (0, 0);
     let mut count = |path: &[Instruction]| match judge(path, &all) {
