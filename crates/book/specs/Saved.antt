@@ -15,7 +15,7 @@ use Rattle.book.specs.Book.{Call, insert, AllFit, after, sliceOf, bookFr
 use Rattle.book.specs.Claims.{Run, Both}
 use Rattle.readback.specs.declared.CheckAnswer.the-variants.{Passed}
 
--- every slice that calls make is the tree of the clauses that they keep
+-- every slice that calls make is the tree of the clauses that they keep, so that it passes (`PassedSaved`)
 abbrev pub ReachSaved : Type 0
 ReachSaved = (T : List ℕ) (xs : List Call) → Run T xs → IsTreeOf (sliceOf T xs) (bookOf (length T) xs)
 

@@ -88,8 +88,8 @@ const OF_CLAUSES: [(&str, &str); 13] = [
     ),
 ];
 
-/// Paths of clauses.
-pub fn of_clauses() -> Vec<Example> {
+// Paths of clauses.
+fn of_clauses() -> Vec<Example> {
     let examples = OF_CLAUSES.iter().flat_map(|(text, expected)| {
         let words = laid(&[&format!("{text}, Success 7")]);
         [
@@ -180,8 +180,8 @@ fn refused(name: &str, text: &str) -> [Example; 3] {
         .map(|(words, number)| example(name, words, number, Err(Refusal::NoSuchTree)))
 }
 
-/// Paths of no clause.
-pub fn of_none() -> Vec<Example> {
+// Paths of no clause.
+fn of_none() -> Vec<Example> {
     let examples = OF_NONE.iter().flat_map(|text| refused(text, text));
     examples.collect()
 }
@@ -254,8 +254,8 @@ fn pushed(words: usize) -> Written {
     (path, [clause(head), functions, variables].concat())
 }
 
-/// Clauses of 63 and 64 words, alone and together, each with its count as number; and paths that would be of one of 65.
-pub fn of_many_words() -> Vec<Example> {
+// Clauses of 63 and 64 words, alone and together, each with its count as number; and paths that would be of one of 65.
+fn of_many_words() -> Vec<Example> {
     let shapes: [(&str, fn(usize) -> Written); 5] = [
         ("nested", |words| nested(words, 0)),
         ("closed", closed),
@@ -281,8 +281,8 @@ pub fn of_many_words() -> Vec<Example> {
     examples
 }
 
-/// Clauses of many variables, named in many ways: eight literals of seven arguments, 64 words.
-pub fn of_many_variables() -> Vec<Example> {
+// Clauses of many variables, named in many ways: eight literals of seven arguments, 64 words.
+fn of_many_variables() -> Vec<Example> {
     let examples = (1..=56).map(|names| {
         let named = |i: usize| variable((i * i * 7 + i * 3 + 5) % names);
         let mut clause = Vec::new();
@@ -305,8 +305,8 @@ pub fn going_on(first: &str, over: &str, count: usize) -> Path {
     going_on.take(count).collect()
 }
 
-/// Chains of Puts and of functions, of a few words up to one too many for a slice: none is a clause's.
-pub fn chains() -> Vec<Example> {
+// Chains of Puts and of functions, of a few words up to one too many for a slice: none is a clause's.
+fn chains() -> Vec<Example> {
     let mut examples = Vec::new();
     for used in [3, 320, 321, 322, 323, TREE_MOST - 1, TREE_MOST] {
         let refusal = match used < TREE_MOST {
@@ -323,4 +323,16 @@ pub fn chains() -> Vec<Example> {
         }
     }
     examples
+}
+
+/// All of them.
+pub fn examples() -> Vec<Example> {
+    let all = [
+        of_clauses(),
+        of_none(),
+        of_many_words(),
+        of_many_variables(),
+        chains(),
+    ];
+    all.into_iter().flatten().collect()
 }
