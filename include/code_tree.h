@@ -4,8 +4,8 @@
  * Link libcodetree.a (made by `rt staticlib codetree`, for x86-64). Each function is proved, for all words,
  * lengths and numbers, to return the number and to leave the words that its definition says
  * (crates/interface/specs/Calls.antt), to read and write nothing but the slices that it is handed, and to end.
- * What queries, checks and clauses read back say after any list of calls, and that with three told words or more
- * no two answers of a function are told the same, is proved of those definitions
+ * What queries, checks, clauses read back and listings say after any list of calls, and that with three told
+ * words or more no two answers of a function are told the same, is proved of those definitions
  * (crates/interface/specs/Claims.antt).
  *
  * A slice is a pointer and the number of its elements. The pointer must be aligned and valid for all of them;
@@ -14,23 +14,25 @@
  *
  * Stack: a query of a tree made by these calls takes less than 72 KiB: a path has at most 321 instructions
  * (proved), so at most 320 calls nest, of 224 bytes each (measured), and the query itself takes 0.6 KiB. Tree
- * words from elsewhere nest up to 32,772 calls: 7,176 KiB. ct_check and ct_read_back take less than 20 KiB, the
- * other functions less than 8 KiB (measured).
+ * words from elsewhere nest up to 32,772 calls: 7,176 KiB. ct_backward takes less than 300 KiB, ct_check and
+ * ct_read_back less than 20 KiB, the other functions less than 8 KiB (measured).
  *
  * Each function returns 0, or the code of the first refusal that applies; a refusal changes no word of a tree,
- * a witness or an output. `told` gets the values of an answer, also of a refusal, in its first words, as far as
- * its t words reach; three words hold every answer. Words for which there is no value stay as they were.
+ * a witness, an output or a list. `told` gets the values of an answer, also of a refusal, in its first words, as
+ * far as its t words reach; three words hold every answer. Words for which there is no value stay as they were.
  *
  *   code                    told       refused by
  *    1  bad slice                      all but ceiling: n not 2 to 65,536
- *    2  broken                         insert, remove, read back, check: the tree's words are not well laid
- *                                      (docs/REFERENCE.md)
+ *    2  broken                         insert, remove, read back, check, backward: the tree's words are not well
+ *                                      laid (docs/REFERENCE.md)
  *                                      query: the header has more than n - 1 words used, or the walk meets a
  *                                      word with an operation over 8 or a wrong extent, or a step that it
  *                                      can't take; it does not look at words that it does not meet
- *    3  bad length                     insert, query: m not 1 to 64
- *    4  bad clause          position   insert, query: the first word, or the end, that breaks the clause rules
- *    5  ninth literal       position   insert, query: a ninth head where a literal begins, met before any 4
+ *    3  bad length                     insert, query, backward: m not 1 to 64
+ *    4  bad clause          position   insert, query, backward: the first word, or the end, that breaks the
+ *                                      clause rules
+ *    5  ninth literal       position   insert, query, backward: a ninth head where a literal begins, met before
+ *                                      any 4
  *    6  short witness                  query: k under 72
  *    7  number taken                   insert
  *    8  held                number     insert: a variant is kept, under this number
@@ -38,10 +40,12 @@
  *   10  list full                      insert: 1,024 clauses are kept
  *   11  no room                        insert: the tree would need more than n - 1 instruction words
  *   12  spent               count      query: the walk would take one candidate more than the budget
+ *                                      backward: the queries would, all together
  *   13  bad size                       ceiling: kept over 1,024, or q or m not 1 to 8
- *   14  no such tree                   read back, check: well laid, but not the tree of some clauses, or of none,
- *                                      under different numbers
+ *   14  no such tree                   read back, check, backward: well laid, but not the tree of some clauses,
+ *                                      or of none, under different numbers
  *   15  short output                   read back: k under 64
+ *   16  short list                     backward: one more number is found than the l words of the list hold
  */
 #ifndef CODE_TREE_H
 #define CODE_TREE_H
@@ -78,7 +82,8 @@ enum {
     CT_SPENT = 12,
     CT_BAD_SIZE = 13,
     CT_NO_SUCH_TREE = 14,
-    CT_SHORT_OUTPUT = 15
+    CT_SHORT_OUTPUT = 15,
+    CT_SHORT_LIST = 16
 };
 
 /*
@@ -152,6 +157,21 @@ uint64_t ct_check(const uint64_t *tree, size_t n);
  */
 uint64_t ct_read_back(const uint64_t *tree, size_t n, uint32_t number, uint16_t *out, size_t k,
                       uint64_t *told, size_t t);
+
+/*
+ * Lists the numbers of all clauses kept in a tree of n words that a clause of m words subsumes (a variant of it
+ * among them), each once, rising, into list (l words, or none): by rising number each kept clause is queried in a
+ * tree of the given one alone, as by ct_query, with at most `budget` candidates for all queries together.
+ * Returns 0, or 1, 2, 3, 4, 5, 12, 14 or 16 (asked for in the order 1, 3 to 5, 2, 14, so that the whole tree is
+ * checked first, as by ct_check; then 12 or 16 as the queries meet them, 16 where a number is found that the list
+ * has no word left for, before the next candidate).
+ * told: with 0, two values: how many numbers; the count of candidates tried in all. The position for 4 and 5, the
+ * count for 12; else nothing.
+ * list, only with 0: the numbers in its first words. Its other words stay as they were.
+ * A list of CT_KEPT_CLAUSES words is never too short, and a budget of 112,230,400 is always enough.
+ */
+uint64_t ct_backward(const uint64_t *tree, size_t n, const uint16_t *clause, size_t m, uint64_t budget,
+                     uint32_t *list, size_t l, uint64_t *told, size_t t);
 
 #ifdef __cplusplus
 }

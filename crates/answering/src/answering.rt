@@ -1,58 +1,68 @@
 // What becomes of one record.
 use crate::Budget;
-use compiling::compile;
-use insertion::insert_new;
+use crate::striking::keep;
+use crate::striking::strike_back;
 use machine::Sequence;
 use query::query;
+use record::Came;
 use record::Outcome;
-use tree::CallAnswer;
-use tree::Refusal;
-use tree::Tree;
+use record::Setting;
 use walk::QueryAnswer;
 use walk::Witness;
-ghost use Prim.Native.Nat.{_≤_};
+ghost use mathlib.Core.Path.{_≡_};
 ghost use lib.ListN.{length};
 ghost use Rattle.clause.specs.Clause.{Accepted};
-ghost use Rattle.machine.specs.Compiled.{maxKeys};
-ghost use Rattle.tree.specs.Calls.{insertion};
-ghost use Rattle.record.specs.Answer.{inserted, answerTo};
+ghost use Rattle.record.specs.Answer.{listWords, goesIn, answerTo};
 ghost use Rattle.answering.specs.inner.Steady.{Steady, CameOut};
 
-// Inserts a record that is not covered. The caller holds the slice well laid, with the marks of its numbers, and the clause is accepted.
-fn keep(tree: &mut [u64], marks: &mut [u8], keys: &mut [u64], words: &[u16], number: u16) -> Outcome
-    requires { ⌜ Steady (now tree) (now marks) × Accepted (now words) × (maxKeys ≤ length (now keys)) ⌝ }
-    ensures { λ r. ⌜ CameOut (inserted (insertion (now (tree .entry)) (now (words .entry)) number)) number (now (marks .entry)) r
-        (now (tree .exit)) (now (marks .exit)) ⌝ }
-{
-    let mark = number as usize;
-    if marks[mark] > 0 {
-        return Outcome::Refused(Refusal::NumberTaken.code());
-    }
-    let count = compile(words, keys);
-    let answer = insert_new(tree, &keys[..count], number as u32);
-    let CallAnswer::Refused(refusal) = answer else {
-        marks[mark] = 1;
-        return Outcome::Kept(Tree::used(tree[0]) as u64);
-    };
-    Outcome::Refused(refusal.code())
-}
-
-// Queries a record, and inserts it where it is not covered. The caller holds the slice well laid, with the marks of its numbers.
-pub fn answer(
+// Takes a record in that is not covered, by the setting.
+fn go_in(
+    setting: Setting,
     tree: &mut [u64],
     marks: &mut [u8],
     keys: &mut [u64; Sequence::KEYS],
+    list: &mut [u32],
     words: &[u16],
     number: u16,
-) -> Outcome
-    requires { ⌜ Steady (now tree) (now marks) ⌝ }
-    ensures { λ r. ⌜ CameOut (answerTo (now (tree .entry)) (record { number = number; words = now (words .entry) })) number (now (marks .entry)) r
-        (now (tree .exit)) (now (marks .exit)) ⌝ }
+) -> Came
+    requires { ⌜ Steady (now tree) (now marks) × Accepted (now words) × (length (now list) ≡ listWords) ⌝ }
+    ensures { λ r. ⌜ CameOut (goesIn setting (now (tree .entry)) (record { number = number; words = now (words .entry) })) number (now (marks .entry)) r
+        (now (list .exit)) (now (tree .exit)) (now (marks .exit)) ⌝ }
+{
+    match setting {
+        Setting::Plain => Came {
+            outcome: keep(tree, marks, keys, words, number),
+            removed: 0,
+        },
+        Setting::Back => strike_back(tree, marks, keys, list, words, number),
+    }
+}
+
+// Queries a record, and takes it in where it is not covered. The numbers that it takes out stand at the beginning of the list.
+// The caller's slice is the tree of some clauses, with the marks of its numbers.
+pub fn answer(
+    setting: Setting,
+    tree: &mut [u64],
+    marks: &mut [u8],
+    keys: &mut [u64; Sequence::KEYS],
+    list: &mut [u32],
+    words: &[u16],
+    number: u16,
+) -> Came
+    requires { ⌜ Steady (now tree) (now marks) × (length (now list) ≡ listWords) ⌝ }
+    ensures { λ r. ⌜ CameOut (answerTo setting (now (tree .entry)) (record { number = number; words = now (words .entry) })) number (now (marks .entry)) r
+        (now (list .exit)) (now (tree .exit)) (now (marks .exit)) ⌝ }
 {
     let mut witness = [0u16; Witness::WORDS];
     match query(tree, words, Budget::CANDIDATES, &mut witness) {
-        QueryAnswer::Unanswered(refusal) => Outcome::Refused(refusal.code()),
-        QueryAnswer::Covered(covering, candidates) => Outcome::Struck(covering, candidates),
-        QueryAnswer::NotCovered(_) => keep(tree, marks, keys, words, number),
+        QueryAnswer::Unanswered(refusal) => Came {
+            outcome: Outcome::Refused(refusal.code()),
+            removed: 0,
+        },
+        QueryAnswer::Covered(covering, candidates) => Came {
+            outcome: Outcome::Struck(covering, candidates),
+            removed: 0,
+        },
+        QueryAnswer::NotCovered(_) => go_in(setting, tree, marks, keys, list, words, number),
     }
 }

@@ -1,9 +1,10 @@
-// What becomes of one record: it is asked, and inserted where it is not covered (docs/REFERENCE.md, "The program").
+// What becomes of one record: it is asked, and goes in where it is not covered (docs/REFERENCE.md, "The program").
 mod answering;
+mod striking;
 
 pub use answering::answer;
 
-// What a query may spend.
+// What a query may spend, and a listing.
 struct Budget {}
 
 impl Budget {

@@ -5,6 +5,7 @@ use Rattle.machine.proofs.Matching.{matching, variants-subsume}
 use Rattle.tree.proofs.Laws.{tree-laws}
 use Rattle.readback.proofs.Laws.{readback-laws}
 use Rattle.walk.proofs.Laws.{walk-laws, full-budget, enough-budget}
+use Rattle.backward.proofs.Laws.{backward-laws}
 use Rattle.book.specs.Believable.{Believable}
 use Rattle.book.proofs.Laws.{book-laws}
 use Rattle.book.proofs.Trials.{trials-hold, readings-hold}
@@ -21,6 +22,7 @@ believable =
       trees = tree-laws;
       readback = readback-laws;
       walks = walk-laws;
+      backward = backward-laws;
       budget = full-budget;
       enough = enough-budget;
       books = book-laws;

@@ -11,7 +11,7 @@ use Rattle.machine.specs.Instr.{key}
 use Rattle.machine.specs.Compile.{Variants, keys}
 use Rattle.tree.specs.Changes.{numbered, varied}
 use Rattle.tree.specs.Refusal.{codeOf, valuesOf}
-use Rattle.book.specs.Table.{Title, ready, kept, removed, is-covered, is-not-covered, returned, passed, read, code, saidCall, saidQuery, saidCeiling, saidCheck, saidRead}
+use Rattle.book.specs.Table.{Title, ready, kept, removed, is-covered, is-not-covered, returned, passed, read, listed, code, saidCall, saidQuery, saidCeiling, saidCheck, saidRead, saidBack}
 use Rattle.book.specs.Laws.{BookLaws}
 use Rattle.clause.proofs.Lists.{all-mem}
 use Rattle.clause.proofs.Literals.{accepted}
@@ -23,7 +23,7 @@ use Rattle.clause.specs.declared.Fault.the-variants.{BadLength, Bad, Ninth}
 use Rattle.tree.specs.Entries.{Pair, Sound, entry}
 use Rattle.clause.specs.Word.{Words}
 use Rattle.tree.specs.declared.Refusal.{Refusal}
-use Rattle.tree.specs.declared.Refusal.the-variants.{BadSlice, Broken, ShortWitness, NumberTaken, NoSuchNumber, ListFull, NoRoom, BadSize, BadClause, Held, Spent, NoSuchTree, ShortOutput}
+use Rattle.tree.specs.declared.Refusal.the-variants.{BadSlice, Broken, ShortWitness, NumberTaken, NoSuchNumber, ListFull, NoRoom, BadSize, BadClause, Held, Spent, NoSuchTree, ShortOutput, ShortList}
 use Rattle.walk.specs.declared.CeilingAnswer.{CeilingAnswer}
 use Rattle.walk.specs.declared.CeilingAnswer.the-variants.{NoCeiling, Ceiling}
 use Rattle.walk.specs.declared.QueryAnswer.{QueryAnswer}
@@ -34,6 +34,8 @@ use Rattle.readback.specs.declared.CheckAnswer.{CheckAnswer}
 use Rattle.readback.specs.declared.CheckAnswer.the-variants.{Failed, Passed}
 use Rattle.readback.specs.declared.ReadAnswer.{ReadAnswer}
 use Rattle.readback.specs.declared.ReadAnswer.the-variants.{Unread, Read}
+use Rattle.backward.specs.declared.BackAnswer.{BackAnswer}
+use Rattle.backward.specs.declared.BackAnswer.the-variants.{Unlisted, Listed}
 
 number : (n : ℕ) (K : List Pair) → (numbered n (map entry K) ≡ true) ↔ ((p : Pair) × List·Memᴰ p K × (p .number ≡ n))
 number n K = (
@@ -58,7 +60,7 @@ refusalOf c vs =
     let v : ℕ = getD vs 0 0 in
     getD (
     BadSize ∷ BadSlice ∷ Broken ∷ BadClause BadLength ∷ BadClause (Bad v) ∷ BadClause (Ninth v) ∷ ShortWitness ∷ NumberTaken ∷ Held v ∷ NoSuchNumber
-    ∷ ListFull ∷ NoRoom ∷ Spent v ∷ BadSize ∷ NoSuchTree ∷ ShortOutput ∷ []
+    ∷ ListFull ∷ NoRoom ∷ Spent v ∷ BadSize ∷ NoSuchTree ∷ ShortOutput ∷ ShortList ∷ []
     ) c BadSize
 
 refusal-back : (r : Refusal) → refusalOf (codeOf r) (valuesOf r) ≡ r
@@ -78,6 +80,7 @@ refusal-back (Spent c) = refl
 refusal-back BadSize = refl
 refusal-back NoSuchTree = refl
 refusal-back ShortOutput = refl
+refusal-back ShortList = refl
 
 callAs : Title → List ℕ → CallAnswer
 callAs ready vs = Ready
@@ -88,6 +91,7 @@ callAs is-not-covered vs = Ready
 callAs returned vs = Ready
 callAs passed vs = Ready
 callAs read vs = Ready
+callAs listed vs = Ready
 callAs (code n) vs = Refused (refusalOf n vs)
 
 call-back : (a : CallAnswer) → callAs (saidCall a .title) (saidCall a .values) ≡ a
@@ -106,6 +110,7 @@ queryAs is-not-covered vs = NotCovered (getD vs 0 0)
 queryAs returned vs = NotCovered 0
 queryAs passed vs = NotCovered 0
 queryAs read vs = NotCovered 0
+queryAs listed vs = NotCovered 0
 queryAs (code n) vs = Unanswered (refusalOf n vs)
 
 query-back : (a : QueryAnswer) → queryAs (saidQuery a .title) (saidQuery a .values) ≡ a
@@ -123,6 +128,7 @@ ceilingAs is-not-covered vs = Ceiling 0
 ceilingAs returned vs = Ceiling (getD vs 0 0)
 ceilingAs passed vs = Ceiling 0
 ceilingAs read vs = Ceiling 0
+ceilingAs listed vs = Ceiling 0
 ceilingAs (code n) vs = NoCeiling (refusalOf n vs)
 
 ceiling-back : (a : CeilingAnswer) → ceilingAs (saidCeiling a .title) (saidCeiling a .values) ≡ a
@@ -139,6 +145,7 @@ checkAs is-not-covered vs = Passed
 checkAs returned vs = Passed
 checkAs passed vs = Passed
 checkAs read vs = Passed
+checkAs listed vs = Passed
 checkAs (code n) vs = Failed (refusalOf n vs)
 
 check-back : (a : CheckAnswer) → checkAs (saidCheck a .title) (saidCheck a .values) ≡ a
@@ -155,12 +162,30 @@ readAs is-not-covered vs = Read 0
 readAs returned vs = Read 0
 readAs passed vs = Read 0
 readAs read vs = Read (getD vs 0 0)
+readAs listed vs = Read 0
 readAs (code n) vs = Unread (refusalOf n vs)
 
 read-back : (a : ReadAnswer) → readAs (saidRead a .title) (saidRead a .values) ≡ a
 unfolding readAs
 read-back (Unread r) = ap Unread (refusal-back r)
 read-back (Read n) = refl
+
+backAs : Title → List ℕ → BackAnswer
+backAs ready vs = Listed 0 0
+backAs kept vs = Listed 0 0
+backAs removed vs = Listed 0 0
+backAs is-covered vs = Listed 0 0
+backAs is-not-covered vs = Listed 0 0
+backAs returned vs = Listed 0 0
+backAs passed vs = Listed 0 0
+backAs read vs = Listed 0 0
+backAs listed vs = Listed (getD vs 0 0) (getD vs 1 0)
+backAs (code n) vs = Unlisted (refusalOf n vs)
+
+back-back : (a : BackAnswer) → backAs (saidBack a .title) (saidBack a .values) ≡ a
+unfolding backAs
+back-back (Unlisted r) = ap Unlisted (refusal-back r)
+back-back (Listed n k) = refl
 
 pub book-laws : BookLaws
 book-laws =
@@ -170,6 +195,7 @@ book-laws =
       ceiling = λ a b e. sym (ceiling-back a) ∙ ap (λ s. ceilingAs (s .title) (s .values)) e ∙ ceiling-back b;
       check = λ a b e. sym (check-back a) ∙ ap (λ s. checkAs (s .title) (s .values)) e ∙ check-back b;
       read = λ a b e. sym (read-back a) ∙ ap (λ s. readAs (s .title) (s .values)) e ∙ read-back b;
+      back = λ a b e. sym (back-back a) ∙ ap (λ s. backAs (s .title) (s .values)) e ∙ back-back b;
       number = number;
       variant = variant;
       counted = counted;

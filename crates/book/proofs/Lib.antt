@@ -4,6 +4,7 @@ pub mod Step
 pub mod Reach
 pub mod Agreement
 pub mod Saved
+pub mod Backward
 pub mod Exact
 pub mod Trials
 mod Beginnings

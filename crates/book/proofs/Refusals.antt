@@ -18,10 +18,13 @@ use Rattle.walk.specs.Ceiling.{ceiling, ceilingCall}
 use Rattle.walk.specs.Query.{witnessWords, walkSlice, query}
 use Rattle.tree.specs.Calls.{fresh, insertion, removal}
 use Rattle.readback.specs.Readback.{clauseAt}
-use Rattle.readback.specs.Saved.{ofClauses}
+use Rattle.readback.specs.Saved.{ofClauses, pairsOf}
 use Rattle.readback.specs.Calls.{check, writtenOut, readBack}
-use Rattle.book.specs.Table.{ready, kept, removed, returned, passed, saidCeiling, saidCheck, called, asked, givenBack}
-use Rattle.book.specs.Refusals.{firstOf, freshRows, ceilingRows, insertRows, removeRows, queryRows, checkRows, readRows, finished, unlessRefused, unlessSaid, walkResult, readResult}
+use Rattle.backward.specs.Listing.{Listing, rising, listFrom}
+use Rattle.backward.specs.Listing as listing
+use Rattle.backward.specs.Calls.{listedIn, listInto, backward}
+use Rattle.book.specs.Table.{ready, kept, removed, returned, passed, saidCeiling, saidCheck, called, asked, givenBack, backed}
+use Rattle.book.specs.Refusals.{firstOf, freshRows, ceilingRows, insertRows, removeRows, queryRows, checkRows, readRows, backRows, finished, unlessRefused, unlessSaid, walkResult, readResult, listResult}
 use Rattle.book.specs.Claims.{Demand1}
 use Rattle.clause.specs.declared.Fault.the-variants.{BadLength, Bad, Ninth}
 use Rattle.clause.specs.declared.Shape.{Shape}
@@ -124,6 +127,21 @@ reads T n W true true true false o es el ew ec eo = rw (es, short-test (length W
 reads T n W true true true true none es el ew ec eo = rw (es, short-test (length W) maxWords, el, ew, ec, eo)
 reads T n W true true true true (some p) es el ew ec eo = rw (es, short-test (length W) maxWords, el, ew, ec, eo)
 
+lists : (T c : List ℕ) (b : ℕ) (L : List ℕ) (s w o : Bool) (h : Shape) (l : Listing)
+    → sized T ≡ s → wellLaid T ≡ w → ofClauses (decode T) ≡ o → shape c ≡ h → listFrom c b (rising (pairsOf (decode T))) (length L) 0 ≡ l
+    → backed (backward T c b L) ≡ unlessRefused (firstOf (backRows T c)) L (listResult b L (listFrom c b (rising (pairsOf (decode T))) (length L) 0))
+unfolding listedIn listInto backward
+lists T c b L false w o h l es ew eo eh el = rw es
+lists T c b L true w o (Faulty BadLength) l es ew eo eh el = rw (es, eh)
+lists T c b L true w o (Faulty (Bad at)) l es ew eo eh el = rw (es, eh)
+lists T c b L true w o (Faulty (Ninth at)) l es ew eo eh el = rw (es, eh)
+lists T c b L true false o (Whole q) l es ew eo eh el = rw (es, eh, ew)
+lists T c b L true true false (Whole q) l es ew eo eh el = rw (es, eh, ew, eo)
+lists T c b L true true true (Whole q) (listing.listed ns k) es ew eo eh el = rw (es, eh, ew, eo, el)
+lists T c b L true true true (Whole q) listing.overfull es ew eo eh el = rw (es, eh, ew, eo, el)
+lists T c b L true true true (Whole q) listing.spent es ew eo eh el = rw (es, eh, ew, eo, el)
+lists T c b L true true true (Whole q) listing.broken es ew eo eh el = rw (es, eh, ew, eo, el)
+
 -- Demand 1
 pub demand1 : Demand1
 demand1 =
@@ -141,4 +159,8 @@ demand1 =
       checking = λ T. checks T (sized T) (wellLaid T) (ofClauses (decode T)) refl refl refl;
       reading-back =
           λ T n W. reads T n W (sized T) (leb maxWords (length W)) (wellLaid T) (ofClauses (decode T)) (find n (decode T)) refl refl refl refl refl;
+      listing =
+          λ T c b L.
+          lists T c b L (sized T) (wellLaid T) (ofClauses (decode T)) (shape c) (listFrom c b (rising (pairsOf (decode T))) (length L) 0)
+          refl refl refl refl refl;
     }

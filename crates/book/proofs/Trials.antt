@@ -17,6 +17,8 @@ use Rattle.tree.specs.Calls.{fresh, insertion, removal}
 use Rattle.readback.specs.Readback.{variableWord, newBelow, instructions, comparedBy, origin, wordOf, wordsOf, readOff, clauseOf}
 use Rattle.readback.specs.Saved.{hasKeys, readable, ofClauses}
 use Rattle.readback.specs.Calls.{check, writtenOut, readBack}
+use Rattle.backward.specs.Listing.{placed, risenOver, rising, lone, tried, listFrom}
+use Rattle.backward.specs.Calls.{listedIn, listInto, backward}
 use Rattle.book.specs.Trials.{trials}
 use Rattle.book.specs.Readings.{readings}
 use Rattle.clause.specs.Positions.{jump, pushDue, siblings}
@@ -39,7 +41,7 @@ unfolding flatMap kind arity sortBy sort scanWord scan shape before literals ski
     repeats compares opening begun closing act putsAfter sequenceFrom sequence jump pushDue siblings onto down right unfilled given require sameTerms compareTerms
     stepAt stepFrom step used enter finishFrom finish lawful layout ins find holder region wellLaid decode insertInto extends shown query fresh
     insertion del removeFrom removal variableWord newBelow instructions comparedBy origin wordOf wordsOf readOff clauseOf hasKeys readable ofClauses
-    check writtenOut readBack
+    check writtenOut readBack placed risenOver rising lone tried listFrom listedIn listInto backward
 readings-hold =
     hold (also refl (also refl (also refl (also refl (also refl (also refl (also refl (also refl (also refl (also refl (
     also refl (also refl (also refl (also refl (also refl (also refl (also refl (also refl (also refl (also refl (
@@ -49,5 +51,6 @@ readings-hold =
     also refl (also refl (also refl (also refl (also refl (also refl (also refl (also refl (also refl (also refl (
     also refl (also refl (also refl (also refl (also refl (also refl (also refl (also refl (also refl (also refl (
     also refl (also refl (also refl (also refl (also refl (also refl (also refl (also refl (also refl (also refl (
-    also refl (also refl (also refl (also refl (
-    also refl (also refl (also refl (also refl none))))))))))))))))))))))))))))))))))))))))))))))))))))))))))))))))))))))))))))))))))))))))
+    also refl (also refl (also refl (also refl (also refl (also refl (also refl (also refl (also refl (also refl (
+    also refl (also refl (also refl (also refl (also refl (also refl (
+    also refl (also refl (also refl (also refl none))))))))))))))))))))))))))))))))))))))))))))))))))))))))))))))))))))))))))))))))))))))))))))))))))))

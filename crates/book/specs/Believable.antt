@@ -11,6 +11,7 @@ use Rattle.tree.specs.Laws.{TreeLaws}
 use Rattle.readback.specs.Laws.{ReadbackLaws}
 use Rattle.walk.specs.Ceiling.{FullBudget, EnoughBudget}
 use Rattle.walk.specs.Laws.{WalkLaws}
+use Rattle.backward.specs.Laws.{BackwardLaws}
 use Rattle.book.specs.Laws.{BookLaws}
 use Rattle.book.specs.Trials.{trials}
 use Rattle.book.specs.Readings.{readings}
@@ -28,6 +29,7 @@ pub record Believable : Type 0 where
   pub trees : TreeLaws
   pub readback : ReadbackLaws
   pub walks : WalkLaws
+  pub backward : BackwardLaws
   pub budget : FullBudget
   pub enough : EnoughBudget
   pub books : BookLaws

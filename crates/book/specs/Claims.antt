@@ -19,9 +19,12 @@ use Rattle.walk.specs.Query.{machine, witnessWords, withShown, answerBy, walkSl
 use Rattle.walk.specs.Covering.{candidates, Units, IsCovered, IsNotCovered, IsSpent, Answers}
 use Rattle.tree.specs.Calls.{fresh, insertion, removal}
 use Rattle.readback.specs.Readback.{clauseAt}
+use Rattle.readback.specs.Saved.{pairsOf}
 use Rattle.readback.specs.Calls.{check, readBack}
-use Rattle.book.specs.Table.{ready, kept, removed, returned, passed, saidCeiling, saidCheck, called, asked, givenBack}
-use Rattle.book.specs.Refusals.{firstOf, freshRows, ceilingRows, insertRows, removeRows, queryRows, checkRows, readRows, finished, unlessRefused, unlessSaid, walkResult, readResult}
+use Rattle.backward.specs.Listing.{rising, listFrom}
+use Rattle.backward.specs.Calls.{backward}
+use Rattle.book.specs.Table.{ready, kept, removed, returned, passed, saidCeiling, saidCheck, called, asked, givenBack, backed}
+use Rattle.book.specs.Refusals.{firstOf, freshRows, ceilingRows, insertRows, removeRows, queryRows, checkRows, readRows, backRows, finished, unlessRefused, unlessSaid, walkResult, readResult, listResult}
 use Rattle.book.specs.Book.{Call, Fit, AllFit, call, done, sliceOf, bookStep, bookOf, treeOf}
 use Rattle.clause.specs.Word.{Words}
 use Rattle.tree.specs.declared.CallAnswer.the-variants.{Ready}
@@ -43,6 +46,9 @@ pub record Demand1 : Type 0 where
       → saidCheck (check T) ≡ unlessSaid (firstOf (checkRows T)) (record { title = passed; values = [] })
   pub reading-back : (T : List ℕ) (n : ℕ) (W : List ℕ)
       → givenBack (readBack T n W) ≡ unlessRefused (firstOf (readRows T n W)) W (readResult (clauseAt (find n (decode T))) W)
+  pub listing : (T c : List ℕ) (b : ℕ) (L : List ℕ)
+      → backed (backward T c b L)
+      ≡ unlessRefused (firstOf (backRows T c)) L (listResult b L (listFrom c b (rising (pairsOf (decode T))) (length L) 0))
 
 -- a list of calls on a slice on which fresh has answered "ready"
 pub record Run (T : List ℕ) (xs : List Call) : Type 0 where

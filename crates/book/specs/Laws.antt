@@ -11,7 +11,7 @@ use Rattle.machine.specs.Instr.{Instr}
 use Rattle.machine.specs.Compile.{Variants, compile, keys}
 use Rattle.tree.specs.Beginnings.{beginnings, different}
 use Rattle.tree.specs.Changes.{numbered, varied}
-use Rattle.book.specs.Table.{saidCall, saidQuery, saidCeiling, saidCheck, saidRead}
+use Rattle.book.specs.Table.{saidCall, saidQuery, saidCeiling, saidCheck, saidRead, saidBack}
 use Rattle.tree.specs.Entries.{Pair, Sound, entry}
 use Rattle.clause.specs.Word.{Words}
 use Rattle.walk.specs.declared.CeilingAnswer.{CeilingAnswer}
@@ -19,6 +19,7 @@ use Rattle.walk.specs.declared.QueryAnswer.{QueryAnswer}
 use Rattle.tree.specs.declared.CallAnswer.{CallAnswer}
 use Rattle.readback.specs.declared.CheckAnswer.{CheckAnswer}
 use Rattle.readback.specs.declared.ReadAnswer.{ReadAnswer}
+use Rattle.backward.specs.declared.BackAnswer.{BackAnswer}
 
 -- a beginning of a sequence, of one instruction or more
 abbrev pub IsBeginning : (beginning sequence : List Instr) → Type 0
@@ -37,6 +38,7 @@ pub record BookLaws : Type 0 where
   pub ceiling : (a b : CeilingAnswer) → saidCeiling a ≡ saidCeiling b → a ≡ b
   pub check : (a b : CheckAnswer) → saidCheck a ≡ saidCheck b → a ≡ b
   pub read : (a b : ReadAnswer) → saidRead a ≡ saidRead b → a ≡ b
+  pub back : (a b : BackAnswer) → saidBack a ≡ saidBack b → a ≡ b
   -- a number is in the book
   pub number : (n : ℕ) (K : List Pair) → (numbered n (map entry K) ≡ true) ↔ ((p : Pair) × List·Memᴰ p K × (p .number ≡ n))
   -- a variant of a clause is in the book

@@ -4,6 +4,7 @@ pub mod Refusals
 pub mod Encoding
 pub mod Claims
 pub mod Saved
+pub mod Backward
 pub mod Trials
 pub mod Readings
 pub mod Laws

@@ -11,11 +11,12 @@ use Rattle.walk.specs.Ceiling.{ceilingCall}
 use Rattle.walk.specs.Query.{witnessWords, query}
 use Rattle.tree.specs.Calls.{insertion, removal}
 use Rattle.readback.specs.Calls.{check, readBack}
+use Rattle.backward.specs.Calls.{unlisted, backward}
 use Rattle.book.specs.Book.{insert, remove, sliceOf}
 use Rattle.book.specs.Trials.{P₃, P₂, P₁, Q₁, f, a, b, x, y, keeping, pxqx, long, ask}
 use Rattle.clause.specs.declared.Shape.the-variants.{Faulty, Whole}
 use Rattle.clause.specs.declared.Fault.the-variants.{BadLength, Bad, Ninth}
-use Rattle.tree.specs.declared.Refusal.the-variants.{BadSlice, Broken, BadClause, ShortWitness, NumberTaken, Held, NoSuchNumber, NoRoom, Spent, BadSize, NoSuchTree, ShortOutput}
+use Rattle.tree.specs.declared.Refusal.the-variants.{BadSlice, Broken, BadClause, ShortWitness, NumberTaken, Held, NoSuchNumber, NoRoom, Spent, BadSize, NoSuchTree, ShortOutput, ShortList}
 use Rattle.walk.specs.declared.CeilingAnswer.the-variants.{Ceiling, NoCeiling}
 use Rattle.walk.specs.declared.QueryAnswer.the-variants.{Covered, NotCovered, Unanswered}
 use Rattle.walk.specs.declared.QueryAnswer.{QueryAnswer}
@@ -23,6 +24,7 @@ use Rattle.tree.specs.declared.CallAnswer.the-variants.{Refused, Kept, Removed}
 use Rattle.readback.specs.declared.CheckAnswer.the-variants.{Failed, Passed}
 use Rattle.readback.specs.declared.ReadAnswer.{ReadAnswer}
 use Rattle.readback.specs.declared.ReadAnswer.the-variants.{Unread, Read}
+use Rattle.backward.specs.declared.BackAnswer.the-variants.{Listed}
 
 -- P and Q with no arguments, P with four
 abbrev pub P₀ : ℕ
@@ -202,6 +204,28 @@ saving =
     ∷ (readBack (keeping (insert (P₂ ∷ y ∷ x ∷ []) 1 ∷ [])) 1 (replicate 66 9) ≡ record { answer = Read 3; output = P₂ ∷ x ∷ y ∷ replicate 63 9 })
     ∷ (readBack (keeping (insert long 1 ∷ [])) 1 (replicate 64 9) ≡ record { answer = Read 9; output = long ++ replicate 55 9 }) ∷ []
 
+-- P kept under 1, and P,Q under 2
+abbrev pub ppq : List ℕ
+ppq = keeping (insert (P₀ ∷ []) 1 ∷ insert (P₀ ∷ Q₀ ∷ []) 2 ∷ [])
+
+-- listing backward
+abbrev pub listing : List (Type 0)
+listing =
+    -- P given, one candidate for each: a number too many is refused as it is found, before the next candidate; a candidate too many likewise
+    (backward ppq (P₀ ∷ []) 1 [] ≡ unlisted ShortList []) ∷ (backward ppq (P₀ ∷ []) 0 [] ≡ unlisted (Spent 0) [])
+    ∷ (backward ppq (P₀ ∷ []) 1 (9 ∷ []) ≡ unlisted (Spent 1) (9 ∷ [])) ∷ (backward ppq (P₀ ∷ []) 2 (9 ∷ []) ≡ unlisted ShortList (9 ∷ []))
+    -- both listed, and no word past the numbers written
+    ∷ (backward ppq (P₀ ∷ []) 2 (9 ∷ 9 ∷ 9 ∷ []) ≡ record { answer = Listed 2 2; list = 1 ∷ 2 ∷ 9 ∷ [] })
+    -- a variant of the given clause is listed; numbers rise, whatever order the tree has; what is not subsumed counts too
+    ∷ (backward (keeping (insert (P₁ ∷ x ∷ []) 1 ∷ [])) (P₁ ∷ y ∷ []) 9 (9 ∷ []) ≡ record { answer = Listed 1 1; list = 1 ∷ [] })
+    ∷ (backward (keeping (insert (P₁ ∷ a ∷ []) 7 ∷ insert (P₁ ∷ b ∷ []) 3 ∷ [])) (P₁ ∷ x ∷ []) 9 (9 ∷ 9 ∷ [])
+    ≡ record { answer = Listed 2 2; list = 3 ∷ 7 ∷ [] })
+    ∷ (backward units (P₁ ∷ x ∷ []) 9 (9 ∷ []) ≡ record { answer = Listed 1 2; list = 1 ∷ [] })
+    -- no clause kept; a bad clause before a broken slice; two equal numbers
+    ∷ (backward (blank 2) (P₀ ∷ []) 0 [] ≡ record { answer = Listed 0 0; list = [] })
+    ∷ (backward (headerOf 9 0 ∷ 0 ∷ []) (x ∷ []) 9 [] ≡ unlisted (BadClause (Bad 0)) [])
+    ∷ (backward (headerOf 9 0 ∷ 0 ∷ []) (P₀ ∷ []) 9 [] ≡ unlisted Broken []) ∷ (backward (two 1 1) (P₀ ∷ []) 0 [] ≡ unlisted NoSuchTree []) ∷ []
+
 -- all of them
 abbrev pub readings : List (Type 0)
-readings = reading ++ (compiling ++ (walking ++ (counting ++ (calling ++ saving))))
+readings = reading ++ (compiling ++ (walking ++ (counting ++ (calling ++ (saving ++ listing)))))

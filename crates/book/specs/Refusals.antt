@@ -13,7 +13,8 @@ use Rattle.walk.specs.Walk.{Answer, covered, notCovered, spent, broken}
 use Rattle.walk.specs.Query.{witnessWords, shown, withShown}
 use Rattle.readback.specs.Saved.{ofClauses}
 use Rattle.readback.specs.Calls.{over}
-use Rattle.book.specs.Table.{Title, Said, is-covered, is-not-covered, read, code, Result}
+use Rattle.backward.specs.Listing as listing
+use Rattle.book.specs.Table.{Title, Said, is-covered, is-not-covered, read, listed, code, Result}
 use Rattle.clause.specs.declared.Fault.the-variants.{BadLength, Bad, Ninth}
 use Rattle.clause.specs.declared.Shape.{Shape}
 use Rattle.clause.specs.declared.Shape.the-variants.{Faulty, Whole}
@@ -93,6 +94,10 @@ readRows T n W =
     when (not (sized T)) 1 ∷ when (ltb (length W) maxWords) 15 ∷ when (not (wellLaid T)) 2 ∷ when (not (ofClauses (decode T))) 14
     ∷ missingRow (find n (decode T)) ∷ []
 
+-- backward 1, 3 to 5, 2, 14; then the listing
+abbrev pub backRows : (slice clause : List ℕ) → List (Option Said)
+backRows T c = when (not (sized T)) 1 ∷ clauseRow (shape c) ∷ when (not (wellLaid T)) 2 ∷ when (not (ofClauses (decode T))) 14 ∷ []
+
 -- ---- what a call comes to
 
 -- a call done: what it answers, without values, and the words afterwards
@@ -120,3 +125,11 @@ walkResult b W broken = record { said = record { title = code 2; values = [] }; 
 -- a clause read back: its length, and its words over the first of the output
 abbrev pub readResult : (clause output : List ℕ) → Result
 readResult c W = record { said = record { title = read; values = length c ∷ [] }; words = over c W }
+
+-- what the listing meets: how many numbers and the candidates in all, and the numbers over the first words of the list; 16; 12 with the budget as the
+-- count; or 2
+abbrev pub listResult : (budget : ℕ) (list : List ℕ) → listing.Listing → Result
+listResult b L (listing.listed ns k) = record { said = record { title = listed; values = length ns ∷ k ∷ [] }; words = over ns L }
+listResult b L listing.overfull = record { said = record { title = code 16; values = [] }; words = L }
+listResult b L listing.spent = record { said = record { title = code 12; values = b ∷ [] }; words = L }
+listResult b L listing.broken = record { said = record { title = code 2; values = [] }; words = L }

@@ -5,6 +5,7 @@ use Rattle.tree.specs.Refusal.{codeOf, valuesOf}
 use Rattle.walk.specs.Query.{Asked}
 use Rattle.tree.specs.Calls.{Called}
 use Rattle.readback.specs.Calls.{Given}
+use Rattle.backward.specs.Calls.{Backed}
 use Rattle.tree.specs.declared.Refusal.{Refusal}
 use Rattle.walk.specs.declared.CeilingAnswer.{CeilingAnswer}
 use Rattle.walk.specs.declared.CeilingAnswer.the-variants.{Ceiling, NoCeiling}
@@ -16,10 +17,12 @@ use Rattle.readback.specs.declared.CheckAnswer.{CheckAnswer}
 use Rattle.readback.specs.declared.CheckAnswer.the-variants.{Failed, Passed}
 use Rattle.readback.specs.declared.ReadAnswer.{ReadAnswer}
 use Rattle.readback.specs.declared.ReadAnswer.the-variants.{Unread, Read}
+use Rattle.backward.specs.declared.BackAnswer.{BackAnswer}
+use Rattle.backward.specs.declared.BackAnswer.the-variants.{Unlisted, Listed}
 
 -- what an answer is called, or its code
 pub data Title : Type 0 where
-  ready kept removed is-covered is-not-covered returned passed read : Title
+  ready kept removed is-covered is-not-covered returned passed read listed : Title
   code : ℕ → Title
 
 -- an answer: what it is, and its values
@@ -59,6 +62,11 @@ abbrev pub saidRead : ReadAnswer → Said
 saidRead (Unread r) = saidRefusal r
 saidRead (Read n) = record { title = read; values = n ∷ [] }
 
+-- those of listing backward, with how many numbers and the candidates in all
+abbrev pub saidBack : BackAnswer → Said
+saidBack (Unlisted r) = saidRefusal r
+saidBack (Listed n k) = record { title = listed; values = n ∷ k ∷ [] }
+
 -- how a call comes out: what it answers, and the lent words afterwards
 pub record Result : Type 0 where
   pub said : Said
@@ -75,3 +83,7 @@ asked r = record { said = saidQuery (r .answer); words = r .witness }
 -- of reading a clause back, which is lent the output
 abbrev pub givenBack : Given → Result
 givenBack r = record { said = saidRead (r .answer); words = r .output }
+
+-- of listing backward, which is lent the list
+abbrev pub backed : Backed → Result
+backed r = record { said = saidBack (r .answer); words = r .list }

@@ -1,7 +1,7 @@
 // The C interface: the calls (docs/REFERENCE.md, "Calls") on pointers and lengths (include/code_tree.h).
 ghost use mathlib.Core.Path.{_≡_};
-ghost use Rattle.interface.specs.Calls.{ctFresh, ctInsert, ctRemove, ctQuery, ctCeiling, ctReadBack, ctCheck};
-ghost use Rattle.interface.specs.Claims.{CtReach, CtDemand2, CtDemand3, CtExactCount, CtChecked, CtReadsBook, CtSavedIsMade, ToldApart};
+ghost use Rattle.interface.specs.Calls.{ctFresh, ctInsert, ctRemove, ctQuery, ctCeiling, ctReadBack, ctCheck, ctBackward};
+ghost use Rattle.interface.specs.Claims.{CtReach, CtDemand2, CtDemand3, CtExactCount, CtChecked, CtReadsBook, CtSavedIsMade, CtListsBook, ToldApart};
 
 // Makes an empty tree of a slice. Returns 0 or 1.
 #[no_mangle]
@@ -73,4 +73,21 @@ pub extern "C" fn ct_check(tree: &[u64]) -> u64
     ensures saved { λ _. ⌜ CtChecked × CtReadsBook × CtSavedIsMade ⌝ }
 {
     reply::hand_check(checking::check(tree))
+}
+
+// Lists the kept clauses that a clause subsumes. Returns 0 or a code; tells how many and the candidates in all, or the position for 4 and 5, the count
+// for 12. The contract carries what is claimed of such listings after lists of calls.
+#[no_mangle]
+pub extern "C" fn ct_backward(
+    tree: &[u64],
+    clause: &[u16],
+    budget: u64,
+    list: &mut [u32],
+    told: &mut [u64],
+) -> u64
+    ensures hands { λ r. ⌜ record { number = r; words = now (list .exit); told = now (told .exit) }
+        ≡ ctBackward (now (tree .entry)) (now (clause .entry)) budget (now (list .entry)) (now (told .entry)) ⌝ }
+    ensures lists { λ _. ⌜ CtListsBook ⌝ }
+{
+    reply::hand_back(listing::backward(tree, clause, budget, list), told)
 }

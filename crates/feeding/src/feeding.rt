@@ -10,14 +10,20 @@ use intake::Session;
 use intake::Stage;
 use intake::read_some;
 use lines::put_line;
+use lines::put_removals;
 use machine::Sequence;
+use record::Came;
 use record::Outcome;
+use record::Setting;
 use record::Totals;
 use tallying::count_strike;
 use tree::Refusal;
+use tree::Tree;
 ghost use mathlib.Core.Path.{_≡_};
+ghost use Prim.Native.Nat.{_≤_};
 ghost use lib.ListN.{length};
 ghost use Rattle.clause.specs.Clause.{maxWords};
+ghost use Rattle.record.specs.Answer.{listWords};
 ghost use Rattle.record.specs.Counters.{mostCounted};
 ghost use Rattle.record.specs.Output.{counted};
 ghost use Rattle.answering.specs.inner.Steady.{Steady, CameOut};
@@ -25,77 +31,100 @@ ghost use Rattle.intake.specs.Feed.{storeOf, finishing, recordEnded, proceeding
 ghost use Rattle.feeding.specs.inner.Blocks.{Within, Feedable, Took};
 ghost use Rattle.intake.specs.Feed.{feed as Feed·feed};
 
-// The totals with one more record, by its outcome.
-fn count_outcome(totals: Totals, outcome: Outcome) -> Totals
-    requires { ⌜ Within totals 1 mostCounted ⌝ }
-    ensures { λ r. ⌜ r ≡ counted outcome totals ⌝ }
+// The totals with one more record, by its outcome and how many clauses it takes out.
+fn count_outcome(totals: Totals, outcome: Outcome, removed: u64) -> Totals
+    requires { ⌜ Within totals 1 mostCounted × (removed ≤ totals .kept) ⌝ }
+    ensures { λ r. ⌜ r ≡ counted outcome removed totals ⌝ }
 {
     let records = totals.records + 1;
     match outcome {
         Outcome::Kept(_) => Totals {
             records: records,
-            kept: totals.kept + 1,
+            kept: totals.kept + 1 - removed,
             struck: totals.struck,
             refused: totals.refused,
+            removed: totals.removed + removed,
         },
         Outcome::Struck(_, _) => Totals {
             records: records,
             kept: totals.kept,
             struck: totals.struck + 1,
             refused: totals.refused,
+            removed: totals.removed,
         },
         Outcome::Refused(_) => Totals {
             records: records,
             kept: totals.kept,
             struck: totals.struck,
             refused: totals.refused + 1,
+            removed: totals.removed,
         },
     }
 }
 
 // What becomes of a whole record; one of more than 64 words was skipped over.
 fn outcome_of(
+    setting: Setting,
     heading: Heading,
     tree: &mut [u64],
     marks: &mut [u8],
     keys: &mut [u64; Sequence::KEYS],
+    list: &mut [u32],
     words: &[u16],
-) -> Outcome
-    requires { ⌜ Steady (now tree) (now marks) × (length (now words) ≡ maxWords) ⌝ }
-    ensures { λ r. ⌜ CameOut (finishing (heading .number) (heading .count) (now (words .entry)) (now (tree .entry))) (heading .number) (now (marks .entry)) r
-        (now (tree .exit)) (now (marks .exit)) ⌝ }
+) -> Came
+    requires { ⌜ Steady (now tree) (now marks) × (length (now list) ≡ listWords) × (length (now words) ≡ maxWords) ⌝ }
+    ensures { λ r. ⌜ CameOut (finishing setting (heading .number) (heading .count) (now (words .entry)) (now (tree .entry))) (heading .number)
+        (now (marks .entry)) r (now (list .exit)) (now (tree .exit)) (now (marks .exit)) ⌝ }
 {
     let end = heading.count as usize;
     if end > Clause::WORDS {
-        return Outcome::Refused(Refusal::BadClause(Fault::BadLength).code());
+        return Came {
+            outcome: Outcome::Refused(Refusal::BadClause(Fault::BadLength).code()),
+            removed: 0,
+        };
     }
-    answer(tree, marks, keys, &words[..end], heading.number)
+    answer(
+        setting,
+        tree,
+        marks,
+        keys,
+        list,
+        &words[..end],
+        heading.number,
+    )
 }
 
-// Ends a whole record: what becomes of it, the tally, its line, the totals.
+// Ends a whole record: what becomes of it, the tally, its lines, the totals.
 fn finish(
+    setting: Setting,
     heading: Heading,
     turn: Turn,
     tree: &mut [u64],
     marks: &mut [u8],
     counters: &mut [u64],
     keys: &mut [u64; Sequence::KEYS],
+    list: &mut [u32],
     words: &[u16],
     output: &mut [u8],
 ) -> Turn
-    requires { ⌜ Feedable (storeOf (now words) (now tree) (now marks) (now counters)) (turn .session .totals) 1 (turn .next) (now output) ⌝ }
+    requires { ⌜ Feedable (storeOf (now words) (now tree) (now marks) (now counters)) (turn .session .totals) 1 (turn .next) (now output)
+        × (length (now list) ≡ listWords) ⌝ }
     ensures { λ r. ⌜ Took
-        (recordEnded (heading .number) (heading .count) (turn .session .totals)
+        (recordEnded setting (heading .number) (heading .count) (turn .session .totals)
         (storeOf (now (words .entry)) (now (tree .entry)) (now (marks .entry)) (now (counters .entry)))) 1
-        (turn .next) (now (output .entry)) (r .session) (storeOf (now (words .entry)) (now (tree .exit)) (now (marks .exit)) (now (counters .exit)))
+        (turn .next) (turn .session .totals) (now (output .entry)) (r .session)
+        (storeOf (now (words .entry)) (now (tree .exit)) (now (marks .exit)) (now (counters .exit)))
         (record { next = r .next; output = now (output .exit) }) ⌝ }
 {
-    let outcome = outcome_of(heading, tree, marks, keys, words);
+    let came = outcome_of(setting, heading, tree, marks, keys, list, words);
+    let outcome = came.outcome;
+    let removed = came.removed;
     count_strike(counters, outcome);
-    let next = put_line(output, turn.next, heading.number, outcome);
+    let place = put_removals(output, turn.next, heading.number, &list[..removed]);
+    let next = put_line(output, place, heading.number, outcome);
     let before = turn.session;
     let totals = before.totals;
-    let after = count_outcome(totals, outcome);
+    let after = count_outcome(totals, outcome, removed as u64);
     Turn {
         session: Session {
             half: Half::Even,
@@ -108,19 +137,24 @@ fn finish(
 
 // Goes on with the reading, or ends the record that is whole.
 fn proceed(
+    setting: Setting,
     next: Next,
     turn: Turn,
     tree: &mut [u64],
     marks: &mut [u8],
     counters: &mut [u64],
     keys: &mut [u64; Sequence::KEYS],
+    list: &mut [u32],
     words: &[u16],
     output: &mut [u8],
 ) -> Turn
-    requires { ⌜ Feedable (storeOf (now words) (now tree) (now marks) (now counters)) (turn .session .totals) 1 (turn .next) (now output) ⌝ }
+    requires { ⌜ Feedable (storeOf (now words) (now tree) (now marks) (now counters)) (turn .session .totals) 1 (turn .next) (now output)
+        × (length (now list) ≡ listWords) ⌝ }
     ensures { λ r. ⌜ Took
-        (proceeding next (turn .session .totals) (storeOf (now (words .entry)) (now (tree .entry)) (now (marks .entry)) (now (counters .entry)))) 1
-        (turn .next) (now (output .entry)) (r .session) (storeOf (now (words .entry)) (now (tree .exit)) (now (marks .exit)) (now (counters .exit)))
+        (proceeding setting next (turn .session .totals)
+        (storeOf (now (words .entry)) (now (tree .entry)) (now (marks .entry)) (now (counters .entry)))) 1
+        (turn .next) (turn .session .totals) (now (output .entry)) (r .session)
+        (storeOf (now (words .entry)) (now (tree .exit)) (now (marks .exit)) (now (counters .exit)))
         (record { next = r .next; output = now (output .exit) }) ⌝ }
 {
     match next {
@@ -136,12 +170,24 @@ fn proceed(
                 next: turn.next,
             }
         }
-        Next::Ends(heading) => finish(heading, turn, tree, marks, counters, keys, words, output),
+        Next::Ends(heading) => finish(
+            setting,
+            heading,
+            turn,
+            tree,
+            marks,
+            counters,
+            keys,
+            list,
+            words,
+            output,
+        ),
     }
 }
 
 // Takes all records and bytes of a block, one after another. The caller's session and lent words are those that the blocks before have left.
 pub fn feed(
+    setting: Setting,
     input: &[u8],
     session: Session,
     tree: &mut [u64],
@@ -152,13 +198,14 @@ pub fn feed(
 ) -> Turn
     requires { ⌜ Feedable (storeOf (now words) (now tree) (now marks) (now counters)) (session .totals) (length (now input)) 0 (now output) ⌝ }
     ensures took { λ r. ⌜ Took
-        (Feed·feed session (storeOf (now (words .entry)) (now (tree .entry)) (now (marks .entry)) (now (counters .entry))) (now (input .entry)))
-        (length (now (input .entry))) 0 (now (output .entry)) (r .session)
+        (Feed·feed setting session (storeOf (now (words .entry)) (now (tree .entry)) (now (marks .entry)) (now (counters .entry))) (now (input .entry)))
+        (length (now (input .entry))) 0 (session .totals) (now (output .entry)) (r .session)
         (storeOf (now (words .exit)) (now (tree .exit)) (now (marks .exit)) (now (counters .exit)))
         (record { next = r .next; output = now (output .exit) }) ⌝ }
     ensures whole { λ _. ⌜ WholeInput ⌝ }
 {
     let mut keys = [0u64; Sequence::KEYS];
+    let mut list = [0u32; Tree::CLAUSES];
     let mut turn = Turn {
         session: session,
         next: 0,
@@ -169,7 +216,18 @@ pub fn feed(
         let step = read_some(&input[taken..], here, words);
         taken += step.taken;
         let next = step.next;
-        let after = proceed(next, turn, tree, marks, counters, &mut keys, words, output);
+        let after = proceed(
+            setting,
+            next,
+            turn,
+            tree,
+            marks,
+            counters,
+            &mut keys,
+            &mut list,
+            words,
+            output,
+        );
         turn = after;
     }
     turn

@@ -1,3 +1,4 @@
 pub mod Bytes
 pub mod Whole
+pub mod Lengths
 pub mod Records

@@ -13,6 +13,7 @@ use Rattle.record.specs.Output.{fieldOf, fields}
 use Rattle.intake.specs.Feed.{Store, Fed, storeOf, recordEnded, proceeding, takeField, feedThen, feed}
 use Rattle.intake.specs.inner.Steps.{WholeRecord, Stepped}
 use Rattle.intake.proofs.Bytes.{storing, at-count, at-empty, at-word, at-last}
+use Rattle.record.specs.declared.Setting.{Setting}
 use Rattle.record.specs.declared.Totals.{Totals}
 use Rattle.intake.specs.declared.Half.{Half}
 use Rattle.intake.specs.declared.Half.the-variants.{Even}
@@ -24,27 +25,27 @@ use Rattle.intake.specs.declared.Next.the-variants.{Reads, Ends}
 -- ---- field by field
 
 -- one field after another
-unfoldable pub feedFields : Stage → Totals → Store → List ℕ → Fed
-feedFields g t m [] = record { session = record { half = Even; stage = g; totals = t }; store = m; text = [] }
-feedFields g t m (w ∷ ws) = feedThen (takeField g t m w) (λ s m′. feedFields (s .stage) (s .totals) m′ ws)
+unfoldable pub feedFields : Setting → Stage → Totals → Store → List ℕ → Fed
+feedFields v g t m [] = record { session = record { half = Even; stage = g; totals = t }; store = m; text = [] }
+feedFields v g t m (w ∷ ws) = feedThen (takeField v g t m w) (λ s m′. feedFields v (s .stage) (s .totals) m′ ws)
 
 -- after a whole field the next byte is a first one
-pub even-after : (g : Stage) (t : Totals) (m : Store) (w : ℕ)
-    → takeField g t m w .session ≡ record { half = Even; stage = takeField g t m w .session .stage; totals = takeField g t m w .session .totals }
+pub even-after : (v : Setting) (g : Stage) (t : Totals) (m : Store) (w : ℕ)
+    → takeField v g t m w .session ≡ record { half = Even; stage = takeField v g t m w .session .stage; totals = takeField v g t m w .session .totals }
 unfolding takeField recordEnded
-even-after AtNumber t m w = refl
-even-after (AtCount n) t m w = go (eqb w 0)
+even-after v AtNumber t m w = refl
+even-after v (AtCount n) t m w = go (eqb w 0)
   where
     after : Bool → Session
-    after b = proceeding (cond b (Ends (record { number = n; count = 0 })) (Reads Even (AtWord n w 0))) t m .session
+    after b = proceeding v (cond b (Ends (record { number = n; count = 0 })) (Reads Even (AtWord n w 0))) t m .session
 
     go : (b : Bool) → after b ≡ record { half = Even; stage = after b .stage; totals = after b .totals }
     go true = refl
     go false = refl
-even-after (AtWord n count i) t m w = go (ltb (i + 1) count)
+even-after v (AtWord n count i) t m w = go (ltb (i + 1) count)
   where
     after : Bool → Session
-    after b = proceeding (cond b (Reads Even (AtWord n count (i + 1))) (Ends (record { number = n; count = count }))) t (storing m i w) .session
+    after b = proceeding v (cond b (Reads Even (AtWord n count (i + 1))) (Ends (record { number = n; count = count }))) t (storing m i w) .session
 
     go : (b : Bool) → after b ≡ record { half = Even; stage = after b .stage; totals = after b .totals }
     go true = refl
@@ -57,37 +58,37 @@ abbrev pub filling : Store → (at : ℕ) (words : List ℕ) → Store
 filling m i ws = record { words = sets (m .words) i ws; slice = m .slice; marks = m .marks; counters = m .counters }
 
 -- the words that are still to come are there
-pub collect : (ws : List ℕ) (n count i : ℕ) (t : Totals) (m : Store) → i < count → count ≤ i + length ws
-    → feedFields (AtWord n count i) t m ws
-    ≡ feedThen (recordEnded n count t (filling m i (take (count - i) ws))) (λ s m′. feedFields (s .stage) (s .totals) m′ (drop (count - i) ws))
+pub collect : (v : Setting) (ws : List ℕ) (n count i : ℕ) (t : Totals) (m : Store) → i < count → count ≤ i + length ws
+    → feedFields v (AtWord n count i) t m ws
+    ≡ feedThen (recordEnded v n count t (filling m i (take (count - i) ws))) (λ s m′. feedFields v (s .stage) (s .totals) m′ (drop (count - i) ws))
 unfolding feedFields
-collect [] n count i t m h k = absurd (omega arith)
-collect (w ∷ ws) n count i t m h k = go (decLt (i + 1) count) (collect ws n count (i + 1) t (storing m i w))
+collect v [] n count i t m h k = absurd (omega arith)
+collect v (w ∷ ws) n count i t m h k = go (decLt (i + 1) count) (collect v ws n count (i + 1) t (storing m i w))
   where
     go : Dec (i + 1 < count)
-        → (i + 1 < count → count ≤ i + 1 + length ws → feedFields (AtWord n count (i + 1)) t (storing m i w) ws
-        ≡ feedThen (recordEnded n count t (filling (storing m i w) (i + 1) (take (count - (i + 1)) ws))) (λ s m′. feedFields (s .stage) (s .totals) m′ (drop (count - (i + 1)) ws)))
-        → feedThen (takeField (AtWord n count i) t m w) (λ s m′. feedFields (s .stage) (s .totals) m′ ws)
-        ≡ feedThen (recordEnded n count t (filling m i (take (count - i) (w ∷ ws)))) (λ s m′. feedFields (s .stage) (s .totals) m′ (drop (count - i) (w ∷ ws)))
+        → (i + 1 < count → count ≤ i + 1 + length ws → feedFields v (AtWord n count (i + 1)) t (storing m i w) ws
+        ≡ feedThen (recordEnded v n count t (filling (storing m i w) (i + 1) (take (count - (i + 1)) ws))) (λ s m′. feedFields v (s .stage) (s .totals) m′ (drop (count - (i + 1)) ws)))
+        → feedThen (takeField v (AtWord n count i) t m w) (λ s m′. feedFields v (s .stage) (s .totals) m′ ws)
+        ≡ feedThen (recordEnded v n count t (filling m i (take (count - i) (w ∷ ws)))) (λ s m′. feedFields v (s .stage) (s .totals) m′ (drop (count - i) (w ∷ ws)))
     go (yes l) ih =
         let e : count - i ≡ suc (count - (i + 1)) = omega arith in
-        rw (at-word t m w n count i refl l, e) (ih l (omega arith) ∙ rw add-one)
+        rw (at-word v t m w n count i refl l, e) (ih l (omega arith) ∙ rw add-one)
     go (no l) ih =
         let e : count - i ≡ 1 = omega arith in
-        rw (at-last t m w n count i refl (omega arith), e)
+        rw (at-last v t m w n count i refl (omega arith), e)
 
 -- ---- a whole record
 
 -- an even number of bytes is fed field by field
-feed-fields : (bs : List ℕ) (k : ℕ) (g : Stage) (t : Totals) (m : Store) → length bs ≡ k * 2
-    → feed (record { half = Even; stage = g; totals = t }) m bs ≡ feedFields g t m (fields bs)
+feed-fields : (v : Setting) (bs : List ℕ) (k : ℕ) (g : Stage) (t : Totals) (m : Store) → length bs ≡ k * 2
+    → feed v (record { half = Even; stage = g; totals = t }) m bs ≡ feedFields v g t m (fields bs)
 unfolding feed feedFields
-feed-fields [] k g t m h = refl
-feed-fields (a ∷ []) k g t m h = absurd (omega arith)
-feed-fields (a ∷ b ∷ bs) k g t m h =
-    let f : Fed = takeField g t m (fieldOf a b) in
+feed-fields v [] k g t m h = refl
+feed-fields v (a ∷ []) k g t m h = absurd (omega arith)
+feed-fields v (a ∷ b ∷ bs) k g t m h =
+    let f : Fed = takeField v g t m (fieldOf a b) in
     ap (λ (x : Fed). record { session = x .session; store = x .store; text = f .text ++ x .text })
-    (ap (λ (s : Session). feed s (f .store) bs) (even-after g t m (fieldOf a b)) ∙ feed-fields bs (k - 1) (f .session .stage) (f .session .totals) (f .store) (omega arith))
+    (ap (λ (s : Session). feed v s (f .store) bs) (even-after v g t m (fieldOf a b)) ∙ feed-fields v bs (k - 1) (f .session .stage) (f .session .totals) (f .store) (omega arith))
 
 length-fields : (bs : List ℕ) (k : ℕ) → length bs ≡ k * 2 → length (fields bs) ≡ k
 length-fields [] k h = omega arith
@@ -95,38 +96,38 @@ length-fields (a ∷ []) k h = absurd (omega arith)
 length-fields (a ∷ b ∷ bs) k h = omega (arith, length-fields bs (k - 1) (omega arith))
 
 -- nothing comes after the record
-ended : (n count : ℕ) (t : Totals) (m : Store) → feedThen (recordEnded n count t m) (λ s m′. feedFields (s .stage) (s .totals) m′ []) ≡ recordEnded n count t m
+ended : (v : Setting) (n count : ℕ) (t : Totals) (m : Store) → feedThen (recordEnded v n count t m) (λ s m′. feedFields v (s .stage) (s .totals) m′ []) ≡ recordEnded v n count t m
 unfolding recordEnded feedFields
-ended n count t m = rw append-nil
+ended v n count t m = rw append-nil
 
-fields-record : (count n : ℕ) (ws : List ℕ) (t : Totals) (m : Store) → length ws ≡ count
-    → feedFields AtNumber t m (n ∷ count ∷ ws) ≡ recordEnded n count t (filling m 0 ws)
+fields-record : (v : Setting) (count n : ℕ) (ws : List ℕ) (t : Totals) (m : Store) → length ws ≡ count
+    → feedFields v AtNumber t m (n ∷ count ∷ ws) ≡ recordEnded v n count t (filling m 0 ws)
 unfolding feedFields takeField
-fields-record zero n [] t m h =
-    ap (λ (f : Fed). feedThen f (λ s m′. feedFields (s .stage) (s .totals) m′ [])) (at-empty t m 0 n refl (omega arith)) ∙ ended n 0 t m
-fields-record zero n (w ∷ ws) t m h = absurd (omega arith)
-fields-record (suc k) n ws t m h =
-    ap (λ (f : Fed). feedThen f (λ s m′. feedFields (s .stage) (s .totals) m′ ws)) (at-count t m (suc k) n refl (omega arith))
-    ∙ collect ws n (suc k) 0 t m (omega arith) (omega arith)
-    ∙ rw (take-all (suc k - 0) ws (omega arith), drop-of-length-le ws {i = suc k - 0} (omega arith)) (ended n (suc k) t (filling m 0 ws))
+fields-record v zero n [] t m h =
+    ap (λ (f : Fed). feedThen f (λ s m′. feedFields v (s .stage) (s .totals) m′ [])) (at-empty v t m 0 n refl (omega arith)) ∙ ended v n 0 t m
+fields-record v zero n (w ∷ ws) t m h = absurd (omega arith)
+fields-record v (suc k) n ws t m h =
+    ap (λ (f : Fed). feedThen f (λ s m′. feedFields v (s .stage) (s .totals) m′ ws)) (at-count v t m (suc k) n refl (omega arith))
+    ∙ collect v ws n (suc k) 0 t m (omega arith) (omega arith)
+    ∙ rw (take-all (suc k - 0) ws (omega arith), drop-of-length-le ws {i = suc k - 0} (omega arith)) (ended v n (suc k) t (filling m 0 ws))
 
 -- the bytes of a whole record
-pub whole-record : (s : Session) (input : List ℕ) (count : ℕ) (m : Store) → WholeRecord s input count
-    → feed s m (take (4 + count * 2) input)
-    ≡ recordEnded (fieldOf (getD input 0 0) (getD input 1 0)) count (s .totals) (filling m 0 (fields (take (count * 2) (drop 4 input))))
-whole-record s [] count m w = absurd (omega (arith, w .inside))
-whole-record s (a ∷ []) count m w = absurd (omega (arith, w .inside))
-whole-record s (a ∷ b ∷ []) count m w = absurd (omega (arith, w .inside))
-whole-record s (a ∷ b ∷ c ∷ []) count m w = absurd (omega (arith, w .inside))
-whole-record s (a ∷ b ∷ c ∷ d ∷ bs) count m w =
+pub whole-record : (v : Setting) (s : Session) (input : List ℕ) (count : ℕ) (m : Store) → WholeRecord s input count
+    → feed v s m (take (4 + count * 2) input)
+    ≡ recordEnded v (fieldOf (getD input 0 0) (getD input 1 0)) count (s .totals) (filling m 0 (fields (take (count * 2) (drop 4 input))))
+whole-record v s [] count m w = absurd (omega (arith, w .inside))
+whole-record v s (a ∷ []) count m w = absurd (omega (arith, w .inside))
+whole-record v s (a ∷ b ∷ []) count m w = absurd (omega (arith, w .inside))
+whole-record v s (a ∷ b ∷ c ∷ []) count m w = absurd (omega (arith, w .inside))
+whole-record v s (a ∷ b ∷ c ∷ d ∷ bs) count m w =
     let ws : List ℕ = take (count * 2) bs in
     let l : length ws ≡ count * 2 = length-take-le (count * 2) bs (omega (arith, w .inside)) in
     let e : 4 + count * 2 ≡ suc (suc (suc (suc (count * 2)))) = omega arith in
-    ap (λ (k : ℕ). feed s m (take k (a ∷ b ∷ c ∷ d ∷ bs))) e
-    ∙ ap₂ (λ (h : Half) (g : Stage). feed (record { half = h; stage = g; totals = s .totals }) m (a ∷ b ∷ c ∷ d ∷ ws)) (w .half) (w .stage)
-    ∙ feed-fields (a ∷ b ∷ c ∷ d ∷ ws) (2 + count) AtNumber (s .totals) m (omega arith)
-    ∙ ap (λ (k : ℕ). feedFields AtNumber (s .totals) m ((fieldOf a b) ∷ k ∷ fields ws)) (sym (w .counts))
-    ∙ fields-record count (fieldOf a b) (fields ws) (s .totals) m (length-fields ws count l)
+    ap (λ (k : ℕ). feed v s m (take k (a ∷ b ∷ c ∷ d ∷ bs))) e
+    ∙ ap₂ (λ (h : Half) (g : Stage). feed v (record { half = h; stage = g; totals = s .totals }) m (a ∷ b ∷ c ∷ d ∷ ws)) (w .half) (w .stage)
+    ∙ feed-fields v (a ∷ b ∷ c ∷ d ∷ ws) (2 + count) AtNumber (s .totals) m (omega arith)
+    ∙ ap (λ (k : ℕ). feedFields v AtNumber (s .totals) m ((fieldOf a b) ∷ k ∷ fields ws)) (sym (w .counts))
+    ∙ fields-record v count (fieldOf a b) (fields ws) (s .totals) m (length-fields ws count l)
 
 -- a whole record that was read
 pub record-read : (s : Session) (input words : List ℕ) (count : ℕ) {n c : ℕ} {ws : List ℕ} → WholeRecord s input count
@@ -136,7 +137,7 @@ pub record-read : (s : Session) (input words : List ℕ) (count : ℕ) {n c : �
     → Stepped s input words (record { taken = 4 + count * 2; next = Ends (record { number = n; count = c }) }) ws
 record-read s input words count w en ec ew =
     let e = take-take (count * 2) (length input - 4) (drop 4 input) (omega (arith, w .inside)) in
-    record { some = omega arith; inside = w .inside; feeds = λ T K C. whole-record s input count (storeOf words T K C) w ∙ rw (en, ec, ew, e) }
+    record { some = omega arith; inside = w .inside; feeds = λ v T K C. whole-record v s input count (storeOf words T K C) w ∙ rw (en, ec, ew, e) }
 
 -- ---- the words, one after another
 

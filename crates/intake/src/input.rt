@@ -16,6 +16,7 @@ ghost use lib.ListN.{length, take, getD};
 ghost use lib.Seq.{sets};
 ghost use Rattle.clause.specs.Clause.{maxWords};
 ghost use Rattle.record.specs.Output.{fieldOf, fields};
+ghost use Rattle.record.specs.declared.Setting.{Setting};
 ghost use Rattle.intake.specs.Feed.{storeOf, advanced, stored, proceeding, takeByte, firstSession};
 ghost use Rattle.intake.specs.inner.Steps.{WholeRecord, Stepped};
 ghost use Rattle.intake.specs.declared.Ahead.the-variants.{Whole};
@@ -32,6 +33,7 @@ pub fn begin() -> Session
             kept: 0,
             struck: 0,
             refused: 0,
+            removed: 0,
         },
     }
 }
@@ -85,8 +87,8 @@ fn field_of(high: u8, low: u8) -> u16
 
 // Reads one more byte.
 fn read_byte(session: Session, byte: u8, words: &mut [u16]) -> Next
-    ensures { λ r. ⌜ ((T m c : List ℕ) → takeByte session (storeOf (now (words .entry)) T m c) byte
-        ≡ proceeding r (session .totals) (storeOf (now (words .exit)) T m c)) ⌝ }
+    ensures { λ r. ⌜ ((v : Setting) (T m c : List ℕ) → takeByte v session (storeOf (now (words .entry)) T m c) byte
+        ≡ proceeding v r (session .totals) (storeOf (now (words .exit)) T m c)) ⌝ }
 {
     let half = session.half;
     let stage = session.stage;

@@ -18,7 +18,7 @@ use Rattle.tree.specs.Changes.{Change, refuse, change, insertInto, removeFrom}
 use Rattle.tree.specs.Calls.{Called, refused, changed, fresh, insertAs, insertion, removal}
 use Rattle.tree.specs.Refusal.{codeOf, valuesOf}
 use Rattle.tree.specs.declared.Refusal.{Refusal}
-use Rattle.tree.specs.declared.Refusal.the-variants.{BadSlice, Broken, BadClause, ShortWitness, NumberTaken, Held, NoSuchNumber, ListFull, NoRoom, Spent, BadSize, NoSuchTree, ShortOutput}
+use Rattle.tree.specs.declared.Refusal.the-variants.{BadSlice, Broken, BadClause, ShortWitness, NumberTaken, Held, NoSuchNumber, ListFull, NoRoom, Spent, BadSize, NoSuchTree, ShortOutput, ShortList}
 use Rattle.tree.specs.declared.CallAnswer.{CallAnswer}
 use Rattle.tree.specs.declared.CallAnswer.the-variants.{Refused, Ready, Kept, Removed}
 use Rattle.readback.specs.Saved.{ofClauses}
@@ -27,15 +27,18 @@ use Rattle.readback.specs.declared.CheckAnswer.{CheckAnswer}
 use Rattle.readback.specs.declared.CheckAnswer.the-variants.{Failed, Passed}
 use Rattle.readback.specs.declared.ReadAnswer.{ReadAnswer}
 use Rattle.readback.specs.declared.ReadAnswer.the-variants.{Unread, Read}
+use Rattle.backward.specs.Calls.{backward}
+use Rattle.backward.specs.declared.BackAnswer.{BackAnswer}
+use Rattle.backward.specs.declared.BackAnswer.the-variants.{Unlisted, Listed}
 use Rattle.walk.specs.Ceiling.{ceilingCall}
 use Rattle.walk.specs.Query.{query}
 use Rattle.walk.specs.declared.QueryAnswer.{QueryAnswer}
 use Rattle.walk.specs.declared.QueryAnswer.the-variants.{Unanswered, Covered, NotCovered}
 use Rattle.walk.specs.declared.CeilingAnswer.{CeilingAnswer}
 use Rattle.walk.specs.declared.CeilingAnswer.the-variants.{Ceiling, NoCeiling}
-use Rattle.book.specs.Table.{saidCall, saidQuery, saidCeiling, saidCheck, saidRead}
+use Rattle.book.specs.Table.{saidCall, saidQuery, saidCeiling, saidCheck, saidRead, saidBack}
 use Rattle.interface.specs.Told.{numberOf, toldBy, replied}
-use Rattle.interface.specs.Calls.{ctFresh, ctInsert, ctRemove, ctQuery, ctCeiling, ctReadBack, ctCheck}
+use Rattle.interface.specs.Calls.{ctFresh, ctInsert, ctRemove, ctQuery, ctCeiling, ctReadBack, ctCheck, ctBackward}
 use Rattle.interface.specs.Claims.{ToldApart}
 
 -- ---- the answers that each call gives
@@ -108,7 +111,7 @@ answerOf done refused n ts =
     getD (
     done ∷ refused BadSlice ∷ refused Broken ∷ refused (BadClause BadLength) ∷ refused (BadClause (Bad v)) ∷ refused (BadClause (Ninth v))
     ∷ refused ShortWitness ∷ refused NumberTaken ∷ refused (Held v) ∷ refused NoSuchNumber ∷ refused ListFull ∷ refused NoRoom ∷ refused (Spent v)
-    ∷ refused BadSize ∷ refused NoSuchTree ∷ refused ShortOutput ∷ []
+    ∷ refused BadSize ∷ refused NoSuchTree ∷ refused ShortOutput ∷ refused ShortList ∷ []
     ) n done
 
 refusal-back : {A : Type 0} (done : A) (refused : Refusal → A) (r : Refusal) (t : ℕ) (ts : List ℕ)
@@ -129,6 +132,7 @@ refusal-back done refused (Spent c) t ts = refl
 refusal-back done refused BadSize t ts = refl
 refusal-back done refused NoSuchTree t ts = refl
 refusal-back done refused ShortOutput t ts = refl
+refusal-back done refused ShortList t ts = refl
 
 -- a refusal's code is not 0
 pub code-some : (r : Refusal) → codeOf r ≡ 0 → ⊥
@@ -186,6 +190,16 @@ read-back a [] h = absurd (omega arith)
 read-back (Unread r) (t ∷ ts) h = refusal-back _ Unread r t ts
 read-back (Read n) (t ∷ ts) h = refl
 
+listedOf : (number : ℕ) (told : List ℕ) → BackAnswer
+listedOf n ts = answerOf (Listed (getD ts 0 0) (getD ts 1 0)) Unlisted n ts
+
+back-back : (a : BackAnswer) (ts : List ℕ) → 3 ≤ length ts → listedOf (replied (saidBack a) ts .number) (replied (saidBack a) ts .told) ≡ a
+unfolding listedOf answerOf
+back-back a [] h = absurd (omega arith)
+back-back a (t ∷ []) h = absurd (omega arith)
+back-back (Unlisted r) (t ∷ u ∷ ts) h = refusal-back _ Unlisted r t (u ∷ ts)
+back-back (Listed n k) (t ∷ u ∷ ts) h = refl
+
 check-back : {a : CheckAnswer} → Checked a → answerOf Passed Failed (numberOf (saidCheck a .title)) [] ≡ a
 unfolding answerOf
 check-back passed = refl
@@ -201,7 +215,7 @@ pub query-apart : (a b : QueryAnswer) (ts us : List ℕ) → 3 ≤ length ts →
 query-apart a b ts us h k e f = sym (query-back a ts h) ∙ ap₂ askedOf e f ∙ query-back b us k
 
 pub told-apart : ToldApart
-unfolding ctFresh ctInsert ctRemove ctQuery ctCeiling ctReadBack ctCheck
+unfolding ctFresh ctInsert ctRemove ctQuery ctCeiling ctReadBack ctCheck ctBackward
 told-apart =
     record {
       freshened = λ T U e. sym (fresh-back (fresh-answers T)) ∙ ap (λ n. answerOf Ready Refused n []) e ∙ fresh-back (fresh-answers U);
@@ -211,5 +225,6 @@ told-apart =
       asked = λ T d b X ts U e a W us h k f g. query-apart (query T d b X .answer) (query U e a W .answer) ts us h k f g;
       bounded = λ k q m ts l r n us h i e f. sym (ceiling-back (ceilingCall k q m) ts h) ∙ ap₂ boundedOf e f ∙ ceiling-back (ceilingCall l r n) us i;
       read = λ T n X ts U m W us h k e f. sym (read-back (readBack T n X .answer) ts h) ∙ ap₂ readOf e f ∙ read-back (readBack U m W .answer) us k;
+      listed = λ T c b L ts U e a M us h k f g. sym (back-back (backward T c b L .answer) ts h) ∙ ap₂ listedOf f g ∙ back-back (backward U e a M .answer) us k;
       checked = λ T U e. sym (check-back (check-answers T)) ∙ ap (λ n. answerOf Passed Failed n []) e ∙ check-back (check-answers U);
     }

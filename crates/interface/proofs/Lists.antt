@@ -1,5 +1,5 @@
--- Lists of calls that C makes are lists of calls, and its queries say what these answer.
-use mathlib.Core.Path.{_≡_, refl, sym, ap, _∙_}
+-- Lists of calls that C makes are lists of calls, and its queries and listings say what these answer.
+use mathlib.Core.Path.{_≡_, refl, sym, ap, ap₂, _∙_}
 use mathlib.Core.Logic.{_↔_, _⊎_, inl, inr}
 use mathlib.Core.List.{List, [], _∷_, _++_, map}
 use Prim.Native.Nat.{ℕ, _≤_}
@@ -7,20 +7,24 @@ use native.Mathlib.Omega.{arith}
 use lib.ListN.{length, replicate, length-replicate}
 use Rattle.tree.specs.Entries.{Pair}
 use Rattle.tree.specs.Calls.{fresh}
-use Rattle.tree.specs.declared.Refusal.the-variants.{Spent}
+use Rattle.tree.specs.declared.Refusal.the-variants.{Spent, ShortList}
 use Rattle.tree.specs.declared.CallAnswer.{CallAnswer}
 use Rattle.tree.specs.declared.CallAnswer.the-variants.{Ready, Kept, Removed}
 use Rattle.readback.specs.Calls.{check, readBack}
 use Rattle.readback.specs.declared.CheckAnswer.{CheckAnswer}
 use Rattle.readback.specs.declared.CheckAnswer.the-variants.{Failed, Passed}
 use Rattle.readback.specs.declared.ReadAnswer.{ReadAnswer}
+use Rattle.backward.specs.Calls.{Backed, unlisted, backward}
+use Rattle.backward.specs.Laws.{SpentAt, FullAt, ListsKept, triesOf}
+use Rattle.backward.specs.declared.BackAnswer.{BackAnswer}
+use Rattle.backward.specs.declared.BackAnswer.the-variants.{Listed}
 use Rattle.walk.specs.Ceiling.{fullBudget, enoughBudget}
 use Rattle.walk.specs.Query.{witnessWords, query}
 use Rattle.walk.specs.Covering.{IsCovered, IsNotCovered, IsSpent, Answers}
 use Rattle.walk.specs.declared.QueryAnswer.{QueryAnswer}
 use Rattle.walk.specs.declared.QueryAnswer.the-variants.{Unanswered, Covered, NotCovered}
 use Rattle.walk.proofs.Covering.{decided-fits}
-use Rattle.book.specs.Table.{saidCall, saidQuery, saidCheck, saidRead, givenBack}
+use Rattle.book.specs.Table.{saidCall, saidQuery, saidCheck, saidRead, givenBack, backed}
 use Rattle.book.specs.Book.{Call, insert, remove, call, done, after, sliceOf, bookOf, treeOf}
 use Rattle.book.specs.Claims.{Run, Reached, Together, Same, Exact}
 use Rattle.book.proofs.Reach.{reach, demand2}
@@ -29,11 +33,12 @@ use Rattle.book.specs.Saved.{insertAll}
 use Rattle.readback.specs.Laws.{ReadsKept}
 use Rattle.book.proofs.Exact.{exact-count}
 use Rattle.book.proofs.Saved.{reach-saved, passed-saved, saved-is-made, reads-book}
+use Rattle.book.proofs.Backward.{lists-book}
 use Rattle.interface.specs.Told.{numberOf, shownAs, replied}
-use Rattle.interface.specs.Calls.{Handed, handed, ctFresh, ctInsert, ctRemove, ctQuery, ctReadBack, ctCheck}
+use Rattle.interface.specs.Calls.{Handed, handed, ctFresh, ctInsert, ctRemove, ctQuery, ctReadBack, ctCheck, ctBackward}
 use Rattle.interface.specs.Claims.{Made, ctCall, ctAfter, ctTree, callsMade, CtRun, CtReach}
 use Rattle.interface.specs.Claims.{Says, SaysCovered, SaysNot, SaysSpent, needed, CtAnswers, CtDemand2, CtSame, CtCovered, CtDemand3, CtExact, CtExactCount}
-use Rattle.interface.specs.Claims.{CtChecked, CtReadsBook, CtSavedIsMade}
+use Rattle.interface.specs.Claims.{CtChecked, CtReadsBook, CtSavedIsMade, Lists, ListsSpent, ListsFull, queried, CtLists, CtListsBook}
 use Rattle.interface.proofs.Differ.{Freshened, ready, bad-slice, Inserted, kept, refusal, Taken, removed, broken, no-such}
 use Rattle.interface.proofs.Differ.{fresh-answers, insert-answers, remove-answers, code-some, query-apart}
 
@@ -288,3 +293,76 @@ ct-saved-is-made T K I xs f =
       words = tree-words T (silent (insertAll K) ++ xs) ∙ ap (sliceOf T) e ∙ r .slice ∙ sym (after-words T xs);
       book = ap (bookOf (length T)) e ∙ r .book;
     }
+
+-- ---- listing backward
+
+module _ {T : List ℕ} {K : List Pair} {c : List ℕ} {b : ℕ} {L : List ℕ} (B : ListsKept T K c b L) (ts : List ℕ) where
+  abbrev listing : Backed
+  listing = backward T c b L
+
+  abbrev out : Handed
+  out = handed (backed listing) ts
+
+  abbrev tries : ℕ
+  tries = triesOf c (queried K)
+
+  -- what comes out
+
+  lists : (n k : ℕ) → listing .answer ≡ Listed n k → Lists out L ts (B .numbers) tries
+  lists n k e =
+      let (r, m, f, g) = B .answered n k .0 e in
+      ap₂ (λ (a : BackAnswer) (l : List ℕ). handed (backed (record { answer = a; list = l })) ts) (e ∙ ap₂ Listed f g) (B .list n k e)
+
+  lists-spent : listing ≡ unlisted (Spent b) L → ListsSpent out L ts b
+  lists-spent e = ap (λ y. handed (backed y) ts) e
+
+  lists-full : listing ≡ unlisted ShortList L → ListsFull out L ts
+  lists-full e = ap (λ y. handed (backed y) ts) e
+
+  -- which of the three it is, by its number
+
+  number-of : {r : Handed} → out ≡ r → out .number ≡ r .number
+  number-of e = ap (λ (y : Handed). y .number) e
+
+  abbrev Kinds : Type 0
+  Kinds = ((n : ℕ) × (k : ℕ) × (listing .answer ≡ Listed n k)) ⊎ ((listing ≡ unlisted (Spent b) L) ⊎ (listing ≡ unlisted ShortList L))
+
+  was-listed : Kinds → out .number ≡ 0 → (length (B .numbers) ≤ length L) × (tries ≤ b)
+  was-listed (inl (n, k, a)) e = let (r, m, f, g) = B .answered n k .0 a in (r, m)
+  was-listed (inr (inl s)) e = absurd (omega (arith, e, number-of (lists-spent s)))
+  was-listed (inr (inr u)) e = absurd (omega (arith, e, number-of (lists-full u)))
+
+  was-spent : Kinds → out .number ≡ 12 → SpentAt c b L (queried K)
+  was-spent (inl (n, k, a)) e = absurd (omega (arith, e, number-of (lists n k a)))
+  was-spent (inr (inl s)) e = B .spent .0 s
+  was-spent (inr (inr u)) e = absurd (omega (arith, e, number-of (lists-full u)))
+
+  was-full : Kinds → out .number ≡ 16 → FullAt c b L (queried K)
+  was-full (inl (n, k, a)) e = absurd (omega (arith, e, number-of (lists n k a)))
+  was-full (inr (inl s)) e = absurd (omega (arith, e, number-of (lists-spent s)))
+  was-full (inr (inr u)) e = B .full .0 u
+
+  list-kinds : Kinds → Lists out L ts (B .numbers) tries ⊎ (ListsSpent out L ts b ⊎ ListsFull out L ts)
+  list-kinds (inl (n, k, a)) = inl (lists n k a)
+  list-kinds (inr (inl s)) = inr (inl (lists-spent s))
+  list-kinds (inr (inr u)) = inr (inr (lists-full u))
+
+  ct-lists : CtLists K c b L ts out
+  ct-lists =
+      record {
+        numbers = B .numbers;
+        exactly = B .exactly;
+        rise = B .rise;
+        listed = (
+          λ e. was-listed (B .kinds) (number-of e),
+          λ u. lists (length (B .numbers)) tries (B .answered (length (B .numbers)) tries .1 (u .0, u .1, refl, refl)),
+        );
+        spent = (λ e. was-spent (B .kinds) (number-of e), λ s. lists-spent (B .spent .1 s));
+        full = (λ e. was-full (B .kinds) (number-of e), λ u. lists-full (B .full .1 u));
+        kinds = list-kinds (B .kinds);
+        enough = B .enough;
+      }
+
+pub ct-lists-book : CtListsBook
+unfolding ctBackward
+ct-lists-book T xs R c C w b L ts = rw (tree-words T xs) (ct-lists (lists-book T (callsMade xs) (run-of T xs R) c C w b L) ts)

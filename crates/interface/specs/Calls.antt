@@ -5,10 +5,11 @@ use Rattle.tree.specs.Calls.{fresh, insertion, removal}
 use Rattle.walk.specs.Query.{query}
 use Rattle.walk.specs.Ceiling.{ceilingCall}
 use Rattle.readback.specs.Calls.{check, readBack}
-use Rattle.book.specs.Table.{Result, saidCeiling, saidCheck, called, asked, givenBack}
+use Rattle.backward.specs.Calls.{backward}
+use Rattle.book.specs.Table.{Result, saidCeiling, saidCheck, called, asked, givenBack, backed}
 use Rattle.interface.specs.Told.{numberOf, Reply, replied}
 
--- the number returned, and the words of the tree, the witness or the output afterwards
+-- the number returned, and the words of the tree, the witness, the output or the list afterwards
 pub record Left : Type 0 where
   pub number : ℕ
   pub words : List ℕ
@@ -54,3 +55,7 @@ ctReadBack T n W ts = handed (givenBack (readBack T n W)) ts
 -- checking a tree, which leaves it: the number returned
 unfoldable pub ctCheck : (tree : List ℕ) → ℕ
 ctCheck T = numberOf (saidCheck (check T) .title)
+
+-- listing backward, which leaves the tree
+unfoldable pub ctBackward : (tree clause : List ℕ) (budget : ℕ) (list told : List ℕ) → Handed
+ctBackward T c b L ts = handed (backed (backward T c b L)) ts

@@ -1,13 +1,14 @@
--- What is claimed of the calls that C makes: lists of calls, queries, checks and clauses read back after them, in terms of the numbers returned and the
--- words told.
+-- What is claimed of the calls that C makes: lists of calls, queries, checks, clauses read back and listed after them, in terms of the numbers returned
+-- and the words told.
 use mathlib.Core.Path.{_≡_}
 use mathlib.Core.Logic.{_↔_, _≢_, _⊎_}
 use mathlib.Core.Option.{Option}
 use mathlib.Core.List.{List, [], _∷_, map, List·Memᴰ}
 use Prim.Native.Nat.{ℕ, _*_, _≤_, _<_}
 use lib.ListN.{length}
+use Rattle.clause.specs.Lists.{Each}
 use Rattle.clause.specs.Word.{Words}
-use Rattle.clause.specs.Clause.{Accepted, literals, maxWords}
+use Rattle.clause.specs.Clause.{Accepted, Subsumes, literals, maxWords}
 use Rattle.tree.specs.Keys.{firstKey}
 use Rattle.tree.specs.Forest.{layout}
 use Rattle.tree.specs.Entries.{Pair}
@@ -15,13 +16,16 @@ use Rattle.tree.specs.Calls.{fresh, insertion, removal}
 use Rattle.readback.specs.Readback.{normal}
 use Rattle.readback.specs.Saved.{IsTreeOf, IsSaved}
 use Rattle.readback.specs.Calls.{check, over, readBack}
+use Rattle.backward.specs.Listing.{rising}
+use Rattle.backward.specs.Calls.{backward}
+use Rattle.backward.specs.Laws.{asRead, triesOf, SpentAt, FullAt}
 use Rattle.walk.specs.Ceiling.{ceiling, arrangements, fullBudget, enoughBudget, ceilingCall}
 use Rattle.walk.specs.Query.{witnessWords, withShown, query}
 use Rattle.walk.specs.Covering.{most, Units, Subsumed, Shows, Untouched, candidates}
 use Rattle.book.specs.Book.{Call, insert, remove, Fit, AllFit, bookStep, bookFrom, bookOf, treeOf}
 use Rattle.book.specs.Claims.{Under, Renamed}
 use Rattle.interface.specs.Told.{toldBy}
-use Rattle.interface.specs.Calls.{Left, Handed, ctFresh, ctInsert, ctRemove, ctQuery, ctCeiling, ctReadBack, ctCheck}
+use Rattle.interface.specs.Calls.{Left, Handed, ctFresh, ctInsert, ctRemove, ctQuery, ctCeiling, ctReadBack, ctCheck, ctBackward}
 
 -- ---- lists of calls
 
@@ -198,6 +202,45 @@ pub record CtResumed (T : List ℕ) (K : List Pair) (xs : List Made) : Type 0 wh
 abbrev pub CtSavedIsMade : Type 0
 CtSavedIsMade = (T : List ℕ) (K : List Pair) → IsTreeOf T K → (xs : List Made) → AllFit (callsMade xs) → CtResumed T K xs
 
+-- ---- listing backward
+
+-- 0 is returned with these numbers over the list's first words, and told how many and how many candidates; the list's further words stay
+abbrev pub Lists : Handed → (list told numbers : List ℕ) (candidates : ℕ) → Type 0
+Lists r L ts ns k = r ≡ record { number = 0; words = over ns L; told = toldBy (length ns ∷ k ∷ []) ts }
+
+-- 12 with the budget told, and 16 with nothing told; no word of the list is written
+abbrev pub ListsSpent : Handed → (list told : List ℕ) (budget : ℕ) → Type 0
+ListsSpent r L ts b = r ≡ record { number = 12; words = L; told = toldBy (b ∷ []) ts }
+
+abbrev pub ListsFull : Handed → (list told : List ℕ) → Type 0
+ListsFull r L ts = r ≡ record { number = 16; words = L; told = ts }
+
+-- the kept clauses as they are read back, by rising number
+abbrev pub queried : List Pair → List Pair
+queried K = rising (map asRead K)
+
+-- what ct_backward hands over for the clause c, the budget b, the list L and the told words ts, where the pairs K are kept
+pub record CtLists (K : List Pair) (c : List ℕ) (b : ℕ) (L ts : List ℕ) (r : Handed) : Type 0 where
+  -- the numbers that are to be listed: exactly those of the pairs whose clause c subsumes; they rise, so that each stands once
+  pub numbers : List ℕ
+  pub exactly : (n : ℕ) → List·Memᴰ n numbers ↔ ((p : Pair) × List·Memᴰ p K × (p .number ≡ n) × Subsumes c (p .clause))
+  pub rise : Each _<_ numbers
+  -- they are listed, with the candidates in all, exactly if list and budget are enough
+  pub listed : Lists r L ts numbers (triesOf c (queried K)) ↔ ((length numbers ≤ length L) × (triesOf c (queried K) ≤ b))
+  -- 12 and 16 come exactly where they are met, going by rising number
+  pub spent : ListsSpent r L ts b ↔ SpentAt c b L (queried K)
+  pub full : ListsFull r L ts ↔ FullAt c b L (queried K)
+  -- one of the three, and never anything else
+  pub kinds : Lists r L ts numbers (triesOf c (queried K)) ⊎ (ListsSpent r L ts b ⊎ ListsFull r L ts)
+  -- a budget that is enough for every query is enough for the listing
+  pub enough : triesOf c (queried K) ≤ enoughBudget
+
+-- the claim, for every list of calls and every accepted clause, whose words have 16 bits
+abbrev pub CtListsBook : Type 0
+CtListsBook =
+    (T : List ℕ) (xs : List Made) → CtRun T xs → (c : List ℕ) → Accepted c → Words c → (b : ℕ) (L ts : List ℕ)
+    → CtLists (ctBook T xs) c b L ts (ctBackward (ctTree T xs) c b L ts)
+
 -- ---- nothing is lost on the way out
 
 -- two different answers of a function differ in the number returned or, with three told words or more, in the told words
@@ -220,4 +263,8 @@ pub record ToldApart : Type 0 where
       (T : List ℕ) (n : ℕ) (X ts U : List ℕ) (m : ℕ) (W us : List ℕ) → 3 ≤ length ts → 3 ≤ length us
       → ctReadBack T n X ts .number ≡ ctReadBack U m W us .number → ctReadBack T n X ts .told ≡ ctReadBack U m W us .told
       → readBack T n X .answer ≡ readBack U m W .answer
+  pub listed :
+      (T c : List ℕ) (b : ℕ) (L ts U e : List ℕ) (a : ℕ) (M us : List ℕ) → 3 ≤ length ts → 3 ≤ length us
+      → ctBackward T c b L ts .number ≡ ctBackward U e a M us .number → ctBackward T c b L ts .told ≡ ctBackward U e a M us .told
+      → backward T c b L .answer ≡ backward U e a M .answer
   pub checked : (T U : List ℕ) → ctCheck T ≡ ctCheck U → check T ≡ check U

@@ -1,7 +1,7 @@
 -- How an answer is handed over: one number is returned, and values are told in lent words.
 use mathlib.Core.List.{List, [], _∷_}
 use Prim.Native.Nat.{ℕ}
-use Rattle.book.specs.Table.{Title, Said, ready, kept, removed, is-covered, is-not-covered, returned, passed, read, code}
+use Rattle.book.specs.Table.{Title, Said, ready, kept, removed, is-covered, is-not-covered, returned, passed, read, listed, code}
 
 -- the number returned: a refusal's code, else 0
 abbrev pub numberOf : Title → ℕ
@@ -13,6 +13,7 @@ numberOf is-not-covered = 0
 numberOf returned = 0
 numberOf passed = 0
 numberOf read = 0
+numberOf listed = 0
 numberOf (code n) = n
 
 -- the values told: those of the answer, after 1 for "covered", or after 0 and 0 in place of a clause's number for "not covered"
@@ -25,6 +26,7 @@ shownAs is-not-covered vs = 0 ∷ 0 ∷ vs
 shownAs returned vs = vs
 shownAs passed vs = vs
 shownAs read vs = vs
+shownAs listed vs = vs
 shownAs (code n) vs = vs
 
 -- the values over the first words as far as these reach, the rest as before

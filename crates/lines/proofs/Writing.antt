@@ -6,11 +6,13 @@ use Prim.Native.Nat.{ℕ, zero, suc, _+_, _/_, _%_, _^_, _≤_, _<_}
 use native.Mathlib.Omega.{arith}
 use native.Mathlib.Decide.{decLt}
 use native.Mathlib.Numerals.{add-one}
-use lib.ListN.{length, take, drop, getD, length-append, set}
-use lib.Seq.{sets, sets-eq, set-comm, length-sets, take-suc, take-at, length-take-le}
+use lib.ListN.{length, take, drop, getD, length-append, drop-of-length-le, set}
+use lib.Seq.{sets, sets-eq, set-comm, length-sets, take-suc, take-at, drop-cons, length-take-le}
 use borrow.Author.Tests.{lt-ltb, le-ltb}
 use Rattle.record.specs.Text.{digitsFor, decimal, Written, putAt}
-use Rattle.record.specs.Line.{named}
+use Rattle.record.specs.Line.{named, saysRemoved, removalLine, removalLines, saysTaken}
+use Rattle.record.specs.declared.Setting.{Setting}
+use Rattle.record.specs.declared.Setting.the-variants.{Plain, Back}
 
 -- one digit, or the digits before the last one and the last one
 digits-small : (f n : ℕ) → n < 10 → digitsFor (suc f) n ≡ (48 + n) ∷ []
@@ -50,6 +52,10 @@ sets-append (b ∷ s) t o at = let e : at + suc (length s) ≡ suc at + length s
 
 pub putAt-append : (s t o : List ℕ) (at : ℕ) → putAt (s ++ t) o at ≡ putAt t (putAt s o at .output) (putAt s o at .next)
 putAt-append s t o at = rw (length-append, sets-append s t o at) (let e : at + (length s + length t) ≡ (at + length s) + length t = omega arith in rw e)
+
+-- no text
+pub put-none : (o : List ℕ) (at : ℕ) → putAt [] o at ≡ record { next = at; output = o }
+put-none o at = let e : at + 0 ≡ at = omega arith in rw e
 
 -- the place after some text, and the output's length
 pub placed : (t o : List ℕ) (at : ℕ) {r : ℕ} {p : List ℕ} → _≡_ {A = Written} (record { next = r; output = p }) (putAt t o at)
@@ -133,3 +139,22 @@ decimal-length (suc k) n h = go (decLt n 10) (decimal-length k (n / 10))
 pub named-put : (t : List ℕ) (k n : ℕ) → n < 10 ^ suc k → (o : List ℕ) (at : ℕ) {r : ℕ} {p : List ℕ}
     → _≡_ {A = Written} (record { next = r; output = p }) (putAt (named t n) o at) → (r ≤ at + length t + suc k) × (length p ≡ length o)
 named-put t k n h o at e = let q = placed (named t n) o at e in (omega (arith, length-append t (decimal n), decimal-length k n h, q .0), q .1)
+
+-- how many were removed, at the end of the line of totals, takes at most 29 bytes
+pub taken-length : (s : Setting) (n : ℕ) → n < 10 ^ 20 → length (saysTaken s n) ≤ 29
+taken-length Plain n h = omega arith
+taken-length Back n h = omega (arith, length-append saysRemoved (decimal n), decimal-length 19 n h)
+
+-- ---- the lines of removals, one after another
+
+-- the line of a number, and then those of the numbers after it
+pub removals-more : (by : ℕ) (ns o : List ℕ) (at i : ℕ) {r : ℕ} {p : List ℕ} → i < length ns
+    → _≡_ {A = Written} (record { next = r; output = p }) (putAt (removalLine by (getD ns i 0)) o at)
+    → putAt (removalLines by (drop i ns)) o at ≡ putAt (removalLines by (drop (i + 1) ns)) p r
+unfolding removalLines
+removals-more by ns o at i h e = rw (drop-cons ns i 0 h, add-one) (sym (joined (removalLine by (getD ns i 0)) (removalLines by (drop (suc i) ns)) o at e refl))
+
+-- none is left
+pub removals-all : (by : ℕ) (ns o : List ℕ) (at i : ℕ) → length ns ≤ i → putAt (removalLines by (drop i ns)) o at ≡ record { next = at; output = o }
+unfolding removalLines
+removals-all by ns o at i h = rw (drop-of-length-le ns {i = i} h) (put-none o at)

@@ -3,12 +3,13 @@ use crate::text::put_decimal;
 use crate::text::put_named;
 use crate::text::put_text;
 use record::Outcome;
+use record::Setting;
 use record::Totals;
 ghost use mathlib.Core.Path.{_≡_};
 ghost use Prim.Native.Nat.{_+_, _≤_};
 ghost use lib.ListN.{length};
 ghost use Rattle.record.specs.Text.{putAt};
-ghost use Rattle.record.specs.Line.{longestSaying, longestLine, longestTotals, saying, lineOf, totalsLine};
+ghost use Rattle.record.specs.Line.{longestSaying, longestLine, longestTotals, saying, lineOf, saysTaken, totalsLine};
 
 // Puts what became of a record at a place of the output, and gives the place after it. It takes at most `longestSaying` bytes.
 fn put_outcome(output: &mut [u8], at: usize, outcome: Outcome) -> usize
@@ -37,14 +38,26 @@ pub fn put_line(output: &mut [u8], at: usize, number: u16, outcome: Outcome) -> 
     put_text(output, end, b"\n")
 }
 
+// Puts how many were removed at a place of the output, only with backward striking, and gives the place after it.
+fn put_taken(output: &mut [u8], at: usize, setting: Setting, removed: u64) -> usize
+    requires { ⌜ at + length (saysTaken setting removed) ≤ length (now output) ⌝ }
+    ensures { λ r. ⌜ record { next = r; output = now (output .exit) } ≡ putAt (saysTaken setting removed) (now (output .entry)) at ⌝ }
+{
+    match setting {
+        Setting::Plain => at,
+        Setting::Back => put_named(output, at, b" removed ", removed),
+    }
+}
+
 // Puts the line of totals at a place of the output, and gives the place after it. It takes at most `longestTotals` bytes.
-pub fn put_totals(output: &mut [u8], at: usize, totals: Totals) -> usize
+pub fn put_totals(output: &mut [u8], at: usize, setting: Setting, totals: Totals) -> usize
     requires { ⌜ at + longestTotals ≤ length (now output) ⌝ }
-    ensures text { λ r. ⌜ record { next = r; output = now (output .exit) } ≡ putAt (totalsLine totals) (now (output .entry)) at ⌝ }
+    ensures text { λ r. ⌜ record { next = r; output = now (output .exit) } ≡ putAt (totalsLine setting totals) (now (output .entry)) at ⌝ }
     ensures short { λ r. ⌜ r ≤ at + longestTotals ⌝ }
 {
     let struck = put_named(output, at, b"kept ", totals.kept);
     let refused = put_named(output, struck, b" struck ", totals.struck);
-    let end = put_named(output, refused, b" refused ", totals.refused);
+    let removed = put_named(output, refused, b" refused ", totals.refused);
+    let end = put_taken(output, removed, setting, totals.removed);
     put_text(output, end, b"\n")
 }

@@ -1,5 +1,4 @@
 // Merging: where the keys of a sequence lead in the words of a well-laid slice, and their words put in there, in place.
-use crate::moves::open_up;
 use machine::Key;
 use tree::CallAnswer;
 use tree::Refusal;
@@ -17,6 +16,8 @@ ghost use Rattle.tree.specs.inner.ByWords.{insertAt};
 ghost use Rattle.merging.specs.inner.Inserting.{holderOf, Nested, LeadsTo, Mergeable, Writable};
 
 mod moves;
+
+pub use moves::open_up;
 
 // Who keeps a sequence: no clause, or the one with this number.
 pub enum Holder {

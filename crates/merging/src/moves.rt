@@ -6,7 +6,7 @@ ghost use lib.ListN.{length, take};
 
 // Moves the words `gap` to the right, over the last ones; the first `gap` words stay as they are.
 // The caller's words are at least so many.
-pub(crate) fn open_up(words: &mut [u64], gap: usize)
+pub fn open_up(words: &mut [u64], gap: usize)
     requires { ⌜ gap ≤ length (now words) ⌝ }
     ensures { λ _. ⌜ now (words .exit) ≡ take gap (now (words .entry)) ++ take (length (now (words .entry)) - gap) (now (words .entry)) ⌝ }
 {

@@ -27,12 +27,12 @@ blocks-are rs (suc k) n =
 
 pub in-blocks : InBlocks
 unfolding tallySheetOf tallyOf
-in-blocks input = ap (λ (t : List ℕ). t ++ recordsLine (length (recordsOf input))) (blocks-are (rowsOf input) tallyBlocks 0)
+in-blocks v input = ap (λ (t : List ℕ). t ++ recordsLine (length (recordsOf input))) (blocks-are (rowsOf v input) tallyBlocks 0)
 
 -- a block that marks and counters show
 pub shows-block : (m c : List ℕ) (n : ℕ) {t : List ℕ} → n + blockNumbers ≤ numberCount → t ≡ tallyLines (shownFrom m c n blockNumbers) → ShowsBlock m c n t
-shows-block m c n h e input b l i j =
-    let s = whole-input .shows input b l n blockNumbers h in
+shows-block m c n h e v input b l i j =
+    let s = whole-input .shows v input b l n blockNumbers h in
     e ∙ ap (λ (ts : List TallyRow). tallyLines ts) (rw (i, j) at s)
 
 -- ---- block after block

@@ -2,25 +2,26 @@
 use mathlib.Core.Path.{_≡_, refl, sym, ap, ap₂, _∙_}
 use mathlib.Core.Bool.{Bool, true, false, _&&_, _||_}
 use mathlib.Core.List.{List, [], _∷_, map}
-use Prim.Native.Nat.{ℕ, suc, _+_, _*_, _≤_, _<_}
+use Prim.Native.Nat.{ℕ, zero, suc, _+_, _*_, _≤_, _<_}
 use native.Mathlib.Omega.{arith}
-use native.Mathlib.Decide.{ℕ-discrete}
+use native.Mathlib.Decide.{ℕ-discrete, decLt}
 use native.Mathlib.Nat.{min-eq-left, suc-mul}
 use lib.Dec.{ltb, eqb}
 use lib.ListN.{length, getD, set, replicate, length-set, length-replicate, getD-replicate}
-use lib.Seq.{getD-set-same, getD-set-other}
-use borrow.Author.Tests.{eq-eqb, ne-eqb}
+use lib.Seq.{getD-set-same, getD-set-other, set-out}
+use borrow.Author.Tests.{eq-eqb, ne-eqb, lt-ltb}
 use Rattle.clause.specs.Lists.{All, none, also}
 use Rattle.tree.specs.Entries.{Pair}
 use Rattle.record.specs.Answer.{budget, Record}
-use Rattle.record.specs.Marks.{numberCount, marked}
+use Rattle.record.specs.Marks.{numberCount, freed, freeing, marked}
 use Rattle.record.specs.Output.{Row}
 use Rattle.record.specs.Tally.{wasKept, spentOn, everKept, struckBy, total, spent, tallyRow, tallyFrom}
 use Rattle.record.specs.Counters.{counterWords, mostCounted, strikesAt, candidatesAt, raised, countersAfter, rowShown, shownFrom}
 use Rattle.record.specs.Tallies.{mostBytes}
+use Rattle.record.specs.declared.Setting.{Setting}
 use Rattle.record.specs.declared.Outcome.{Outcome}
 use Rattle.record.specs.declared.Outcome.the-variants.{Kept, Struck, Refused}
-use Rattle.record.proofs.Ruling.{Fate, refuses, strikes, keeps}
+use Rattle.record.proofs.Ruling.{Course, refuses, strikes, keeps}
 use Rattle.record.proofs.Rows.{Fated, fated-none, fated-more}
 use Rattle.record.proofs.Passing.{passing-same}
 use Rattle.record.proofs.Striking.{Strike, struck, other, strike, struck-more, struck-same, weightBy, weigh-one}
@@ -28,7 +29,7 @@ use Rattle.record.proofs.Striking.{Strike, struck, other, strike, struc
 -- the marks and the counters after some rows
 abbrev pub marksWith : List ℕ → List Row → List ℕ
 marksWith m [] = m
-marksWith m (r ∷ rs) = marksWith (marked (r .outcome) (r .of .number) m) rs
+marksWith m (r ∷ rs) = marksWith (marked (r .outcome) (r .of .number) (r .removed) m) rs
 
 abbrev pub countersWith : List ℕ → List Row → List ℕ
 countersWith c [] = c
@@ -81,24 +82,47 @@ or-none : (b : Bool) → b ≡ (b || false)
 or-none true = refl
 or-none false = refl
 
--- a mark
-one-mark : (n x : ℕ) (o : Outcome) (m : List ℕ) → n < length m → ltb 0 (getD (marked o x m) n 0) ≡ (ltb 0 (getD m n 0) || (wasKept o && eqb x n))
-one-mark n x (Struck i k) m h = or-none (ltb 0 (getD m n 0))
-one-mark n x (Refused code) m h = or-none (ltb 0 (getD m n 0))
-one-mark n x (Kept used) m h = go (ℕ-discrete x n)
+-- ---- one mark
+
+-- what a removal leaves of the marks: each is above 0 as before
+free-one : (n k : ℕ) (m : List ℕ) → ltb 0 (getD (set m k (freed (getD m k 0))) n 0) ≡ ltb 0 (getD m n 0)
+free-one n k m = go (ℕ-discrete n k) (decLt k (length m))
+  where
+    above : (i : ℕ) → ltb 0 (freed i) ≡ ltb 0 i
+    above zero = refl
+    above (suc i) = sym (lt-ltb 0 (suc i) (omega arith))
+
+    go : Dec (n ≡ k) → Dec (k < length m) → ltb 0 (getD (set m k (freed (getD m k 0))) n 0) ≡ ltb 0 (getD m n 0)
+    go (no e) d = ap (ltb 0) (getD-set-other m k n _ 0 e)
+    go (yes e) (yes l) = rw (e, getD-set-same m k (freed (getD m k 0)) 0 l) (above (getD m k 0))
+    go (yes e) (no l) = ap (λ (c : List ℕ). ltb 0 (getD c n 0)) (set-out m k (freed (getD m k 0)) (omega arith))
+
+pub free-marked : (n : ℕ) (ns m : List ℕ) → ltb 0 (getD (freeing ns m) n 0) ≡ ltb 0 (getD m n 0)
+free-marked n [] m = refl
+free-marked n (k ∷ ns) m = free-marked n ns (set m k (freed (getD m k 0))) ∙ free-one n k m
+
+pub length-freeing : (ns m : List ℕ) → length (freeing ns m) ≡ length m
+length-freeing [] m = refl
+length-freeing (n ∷ ns) m = length-freeing ns (set m n (freed (getD m n 0))) ∙ length-set m n _
+
+one-mark : (n x : ℕ) (ns : List ℕ) (o : Outcome) (m : List ℕ) → n < length m → ltb 0 (getD (marked o x ns m) n 0) ≡ (ltb 0 (getD m n 0) || (wasKept o && eqb x n))
+one-mark n x ns (Struck i k) m h = or-none (ltb 0 (getD m n 0))
+one-mark n x ns (Refused code) m h = or-none (ltb 0 (getD m n 0))
+one-mark n x ns (Kept used) m h = go (ℕ-discrete x n)
   where
     or-all : (b : Bool) → true ≡ (b || true)
     or-all true = refl
     or-all false = refl
 
-    go : Dec (x ≡ n) → ltb 0 (getD (set m x 1) n 0) ≡ (ltb 0 (getD m n 0) || eqb x n)
-    go (yes e) = rw (eq-eqb x n e, e, getD-set-same m n 1 0 h) (or-all (ltb 0 (getD m n 0)))
-    go (no e) = rw (ne-eqb x n e, getD-set-other m x n 1 0 (λ i. e (sym i))) (or-none (ltb 0 (getD m n 0)))
+    go : Dec (x ≡ n) → ltb 0 (getD (set (freeing ns m) x 1) n 0) ≡ (ltb 0 (getD m n 0) || eqb x n)
+    go (yes e) = rw (eq-eqb x n e, e, getD-set-same (freeing ns m) n 1 0 (omega (arith, length-freeing ns m))) (or-all (ltb 0 (getD m n 0)))
+    go (no e) =
+        rw (ne-eqb x n e, getD-set-other (freeing ns m) x n 1 0 (λ i. e (sym i))) (free-marked n ns m ∙ or-none (ltb 0 (getD m n 0)))
 
-length-marked : (o : Outcome) (x : ℕ) (m : List ℕ) → length (marked o x m) ≡ length m
-length-marked (Kept used) x m = length-set m x 1
-length-marked (Struck n k) x m = refl
-length-marked (Refused code) x m = refl
+pub length-marked : (o : Outcome) (x : ℕ) (ns m : List ℕ) → length (marked o x ns m) ≡ length m
+length-marked (Kept used) x ns m = length-set (freeing ns m) x 1 ∙ length-freeing ns m
+length-marked (Struck n k) x ns m = refl
+length-marked (Refused code) x ns m = refl
 
 -- ---- some records
 
@@ -152,8 +176,8 @@ candidates-weigh n =
 marks-kept : (n : ℕ) (rs : List Row) (m : List ℕ) → n < length m → ltb 0 (getD (marksWith m rs) n 0) ≡ (ltb 0 (getD m n 0) || everKept n rs)
 marks-kept n [] m h = or-none (ltb 0 (getD m n 0))
 marks-kept n (r ∷ rs) m h =
-    marks-kept n rs (marked (r .outcome) (r .of .number) m) (omega (arith, length-marked (r .outcome) (r .of .number) m))
-    ∙ ap (λ (b : Bool). b || everKept n rs) (one-mark n (r .of .number) (r .outcome) m h)
+    marks-kept n rs (marked (r .outcome) (r .of .number) (r .removed) m) (omega (arith, length-marked (r .outcome) (r .of .number) (r .removed) m))
+    ∙ ap (λ (b : Bool). b || everKept n rs) (one-mark n (r .of .number) (r .removed) (r .outcome) m h)
     ∙ or-assoc (ltb 0 (getD m n 0)) (wasKept (r .outcome) && eqb (r .of .number) n) (everKept n rs)
   where
     or-assoc : (a b c : Bool) → ((a || b) || c) ≡ (a || (b || c))
@@ -163,14 +187,14 @@ marks-kept n (r ∷ rs) m h =
 -- ---- no counter reaches its end
 
 -- a strike takes no more candidates than the budget
-fate-spent : {K L : List Pair} {x : Record} {o : Outcome} → Fate K x o L → spentOn o ≤ budget
-fate-spent (refuses r) = omega arith
-fate-spent (strikes s) = omega (arith, s .count, s .decided .fits)
-fate-spent (keeps t) = omega arith
+course-spent : {K L M : List Pair} {x : Record} {ns : List ℕ} {o : Outcome} {ms : List ℕ} → Course K L x ns o ms M → spentOn o ≤ budget
+course-spent (refuses r) = omega arith
+course-spent (strikes s) = omega (arith, s .count, s .decided .fits)
+course-spent (keeps t) = omega arith
 
-pub fated-spent : {K : List Pair} {rs : List Row} → Fated K rs → All (λ r. spentOn (r .outcome) ≤ budget) rs
+pub fated-spent : {v : Setting} {K : List Pair} {rs : List Row} → Fated v K rs → All (λ r. spentOn (r .outcome) ≤ budget) rs
 fated-spent fated-none = none
-fated-spent (fated-more {r = r} e f) = also {x = r} (fate-spent e) (fated-spent f)
+fated-spent (fated-more {r = r} h e f) = also {x = r} (course-spent (e .course)) (fated-spent f)
 
 -- the strikes of a number weigh no more than as many of the heaviest as there are records
 weight-few : (n b : ℕ) (w : Row → ℕ) {rs : List Row} → All (λ r. w r ≤ b) rs → weightBy w rs n ≤ length rs * b

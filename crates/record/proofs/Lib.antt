@@ -1,5 +1,7 @@
+pub mod Clearing
 pub mod Reading
 pub mod Ruling
+pub mod Entering
 pub mod Rows
 pub mod Passing
 pub mod Striking

@@ -3,181 +3,303 @@ use mathlib.Core.Path.{_≡_, refl, sym, ap, subst, _∙_}
 use mathlib.Core.Logic.{_⊎_, inl, inr}
 use mathlib.Core.List.{List, [], _∷_, _++_, map, append-assoc}
 use mathlib.Core.List.{List·Memᴰ, List·Memᴰ·head, List·Memᴰ·tail, Memᴰ·append-left, Memᴰ·append-right, List·Memᴰ·append-cases, List·Memᴰ·eq-of-singleton}
-use Prim.Native.Nat.{ℕ, _+_}
+use Prim.Native.Nat.{ℕ, _+_, _-_, _≤_, _<_}
 use native.Mathlib.Omega.{arith}
-use lib.ListN.{length}
-use Rattle.clause.specs.Lists.{All, none, also}
-use Rattle.clause.specs.Clause.{Subsumes}
+use lib.ListN.{length, length-append}
+use Rattle.clause.specs.Lists.{All, none, also, Each, nobody, besides}
+use Rattle.clause.specs.Clause.{Accepted, Subsumes}
 use Rattle.clause.proofs.Apart.{apart}
-use Rattle.tree.specs.Forest.{layout}
+use Rattle.clause.proofs.Lists.{all-mem, all-weaken}
+use Rattle.clause.proofs.Order.{subsumes-refl, subsumes-trans}
+use Rattle.tree.specs.Keys.{firstKey}
 use Rattle.tree.specs.Entries.{Pair}
-use Rattle.book.specs.Book.{Call, AllFit, call, after, bookStep, bookFrom, treeOf}
-use Rattle.record.specs.Answer.{treeWords, Record, answerTo, callsFor}
+use Rattle.walk.specs.Covering.{Subsumed}
+use Rattle.book.specs.Book.{Call, insert, AllFit, after, bookFrom, treeOf}
+use Rattle.record.specs.Answer.{treeWords, Record, removals, answerTo, callsOn, callsFor}
 use Rattle.record.specs.Output.{Row, rowOn, rowsFrom, rowCalls, counted, totalsWith}
-use Rattle.record.specs.Ruled.{pairOf, IsKept}
-use Rattle.record.specs.Sheet.{keptOn, keptPairs}
+use Rattle.record.specs.Ruled.{pairOf, Numbered, IsKept, IsStruck, withoutAll, Clears, nothing, subsumed}
+use Rattle.record.specs.Sheet.{keptOn, takenOut, keptPairs, Antichain}
+use Rattle.record.specs.declared.Setting.{Setting}
+use Rattle.record.specs.declared.Setting.the-variants.{Plain, Back}
 use Rattle.record.specs.declared.Outcome.{Outcome}
 use Rattle.record.specs.declared.Outcome.the-variants.{Kept, Struck, Refused}
 use Rattle.record.specs.declared.Totals.{Totals}
-use Rattle.book.proofs.Holds.{Holds, holds-tree}
-use Rattle.book.proofs.Step.{Steps, steps}
+use Rattle.readback.proofs.Lists.{all-elements}
+use Rattle.book.proofs.Holds.{Holds, holds-numbers}
 use Rattle.record.proofs.Reading.{FitRecord}
-use Rattle.record.proofs.Ruling.{Fate, refuses, strikes, keeps, fate, slice-after, calls-fit}
-
--- ---- calls one after another
-
-after-append : (T : List ℕ) (xs ys : List Call) → after T (xs ++ ys) ≡ after (after T xs) ys
-after-append T [] ys = refl
-after-append T (x ∷ xs) ys = after-append _ xs ys
-
-pub book-append : (K : List Pair) (xs ys : List Call) → bookFrom treeWords K (xs ++ ys) ≡ bookFrom treeWords (bookFrom treeWords K xs) ys
-book-append K [] ys = refl
-book-append K (x ∷ xs) ys = book-append _ xs ys
-
-fit-append : (xs ys : List Call) → AllFit xs → AllFit ys → AllFit (xs ++ ys)
-fit-append [] ys f g = g
-fit-append (x ∷ xs) ys f g = (f .0, fit-append xs ys (f .1) g)
-
--- the slice holds the tree of the book
-pub record Standing (K : List Pair) (T : List ℕ) : Type 0 where
-  pub holds : Holds treeWords K (treeOf K)
-  pub slice : T ≡ layout treeWords (treeOf K)
-
-standing-step : (K : List Pair) (x : Call) (T : List ℕ) → Standing K T → Steps treeWords K (treeOf K) x → Standing (bookStep treeWords K x) (call T x .slice)
-standing-step K x T s t =
-    let e = holds-tree (t .holds) in
-    record { holds = rw e (t .holds); slice = ap (λ (U : List ℕ). call U x .slice) (s .slice) ∙ t .slice ∙ ap (layout treeWords) (sym e) }
-
-pub standing-after : (xs : List Call) (K : List Pair) (T : List ℕ) → Standing K T → AllFit xs → Standing (bookFrom treeWords K xs) (after T xs)
-standing-after [] K T s f = s
-standing-after (x ∷ xs) K T s f =
-    standing-after xs (bookStep treeWords K x) (call T x .slice) (standing-step K x T s (steps treeWords K (treeOf K) (s .holds) (omega arith) (omega arith) x (f .0))) (f .1)
+use Rattle.record.proofs.Clearing.{Differ, same-pair, clear-append, clear-more, clear-mem, mem-clear, clear-each, clear-length, among}
+use Rattle.record.proofs.Ruling.{Course, refuses, strikes, keeps, Fate}
+use Rattle.record.proofs.Entering.{after-append, book-append, fit-append, Standing, standing-after, removals-fit, fate, slice-after}
 
 -- the slice after the calls for a record and some others
-pub slice-more : (T : List ℕ) (x : Record) (cs : List Call) → after T (callsFor T x ++ cs) ≡ after (answerTo T x .slice) cs
-slice-more T x cs = after-append T (callsFor T x) cs ∙ ap (λ (U : List ℕ). after U cs) (sym (slice-after T x))
+pub slice-more : (v : Setting) (T : List ℕ) (x : Record) (cs : List Call) → after T (callsFor v T x ++ cs) ≡ after (answerTo v T x .slice) cs
+slice-more v T x cs = after-append T (callsFor v T x) cs ∙ ap (λ (U : List ℕ). after U cs) (sym (slice-after T x v))
 
 -- ---- rows one after another
 
 -- each row is that of its record on the slice that those before it leave
-pub data Made : (slice : List ℕ) → List Row → Type 0 where
-  made-none : {T : List ℕ} → Made T []
-  made-more : {T : List ℕ} {r : Row} {rs : List Row} → r ≡ rowOn T (r .of) → FitRecord (r .of) → Made (after T (r .calls)) rs → Made T (r ∷ rs)
+pub data Made (v : Setting) : (slice : List ℕ) → List Row → Type 0 where
+  made-none : {T : List ℕ} → Made v T []
+  made-more : {T : List ℕ} {r : Row} {rs : List Row} → r ≡ rowOn v T (r .of) → FitRecord (r .of) → Made v (after T (r .calls)) rs → Made v T (r ∷ rs)
 
-pub made : (T : List ℕ) (xs : List Record) → All FitRecord xs → Made T (rowsFrom T xs)
+pub made : (v : Setting) (T : List ℕ) (xs : List Record) → All FitRecord xs → Made v T (rowsFrom v T xs)
 unfolding rowsFrom rowOn
-made T [] none = made-none
-made T (x ∷ xs) (also f h) = made-more {T = T} {r = rowOn T x} {rs = rowsFrom (answerTo T x .slice) xs} refl f (rw (← slice-after T x) (made (answerTo T x .slice) xs h))
+made v T [] none = made-none
+made v T (x ∷ xs) (also f h) =
+    made-more {T = T} {r = rowOn v T x} {rs = rowsFrom v (answerTo v T x .slice) xs} refl f (rw (← slice-after T x v) (made v (answerTo v T x .slice) xs h))
 
-pub rows-records : (T : List ℕ) (xs : List Record) → map (λ r. r .of) (rowsFrom T xs) ≡ xs
+pub rows-records : (v : Setting) (T : List ℕ) (xs : List Record) → map (λ r. r .of) (rowsFrom v T xs) ≡ xs
 unfolding rowsFrom rowOn
-rows-records T [] = refl
-rows-records T (x ∷ xs) = ap (λ (l : List Record). x ∷ l) (rows-records (answerTo T x .slice) xs)
+rows-records v T [] = refl
+rows-records v T (x ∷ xs) = ap (λ (l : List Record). x ∷ l) (rows-records v (answerTo v T x .slice) xs)
 
-pub made-first : (rs rest : List Row) (T : List ℕ) → Made T (rs ++ rest) → Made T rs
-made-first [] rest T m = made-none
-made-first (r ∷ rs) rest T (made-more e f m) = made-more e f (made-first rs rest (after T (r .calls)) m)
+module _ {v : Setting} where
+  pub made-first : (rs rest : List Row) (T : List ℕ) → Made v T (rs ++ rest) → Made v T rs
+  made-first [] rest T m = made-none
+  made-first (r ∷ rs) rest T (made-more e f m) = made-more e f (made-first rs rest (after T (r .calls)) m)
 
-pub made-last : (rs rest : List Row) (T : List ℕ) → Made T (rs ++ rest) → Made (after T (rowCalls rs)) rest
-made-last [] rest T m = m
-made-last (r ∷ rs) rest T (made-more e f m) = rw (after-append T (r .calls) (rowCalls rs)) (made-last rs rest (after T (r .calls)) m)
+  pub made-last : (rs rest : List Row) (T : List ℕ) → Made v T (rs ++ rest) → Made v (after T (rowCalls rs)) rest
+  made-last [] rest T m = m
+  made-last (r ∷ rs) rest T (made-more e f m) = rw (after-append T (r .calls) (rowCalls rs)) (made-last rs rest (after T (r .calls)) m)
 
-pub made-row : {T : List ℕ} {r : Row} {rs : List Row} → Made T (r ∷ rs) → r ≡ rowOn T (r .of)
-made-row (made-more e f m) = e
+  pub made-row : {T : List ℕ} {r : Row} {rs : List Row} → Made v T (r ∷ rs) → r ≡ rowOn v T (r .of)
+  made-row (made-more e f m) = e
 
-row-fits : (T : List ℕ) (r : Row) → r ≡ rowOn T (r .of) → FitRecord (r .of) → AllFit (r .calls)
-unfolding rowOn
-row-fits T r e f = let c : r .calls ≡ callsFor T (r .of) = ap (λ (y : Row). y .calls) e in rw c (calls-fit T (r .of) f)
+-- ---- one row, by the book before it
 
-pub made-fit : {T : List ℕ} {rs : List Row} → Made T rs → AllFit (rowCalls rs)
-made-fit made-none = tt
-made-fit {T} (made-more {r = r} {rs = rs} e f m) = fit-append (r .calls) (rowCalls rs) (row-fits T r e f) (made-fit m)
+-- the numbers that it takes out are those of pairs of the book, and they differ
+pub clears-numbered : {v : Setting} {K : List Pair} {x : Record} {ns : List ℕ} → Clears v K x ns → All (Numbered K) ns
+clears-numbered nothing = none
+clears-numbered {ns = ns} (subsumed r e) = all-weaken (λ n m. let (p, i, j, u) = e n .0 m in (p, i, j)) (all-elements ns)
+
+pub clears-rise : {v : Setting} {K : List Pair} {x : Record} {ns : List ℕ} → Clears v K x ns → Each _<_ ns
+clears-rise nothing = nobody
+clears-rise (subsumed r e) = r
+
+-- a pair of the book with one of them is subsumed by the record's clause
+clears-subsumed : {v : Setting} {K : List Pair} {x : Record} {ns : List ℕ} → Clears v K x ns → Differ K → (p : Pair) → List·Memᴰ p K → List·Memᴰ (p .number) ns
+    → Subsumes (x .words) (p .clause)
+clears-subsumed nothing d p m i = elim i [ ]
+clears-subsumed {x = x} (subsumed r e) d p m i =
+    let (q, j, f, u) = e (p .number) .0 i in
+    subst (λ (y : Pair). Subsumes (x .words) (y .clause)) (same-pair d j m f) u
+
+module _ {v : Setting} {K : List Pair} (h : Holds treeWords K (treeOf K)) {x : Record} where
+  -- its calls fit
+  pub fate-fits : FitRecord x → {o : Outcome} {ms : List ℕ} {M : List Pair} → Fate v K x o ms M → AllFit (callsOn o ms x)
+  fate-fits f t = go (t .course)
+    where
+      small : (n : ℕ) → Numbered K n → n < firstKey
+      small n (p, m, e) = rw e at (all-mem (h .sound) m .number)
+
+      go : {L : List Pair} {o : Outcome} {ms : List ℕ} {M : List Pair} → Course K L x (t .cleared) o ms M → AllFit (callsOn o ms x)
+      go (refuses r) = tt
+      go (strikes s) = tt
+      go (keeps k) =
+          fit-append (removals (t .cleared)) (insert (x .words) (x .number) ∷ []) (removals-fit (all-weaken small (clears-numbered (t .clears (k .uncovered .decided .accepted))))) (f, tt)
+
+  -- what the book before it covers the book after it covers
+  pub fate-covers : {o : Outcome} {ms : List ℕ} {M : List Pair} → Fate v K x o ms M → (w : List ℕ) → Subsumed K w → Subsumed M w
+  fate-covers t w (p, m, u) = go (t .course)
+    where
+      go : {o : Outcome} {ms : List ℕ} {M : List Pair} → Course K (withoutAll (t .cleared) K) x (t .cleared) o ms M → Subsumed M w
+      go (refuses r) = (p, m, u)
+      go (strikes s) = (p, m, u)
+      go (keeps k) = by (among (p .number) (t .cleared))
+        where
+          by : Dec (List·Memᴰ (p .number) (t .cleared)) → Subsumed (pairOf x ∷ withoutAll (t .cleared) K) w
+          by (yes i) =
+              let c = clears-subsumed (t .clears (k .uncovered .decided .accepted)) (holds-numbers h) p m i in
+              (pairOf x, List·Memᴰ·head refl, subsumes-trans (x .words) (p .clause) w c u)
+          by (no i) = (p, List·Memᴰ·tail (mem-clear (t .cleared) K m i), u)
+
+  -- and the record itself, where it is kept or struck
+  fate-covered : {o : Outcome} {ms : List ℕ} {M : List Pair} → Fate v K x o ms M → IsKept o ⊎ IsStruck o → Subsumed M (x .words)
+  fate-covered t w = go (t .course) w
+    where
+      go : {L : List Pair} {o : Outcome} {ms : List ℕ} {M : List Pair} → Course K L x (t .cleared) o ms M → IsKept o ⊎ IsStruck o → Subsumed M (x .words)
+      go (refuses r) (inl (n, e)) = apart cc
+      go (refuses r) (inr (n, k, e)) = apart cc
+      go (strikes s) o = (s .striking, s .kept, s .subsumes)
+      go (keeps k) o = (pairOf x, List·Memᴰ·head refl, subsumes-refl (x .words))
+
+  -- as many pairs as are counted
+  pub fate-count : {o : Outcome} {ms : List ℕ} {M : List Pair} (u : Totals) → Fate v K x o ms M → u .kept ≡ length K → counted o (length ms) u .kept ≡ length M
+  fate-count u t e = go (t .course)
+    where
+      go : {o : Outcome} {ms : List ℕ} {M : List Pair} → Course K (withoutAll (t .cleared) K) x (t .cleared) o ms M → counted o (length ms) u .kept ≡ length M
+      go (refuses r) = e
+      go (strikes s) = e
+      go (keeps k) =
+          let c = t .clears (k .uncovered .decided .accepted) in
+          omega (arith, e, clear-length (t .cleared) K (clears-rise c) (holds-numbers h) (clears-numbered c))
+
+  -- at most as many are taken out as there are
+  pub fate-few : {o : Outcome} {ms : List ℕ} {M : List Pair} → Fate v K x o ms M → length ms ≤ length K
+  fate-few t = go (t .course)
+    where
+      go : {o : Outcome} {ms : List ℕ} {M : List Pair} → Course K (withoutAll (t .cleared) K) x (t .cleared) o ms M → length ms ≤ length K
+      go (refuses r) = omega arith
+      go (strikes s) = omega arith
+      go (keeps k) =
+          let c = t .clears (k .uncovered .decided .accepted) in
+          omega (arith, clear-length (t .cleared) K (clears-rise c) (holds-numbers h) (clears-numbered c))
+
+  -- it takes the place of those that it takes out
+  pub fate-swap : {o : Outcome} {ms : List ℕ} {M : List Pair} → Fate v K x o ms M → length M + length ms ≤ length K + 1
+  fate-swap t = go (t .course)
+    where
+      go : {o : Outcome} {ms : List ℕ} {M : List Pair} → Course K (withoutAll (t .cleared) K) x (t .cleared) o ms M → length M + length ms ≤ length K + 1
+      go (refuses r) = omega arith
+      go (strikes s) = omega arith
+      go (keeps k) =
+          let c = t .clears (k .uncovered .decided .accepted) in
+          omega (arith, clear-length (t .cleared) K (clears-rise c) (holds-numbers h) (clears-numbered c))
+
+-- the book after it has the record's pair, if it is kept, and what is left
+fate-book : {v : Setting} {K M : List Pair} {x : Record} {o : Outcome} {ms : List ℕ} → Fate v K x o ms M → M ≡ keptOn o x ++ withoutAll ms K
+fate-book {K = K} {x = x} t = go (t .course)
+  where
+    go : {o : Outcome} {ms : List ℕ} {M : List Pair} → Course K (withoutAll (t .cleared) K) x (t .cleared) o ms M → M ≡ keptOn o x ++ withoutAll ms K
+    go (refuses r) = refl
+    go (strikes s) = refl
+    go (keeps k) = refl
+
+-- with backward striking no clause of it subsumes another one, where it was so before
+fate-apart : {K M : List Pair} {x : Record} {o : Outcome} {ms : List ℕ} → Fate Back K x o ms M → Antichain K → Antichain M
+fate-apart {K} {x = x} t a = go (t .course)
+  where
+    beside : {ns : List ℕ} → ((p : Pair) → List·Memᴰ p K → Subsumes (p .clause) (x .words) → ⊥) → Clears Back K x ns → (p : Pair) → List·Memᴰ p (withoutAll ns K)
+        → (Subsumes (x .words) (p .clause) → ⊥) × (Subsumes (p .clause) (x .words) → ⊥)
+    beside {ns} free (subsumed r e) p m =
+        let (i, j) = clear-mem ns K m in
+        (λ u. j (e (p .number) .1 (p, i, refl, u)), free p i)
+
+    go : {o : Outcome} {ms : List ℕ} {M : List Pair} → Course K (withoutAll (t .cleared) K) x (t .cleared) o ms M → Antichain M
+    go (refuses r) = a
+    go (strikes s) = a
+    go (keeps k) =
+        besides {x = pairOf x}
+        (all-weaken (beside (λ p m u. k .uncovered .unsubsumed (p, m, u)) (t .clears (k .uncovered .decided .accepted))) (all-elements (withoutAll (t .cleared) K)))
+        (clear-each (t .cleared) a)
+
+-- without it nothing is taken out
+fate-plain : {K M : List Pair} {x : Record} {o : Outcome} {ms : List ℕ} → Fate Plain K x o ms M → ms ≡ []
+fate-plain {K} {x = x} t = go (t .course)
+  where
+    empty : {ns : List ℕ} → Clears Plain K x ns → ns ≡ []
+    empty nothing = refl
+
+    go : {L : List Pair} {o : Outcome} {ms : List ℕ} {M : List Pair} → Course K L x (t .cleared) o ms M → ms ≡ []
+    go (refuses r) = refl
+    go (strikes s) = refl
+    go (keeps k) = empty (t .clears (k .uncovered .decided .accepted))
 
 -- ---- what becomes of each row
 
 -- each row is as the book before it says
-pub data Fated : List Pair → List Row → Type 0 where
-  fated-none : {K : List Pair} → Fated K []
-  fated-more : {K : List Pair} {r : Row} {rs : List Row} → Fate K (r .of) (r .outcome) (bookFrom treeWords K (r .calls))
-      → Fated (bookFrom treeWords K (r .calls)) rs → Fated K (r ∷ rs)
+pub data Fated (v : Setting) : List Pair → List Row → Type 0 where
+  fated-none : {K : List Pair} → Fated v K []
+  fated-more : {K : List Pair} {r : Row} {rs : List Row} → Holds treeWords K (treeOf K)
+      → Fate v K (r .of) (r .outcome) (r .removed) (bookFrom treeWords K (r .calls)) → Fated v (bookFrom treeWords K (r .calls)) rs → Fated v K (r ∷ rs)
 
-fate-row : (K : List Pair) (T : List ℕ) (r : Row) → Standing K T → r ≡ rowOn T (r .of) → FitRecord (r .of) → Fate K (r .of) (r .outcome) (bookFrom treeWords K (r .calls))
-unfolding rowOn
-fate-row K T r s e f =
-    let o : r .outcome ≡ answerTo T (r .of) .outcome = ap (λ (y : Row). y .outcome) e in
-    let c : r .calls ≡ callsFor T (r .of) = ap (λ (y : Row). y .calls) e in
-    rw (o, c, s .slice) (fate K (s .holds) (r .of) f)
+module _ (v : Setting) where
+  fate-row : (K : List Pair) (T : List ℕ) (r : Row) → Standing K T → r ≡ rowOn v T (r .of) → FitRecord (r .of)
+      → Fate v K (r .of) (r .outcome) (r .removed) (bookFrom treeWords K (r .calls))
+  unfolding rowOn
+  fate-row K T r s e f =
+      let o : r .outcome ≡ answerTo v T (r .of) .outcome = ap (λ (y : Row). y .outcome) e in
+      let n : r .removed ≡ answerTo v T (r .of) .removed = ap (λ (y : Row). y .removed) e in
+      let c : r .calls ≡ callsFor v T (r .of) = ap (λ (y : Row). y .calls) e in
+      rw (o, n, c, s .slice) (fate v K (s .holds) (r .of) f)
 
-pub fated : {T : List ℕ} {rs : List Row} (K : List Pair) → Standing K T → Made T rs → Fated K rs
-fated K s made-none = fated-none
-fated {T} K s (made-more {r = r} e f m) =
-    fated-more (fate-row K T r s e f) (fated (bookFrom treeWords K (r .calls)) (standing-after (r .calls) K T s (row-fits T r e f)) m)
+  -- its calls are those of its outcome
+  pub row-calls : (T : List ℕ) (r : Row) → r ≡ rowOn v T (r .of) → r .calls ≡ callsOn (r .outcome) (r .removed) (r .of)
+  unfolding rowOn callsFor
+  row-calls T r e =
+      ap (λ (y : Row). y .calls) e ∙ sym (ap (λ (y : Row). callsOn (y .outcome) (y .removed) (r .of)) e)
 
-pub fated-first : (rs rest : List Row) (K : List Pair) → Fated K (rs ++ rest) → Fated K rs
-fated-first [] rest K f = fated-none
-fated-first (r ∷ rs) rest K (fated-more e f) = fated-more e (fated-first rs rest (bookFrom treeWords K (r .calls)) f)
+  row-fits : (K : List Pair) (T : List ℕ) (r : Row) → Standing K T → r ≡ rowOn v T (r .of) → FitRecord (r .of) → AllFit (r .calls)
+  row-fits K T r s e f = rw (row-calls T r e) (fate-fits (s .holds) f (fate-row K T r s e f))
 
-pub fated-last : (rs rest : List Row) (K : List Pair) → Fated K (rs ++ rest) → Fated (bookFrom treeWords K (rowCalls rs)) rest
-fated-last [] rest K f = f
-fated-last (r ∷ rs) rest K (fated-more e f) = rw (book-append K (r .calls) (rowCalls rs)) (fated-last rs rest (bookFrom treeWords K (r .calls)) f)
+module _ {v : Setting} where
+  pub fated : {T : List ℕ} {rs : List Row} (K : List Pair) → Standing K T → Made v T rs → Fated v K rs
+  fated K s made-none = fated-none
+  fated {T} K s (made-more {r = r} e f m) =
+      fated-more (s .holds) (fate-row v K T r s e f) (fated (bookFrom treeWords K (r .calls)) (standing-after (r .calls) K T s (row-fits v K T r s e f)) m)
 
-pub fated-row : {K : List Pair} {r : Row} {rs : List Row} → Fated K (r ∷ rs) → Fate K (r .of) (r .outcome) (bookFrom treeWords K (r .calls))
-fated-row (fated-more e f) = e
+  pub made-fit : {T : List ℕ} {rs : List Row} (K : List Pair) → Standing K T → Made v T rs → AllFit (rowCalls rs)
+  made-fit K s made-none = tt
+  made-fit {T} K s (made-more {r = r} {rs = rs} e f m) =
+      let g = row-fits v K T r s e f in
+      fit-append (r .calls) (rowCalls rs) g (made-fit (bookFrom treeWords K (r .calls)) (standing-after (r .calls) K T s g) m)
 
--- ---- the book is what the `kept` lines say
+  pub fated-first : (rs rest : List Row) (K : List Pair) → Fated v K (rs ++ rest) → Fated v K rs
+  fated-first [] rest K f = fated-none
+  fated-first (r ∷ rs) rest K (fated-more h e f) = fated-more h e (fated-first rs rest (bookFrom treeWords K (r .calls)) f)
 
-fate-book : {K L : List Pair} {x : Record} {o : Outcome} → Fate K x o L → L ≡ keptOn o x ++ K
-fate-book (refuses r) = refl
-fate-book (strikes s) = refl
-fate-book (keeps t) = refl
+  pub fated-last : (rs rest : List Row) (K : List Pair) → Fated v K (rs ++ rest) → Fated v (bookFrom treeWords K (rowCalls rs)) rest
+  fated-last [] rest K f = f
+  fated-last (r ∷ rs) rest K (fated-more h e f) = rw (book-append K (r .calls) (rowCalls rs)) (fated-last rs rest (bookFrom treeWords K (r .calls)) f)
 
-pub kept-book : {K : List Pair} {rs : List Row} → Fated K rs → bookFrom treeWords K (rowCalls rs) ≡ keptPairs rs ++ K
-kept-book fated-none = refl
-kept-book {K} (fated-more {r = r} {rs = rs} e f) =
-    book-append K (r .calls) (rowCalls rs) ∙ kept-book f ∙ ap (λ (l : List Pair). keptPairs rs ++ l) (fate-book e)
-    ∙ sym (append-assoc (keptPairs rs) (keptOn (r .outcome) (r .of)) K)
+  pub fated-row : {K : List Pair} {r : Row} {rs : List Row} → Fated v K (r ∷ rs) → Fate v K (r .of) (r .outcome) (r .removed) (bookFrom treeWords K (r .calls))
+  fated-row (fated-more h e f) = e
 
--- what was in the book stays in it
-stays : {K : List Pair} {rs : List Row} {p : Pair} → Fated K rs → List·Memᴰ p K → List·Memᴰ p (bookFrom treeWords K (rowCalls rs))
-stays {rs = rs} f m = rw (kept-book f) (Memᴰ·append-right (keptPairs rs) m)
+  -- ---- the book is what the `kept` and `removed` lines say
 
--- as many as are counted
-fate-count : {K L : List Pair} {x : Record} {o : Outcome} (t : Totals) → Fate K x o L → t .kept ≡ length K → counted o t .kept ≡ length L
-fate-count t (refuses r) e = e
-fate-count t (strikes s) e = e
-fate-count t (keeps k) e = omega arith
+  pub kept-book : {K : List Pair} {rs : List Row} → Fated v K rs → bookFrom treeWords K (rowCalls rs) ≡ keptPairs rs ++ withoutAll (takenOut rs) K
+  kept-book fated-none = refl
+  kept-book {K} (fated-more {r = r} {rs = rs} h e f) =
+      let ms = takenOut rs in
+      let new = keptOn (r .outcome) (r .of) in
+      book-append K (r .calls) (rowCalls rs) ∙ kept-book f ∙ ap (λ (l : List Pair). keptPairs rs ++ withoutAll ms l) (fate-book e)
+      ∙ ap (λ (l : List Pair). keptPairs rs ++ l) (clear-append ms new (withoutAll (r .removed) K))
+      ∙ sym (append-assoc (keptPairs rs) (withoutAll ms new) (withoutAll ms (withoutAll (r .removed) K)))
+      ∙ ap (λ (l : List Pair). (keptPairs rs ++ withoutAll ms new) ++ l) (sym (clear-more (r .removed) ms K))
 
-pub kept-count : {K : List Pair} {rs : List Row} (t : Totals) → Fated K rs → t .kept ≡ length K → totalsWith t rs .kept ≡ length (bookFrom treeWords K (rowCalls rs))
-kept-count t fated-none h = h
-kept-count {K} t (fated-more {r = r} {rs = rs} e f) h = rw (book-append K (r .calls) (rowCalls rs)) (kept-count (counted (r .outcome) t) f (fate-count t e h))
+  -- as many as are counted
+  pub kept-count : {K : List Pair} {rs : List Row} (t : Totals) → Fated v K rs → t .kept ≡ length K → totalsWith t rs .kept ≡ length (bookFrom treeWords K (rowCalls rs))
+  kept-count t fated-none h = h
+  kept-count {K} t (fated-more {r = r} {rs = rs} g e f) h =
+      rw (book-append K (r .calls) (rowCalls rs)) (kept-count (counted (r .outcome) (length (r .removed)) t) f (fate-count g t e h))
 
--- each row is counted once, by the three totals together and by the records
-abbrev pub threeOf : Totals → ℕ
-threeOf t = t .kept + t .struck + t .refused
+-- each row is counted once, by the four totals together and by the records
+abbrev pub fourOf : Totals → ℕ
+fourOf t = t .kept + t .struck + t .refused + t .removed
 
-pub counted-three : (o : Outcome) (t : Totals) → threeOf (counted o t) ≡ threeOf t + 1
-counted-three (Kept used) t = omega arith
-counted-three (Struck n c) t = omega arith
-counted-three (Refused code) t = omega arith
+counted-four : (o : Outcome) (m : ℕ) (t : Totals) → m ≤ t .kept → fourOf (counted o m t) ≡ fourOf t + 1
+counted-four (Kept used) m t h = omega arith
+counted-four (Struck n c) m t h = omega arith
+counted-four (Refused code) m t h = omega arith
 
-pub counted-read : (o : Outcome) (t : Totals) → counted o t .records ≡ t .records + 1
-counted-read (Kept used) t = refl
-counted-read (Struck n c) t = refl
-counted-read (Refused code) t = refl
+pub rows-four : {v : Setting} {K : List Pair} {rs : List Row} (t : Totals) → Fated v K rs → t .kept ≡ length K → fourOf (totalsWith t rs) ≡ fourOf t + length rs
+rows-four t fated-none e = omega arith
+rows-four t (fated-more {r = r} h d f) e =
+    omega (arith, rows-four (counted (r .outcome) (length (r .removed)) t) f (fate-count h t d e), counted-four (r .outcome) (length (r .removed)) t (omega (arith, fate-few h d)))
 
-pub rows-counted : (f : Totals → ℕ) → ((o : Outcome) (t : Totals) → f (counted o t) ≡ f t + 1) → (rs : List Row) (t : Totals) → f (totalsWith t rs) ≡ f t + length rs
-rows-counted f h [] t = omega arith
-rows-counted f h (r ∷ rs) t = omega (arith, rows-counted f h rs (counted (r .outcome) t), h (r .outcome) t)
+counted-read : (o : Outcome) (m : ℕ) (t : Totals) → counted o m t .records ≡ t .records + 1
+counted-read (Kept used) m t = refl
+counted-read (Struck n c) m t = refl
+counted-read (Refused code) m t = refl
 
--- the pair of a row with a `kept` line
-kept-one : {o : Outcome} {x : Record} → IsKept o → List·Memᴰ (pairOf x) (keptOn o x)
-kept-one (u, e) = rw e (List·Memᴰ·head refl)
+pub rows-read : (rs : List Row) (t : Totals) → totalsWith t rs .records ≡ t .records + length rs
+rows-read [] t = omega arith
+rows-read (r ∷ rs) t = omega (arith, rows-read rs (counted (r .outcome) (length (r .removed)) t), counted-read (r .outcome) (length (r .removed)) t)
 
-pub kept-mem : (rs : List Row) (r : Row) → List·Memᴰ r rs → IsKept (r .outcome) → List·Memᴰ (pairOf (r .of)) (keptPairs rs)
-kept-mem (s ∷ rs) r (List·Memᴰ·head e) k = Memᴰ·append-right (keptPairs rs) (subst (λ (y : Row). List·Memᴰ (pairOf (r .of)) (keptOn (y .outcome) (y .of))) e (kept-one k))
-kept-mem (s ∷ rs) r (List·Memᴰ·tail m) k = Memᴰ·append-left (keptOn (s .outcome) (s .of)) (kept-mem rs r m k)
+-- the removed ones are as many as there are `removed` lines
+pub rows-removed : {v : Setting} {K : List Pair} {rs : List Row} (t : Totals) → Fated v K rs → totalsWith t rs .removed ≡ t .removed + length (takenOut rs)
+rows-removed t fated-none = omega arith
+rows-removed t (fated-more {r = r} {rs = rs} h d f) =
+    omega (arith, rows-removed (counted (r .outcome) (length (r .removed)) t) f, length-append (r .removed) (takenOut rs), go (d .course))
+  where
+    go : {K L M : List Pair} {x : Record} {ns : List ℕ} {o : Outcome} {ms : List ℕ} → Course K L x ns o ms M → counted o (length ms) t .removed ≡ t .removed + length ms
+    go (refuses q) = omega arith
+    go (strikes s) = omega arith
+    go (keeps k) = refl
 
--- a row with a `kept` line, and this is its pair
+-- ---- rows with a `kept` line
+
+-- such a row, and this is its pair
 pub record KeptRow (rs : List Row) (p : Pair) : Type 0 where
   pub row : Row
   pub among : List·Memᴰ row rs
@@ -193,9 +315,55 @@ pub mem-kept : (rs : List Row) (p : Pair) → List·Memᴰ p (keptPairs rs) → 
 mem-kept [] p m = elim m [ ]
 mem-kept (r ∷ rs) p m = go (List·Memᴰ·append-cases (keptPairs rs) m) (mem-kept rs p)
   where
-    go : List·Memᴰ p (keptPairs rs) ⊎ List·Memᴰ p (keptOn (r .outcome) (r .of)) → (List·Memᴰ p (keptPairs rs) → KeptRow rs p) → KeptRow (r ∷ rs) p
+    go : List·Memᴰ p (keptPairs rs) ⊎ List·Memᴰ p (withoutAll (takenOut rs) (keptOn (r .outcome) (r .of))) → (List·Memᴰ p (keptPairs rs) → KeptRow rs p) → KeptRow (r ∷ rs) p
     go (inl n) ih = let k = ih n in record { row = k .row; among = List·Memᴰ·tail (k .among); kept = k .kept; pair = k .pair }
-    go (inr n) ih = let (k, e) = mem-one (r .outcome) (r .of) p n in record { row = r; among = List·Memᴰ·head refl; kept = k; pair = e }
+    go (inr n) ih =
+        let (k, e) = mem-one (r .outcome) (r .of) p (clear-mem (takenOut rs) (keptOn (r .outcome) (r .of)) n .0) in
+        record { row = r; among = List·Memᴰ·head refl; kept = k; pair = e }
+
+-- the pair of such a row, where nothing is taken out
+kept-one : {o : Outcome} {x : Record} → IsKept o → List·Memᴰ (pairOf x) (keptOn o x)
+kept-one (u, e) = rw e (List·Memᴰ·head refl)
+
+pub kept-mem : (rs : List Row) → takenOut rs ≡ [] → (r : Row) → List·Memᴰ r rs → IsKept (r .outcome) → List·Memᴰ (pairOf (r .of)) (keptPairs rs)
+kept-mem (s ∷ rs) e r m k = go (later (s .removed) e) m (λ i n. kept-mem rs i r n k)
+  where
+    later : (ms : List ℕ) → ms ++ takenOut rs ≡ [] → takenOut rs ≡ []
+    later [] i = i
+    later (n ∷ ms) i = apart cc
+
+    go : takenOut rs ≡ [] → List·Memᴰ r (s ∷ rs) → (takenOut rs ≡ [] → List·Memᴰ r rs → List·Memᴰ (pairOf (r .of)) (keptPairs rs))
+        → List·Memᴰ (pairOf (r .of)) (keptPairs (s ∷ rs))
+    go i (List·Memᴰ·head j) ih =
+        Memᴰ·append-right (keptPairs rs) (rw i (subst (λ (y : Row). List·Memᴰ (pairOf (r .of)) (keptOn (y .outcome) (y .of))) j (kept-one k)))
+    go i (List·Memᴰ·tail n) ih = Memᴰ·append-left _ (ih i n)
+
+-- ---- the book covers what was kept or struck
+
+module _ {v : Setting} where
+  fated-covers : {K : List Pair} {rs : List Row} → Fated v K rs → (w : List ℕ) → Subsumed K w → Subsumed (bookFrom treeWords K (rowCalls rs)) w
+  fated-covers fated-none w s = s
+  fated-covers {K} (fated-more {r = r} {rs = rs} h e f) w s = rw (book-append K (r .calls) (rowCalls rs)) (fated-covers f w (fate-covers h e w s))
+
+  pub rows-covered : {K : List Pair} {rs : List Row} → Fated v K rs → (r : Row) → List·Memᴰ r rs → IsKept (r .outcome) ⊎ IsStruck (r .outcome)
+      → Subsumed (bookFrom treeWords K (rowCalls rs)) (r .of .words)
+  rows-covered fated-none r m o = elim m [ ]
+  rows-covered {K} (fated-more {r = q} {rs = rs} h e f) r (List·Memᴰ·head i) o =
+      rw (book-append K (q .calls) (rowCalls rs))
+      (fated-covers f (r .of .words)
+      (subst (λ (y : Row). Subsumed (bookFrom treeWords K (q .calls)) (y .of .words)) (sym i)
+      (fate-covered h e (subst (λ (y : Row). IsKept (y .outcome) ⊎ IsStruck (y .outcome)) i o))))
+  rows-covered {K} (fated-more {r = q} {rs = rs} h e f) r (List·Memᴰ·tail m) o = rw (book-append K (q .calls) (rowCalls rs)) (rows-covered f r m o)
+
+-- with backward striking it stays an antichain
+pub rows-apart : {K : List Pair} {rs : List Row} → Fated Back K rs → Antichain K → Antichain (bookFrom treeWords K (rowCalls rs))
+rows-apart fated-none a = a
+rows-apart {K} (fated-more {r = r} {rs = rs} h e f) a = rw (book-append K (r .calls) (rowCalls rs)) (rows-apart f (fate-apart e a))
+
+-- without it nothing is taken out
+pub rows-plain : {K : List Pair} {rs : List Row} → Fated Plain K rs → takenOut rs ≡ []
+rows-plain fated-none = refl
+rows-plain (fated-more {r = r} {rs = rs} h e f) = rw (fate-plain e, rows-plain f)
 
 -- ---- what is struck
 
@@ -203,15 +371,22 @@ mem-kept (r ∷ rs) p m = go (List·Memᴰ·append-cases (keptPairs rs) m) (mem-
 abbrev pub StruckBy : List Pair → Record → (number : ℕ) → Type 0
 StruckBy K x n = (p : Pair) × List·Memᴰ p K × (p .number ≡ n) × Subsumes (p .clause) (x .words)
 
-pub fate-struck : {K L : List Pair} {x : Record} {o : Outcome} → Fate K x o L → (n k : ℕ) → o ≡ Struck n k → StruckBy K x n
-fate-struck (refuses r) n k e = apart cc
-fate-struck (strikes {n = m} s) n k e = let i : m ≡ n = cc in (s .striking, s .kept, s .number ∙ i, s .subsumes)
-fate-struck (keeps t) n k e = apart cc
+pub fate-struck : {v : Setting} {K M : List Pair} {x : Record} {o : Outcome} {ms : List ℕ} → Fate v K x o ms M → (n k : ℕ) → o ≡ Struck n k → StruckBy K x n
+fate-struck {K = K} {x = x} t n k e = go (t .course) e
+  where
+    go : {L : List Pair} {o : Outcome} {ms : List ℕ} {M : List Pair} → Course K L x (t .cleared) o ms M → o ≡ Struck n k → StruckBy K x n
+    go (refuses r) e = apart cc
+    go (strikes {n = m} s) e = let i : m ≡ n = cc in (s .striking, s .kept, s .number ∙ i, s .subsumes)
+    go (keeps u) e = apart cc
 
-pub struck-book : {K : List Pair} {rs : List Row} → Fated K rs → (r : Row) → List·Memᴰ r rs → (n k : ℕ) → r .outcome ≡ Struck n k
+-- without backward striking what was in the book stays in it
+stays : {K : List Pair} {rs : List Row} {p : Pair} → Fated Plain K rs → List·Memᴰ p K → List·Memᴰ p (bookFrom treeWords K (rowCalls rs))
+stays {rs = rs} f m = rw (kept-book f, rows-plain f) (Memᴰ·append-right (keptPairs rs) m)
+
+pub struck-book : {K : List Pair} {rs : List Row} → Fated Plain K rs → (r : Row) → List·Memᴰ r rs → (n k : ℕ) → r .outcome ≡ Struck n k
     → StruckBy (bookFrom treeWords K (rowCalls rs)) (r .of) n
 struck-book fated-none r m n k e = elim m [ ]
-struck-book {K} (fated-more {r = s} {rs = rs} d f) r (List·Memᴰ·head i) n k e =
+struck-book {K} (fated-more {r = s} {rs = rs} h d f) r (List·Memᴰ·head i) n k e =
     let (p, j, u, v) = fate-struck d n k (ap (λ (y : Row). y .outcome) (sym i) ∙ e) in
-    subst (λ (y : Row). StruckBy (bookFrom treeWords K (rowCalls (s ∷ rs))) (y .of) n) (sym i) (p, stays {rs = s ∷ rs} (fated-more {r = s} d f) j, u, v)
-struck-book {K} (fated-more {r = s} {rs = rs} d f) r (List·Memᴰ·tail m) n k e = rw (book-append K (s .calls) (rowCalls rs)) (struck-book f r m n k e)
+    subst (λ (y : Row). StruckBy (bookFrom treeWords K (rowCalls (s ∷ rs))) (y .of) n) (sym i) (p, stays {rs = s ∷ rs} (fated-more {r = s} h d f) j, u, v)
+struck-book {K} (fated-more {r = s} {rs = rs} h d f) r (List·Memᴰ·tail m) n k e = rw (book-append K (s .calls) (rowCalls rs)) (struck-book f r m n k e)

@@ -22,8 +22,9 @@ use Rattle.walk.specs.Walk.{Answer, covered, notCovered, spent, broken, upTo, w
 use Rattle.walk.specs.Query.{machine, witnessWords, answerBy, query}
 use Rattle.walk.specs.Covering.{Units, Subsumed, candidates, IsCovered, IsNotCovered, IsSpent, Answers}
 use Rattle.book.specs.Book.{insert, Fit, AllFit, after, bookStep, bookFrom, treeOf}
-use Rattle.record.specs.Answer.{budget, treeWords, Record, insertedAs, answerAs, answerTo, callsOn, callsFor}
-use Rattle.record.specs.Ruled.{pairOf, Numbered, wordsOf, Decided, Uncovered, Takes, Strikes, Reason, faulty, number-taken, list-full, no-room, over-budget, Ruled, RuledByUnits}
+use Rattle.record.specs.Answer.{budget, treeWords, Record}
+use Rattle.record.specs.Ruled.{pairOf, Numbered, wordsOf, Decided, Uncovered, Takes, Strikes, Reason, faulty, number-taken, list-full, no-room, over-budget}
+use Rattle.record.specs.Ruled.{withoutAll, Clears, Ruled, RuledByUnits}
 use Rattle.clause.specs.declared.Fault.{Fault}
 use Rattle.clause.specs.declared.Fault.the-variants.{BadLength, Bad, Ninth}
 use Rattle.clause.specs.declared.Shape.{Shape}
@@ -33,6 +34,7 @@ use Rattle.tree.specs.declared.Refusal.the-variants.{BadClause, NumberTaken, He
 use Rattle.tree.specs.declared.CallAnswer.the-variants as call
 use Rattle.walk.specs.declared.QueryAnswer.{QueryAnswer}
 use Rattle.walk.specs.declared.QueryAnswer.the-variants.{Unanswered, Covered, NotCovered}
+use Rattle.record.specs.declared.Setting.{Setting}
 use Rattle.record.specs.declared.Outcome.{Outcome}
 use Rattle.record.specs.declared.Outcome.the-variants.{Kept, Struck, Refused}
 use Rattle.clause.proofs.Literals.{accepted}
@@ -56,30 +58,30 @@ use Rattle.readback.proofs.Saved.{sound-good, same-keys}
 use Rattle.machine.proofs.Matching.{variants-subsume}
 
 -- the witness of every query is long enough
-witness-long : witnessWords ≤ length {A = ℕ} (replicate witnessWords 0)
+pub witness-long : witnessWords ≤ length {A = ℕ} (replicate witnessWords 0)
 witness-long = rw (length-replicate {A = ℕ} witnessWords 0) (omega arith)
 
 -- ---- the cases exclude each other
 
-shape-faulty : {s : Shape} {n : ℕ} {f : Fault} → s ≡ Faulty f → s ≡ Whole n → ⊥
+pub shape-faulty : {s : Shape} {n : ℕ} {f : Fault} → s ≡ Faulty f → s ≡ Whole n → ⊥
 shape-faulty e i = let j = sym e ∙ i in apart cc
 
-module _ {K : List Pair} {x : Record} where
-  reason-subsumed : {c : ℕ} → Reason K x c → Decided K x → Subsumed K (x .words) → ⊥
+module _ {K L : List Pair} {x : Record} where
+  reason-subsumed : {c : ℕ} → Reason K L x c → Decided K x → Subsumed K (x .words) → ⊥
   reason-subsumed (faulty f e) d s = shape-faulty e (d .accepted .1)
   reason-subsumed (number-taken u m) d s = u .unsubsumed s
   reason-subsumed (list-full u m l) d s = u .unsubsumed s
   reason-subsumed (no-room u m l r) d s = u .unsubsumed s
   reason-subsumed (over-budget a b) d s = omega (arith, d .fits)
 
-  reason-takes : {c : ℕ} → Reason K x c → Takes K x → ⊥
+  reason-takes : {c : ℕ} → Reason K L x c → Takes K L x → ⊥
   reason-takes (faulty f e) t = shape-faulty e (t .uncovered .decided .accepted .1)
   reason-takes (number-taken u m) t = t .new m
   reason-takes (list-full u m l) t = omega (arith, t .few)
   reason-takes (no-room u m l r) t = omega (arith, t .room)
   reason-takes (over-budget a b) t = omega (arith, t .uncovered .decided .fits)
 
-  reason-only : {c d : ℕ} → Reason K x c → Reason K x d → c ≡ d
+  reason-only : {c d : ℕ} → Reason K L x c → Reason K L x d → c ≡ d
   reason-only (faulty f e) (faulty g i) = let j = sym e ∙ i in let k : f ≡ g = cc in ap (λ (h : Fault). codeOf (BadClause h)) k
   reason-only (faulty f e) (number-taken u m) = absurd (shape-faulty e (u .decided .accepted .1))
   reason-only (faulty f e) (list-full u m l) = absurd (shape-faulty e (u .decided .accepted .1))
@@ -107,7 +109,7 @@ module _ {K : List Pair} {x : Record} where
   reason-only (over-budget a b) (over-budget c d) = refl
 
   -- where the budget is enough, the other codes are left
-  reason-code : (Accepted (x .words) → candidates (treeOf K) (x .words) ≤ budget) → {c : ℕ} → Reason K x c → List·Memᴰ c (3 ∷ 4 ∷ 5 ∷ 7 ∷ 10 ∷ 11 ∷ [])
+  reason-code : (Accepted (x .words) → candidates (treeOf K) (x .words) ≤ budget) → {c : ℕ} → Reason K L x c → List·Memᴰ c (3 ∷ 4 ∷ 5 ∷ 7 ∷ 10 ∷ 11 ∷ [])
   reason-code f (faulty BadLength e) = List·Memᴰ·head refl
   reason-code f (faulty (Bad at) e) = List·Memᴰ·tail (List·Memᴰ·head refl)
   reason-code f (faulty (Ninth at) e) = List·Memᴰ·tail (List·Memᴰ·tail (List·Memᴰ·head refl))
@@ -117,7 +119,7 @@ module _ {K : List Pair} {x : Record} where
   reason-code f (over-budget a b) = absurd (omega (arith, f a))
 
   -- 12 comes from an accepted clause with more candidates than the budget
-  reason-spent : {c : ℕ} → Reason K x c → c ≡ 12 → Accepted (x .words) × (budget < candidates (treeOf K) (x .words))
+  reason-spent : {c : ℕ} → Reason K L x c → c ≡ 12 → Accepted (x .words) × (budget < candidates (treeOf K) (x .words))
   reason-spent (faulty BadLength e) i = absurd (omega arith)
   reason-spent (faulty (Bad at) e) i = absurd (omega arith)
   reason-spent (faulty (Ninth at) e) i = absurd (omega arith)
@@ -126,15 +128,22 @@ module _ {K : List Pair} {x : Record} where
   reason-spent (no-room u m l r) i = absurd (omega arith)
   reason-spent (over-budget a b) i = (a, b)
 
-  striking : {n k : ℕ} → Strikes K x n k → Subsumed K (x .words)
-  striking s = (s .striking, s .kept, s .subsumes)
+striking : {K : List Pair} {x : Record} {n k : ℕ} → Strikes K x n k → Subsumed K (x .words)
+striking s = (s .striking, s .kept, s .subsumes)
 
 -- ---- what becomes of a record
 
-pub data Fate (K : List Pair) (x : Record) : Outcome → List Pair → Type 0 where
-  refuses : {c : ℕ} → Reason K x c → Fate K x (Refused c) K
-  strikes : {n k : ℕ} → Strikes K x n k → Fate K x (Struck n k) K
-  keeps : Takes K x → Fate K x (Kept (wordsOf (pairOf x ∷ K))) (pairOf x ∷ K)
+-- by the book K, what is left of it without the numbers that the record would take out, and these numbers
+pub data Course (K L : List Pair) (x : Record) (ns : List ℕ) : Outcome → (removed : List ℕ) → List Pair → Type 0 where
+  refuses : {c : ℕ} → Reason K L x c → Course K L x ns (Refused c) [] K
+  strikes : {n k : ℕ} → Strikes K x n k → Course K L x ns (Struck n k) [] K
+  keeps : Takes K L x → Course K L x ns (Kept (wordsOf (pairOf x ∷ L))) ns (pairOf x ∷ L)
+
+-- by the setting and the book
+pub record Fate (s : Setting) (K : List Pair) (x : Record) (o : Outcome) (removed : List ℕ) (M : List Pair) : Type 0 where
+  pub cleared : List ℕ
+  pub clears : Accepted (x .words) → Clears s K x cleared
+  pub course : Course K (withoutAll cleared K) x cleared o removed M
 
 kept-code : (u c : ℕ) → Kept u ≡ Refused c → ⊥
 kept-code u c e = apart cc
@@ -145,45 +154,60 @@ kept-struck u n k e = apart cc
 struck-code : (n k c : ℕ) → Struck n k ≡ Refused c → ⊥
 struck-code n k c e = apart cc
 
-pub ruled : {K : List Pair} {x : Record} {o : Outcome} {L : List Pair} → Fate K x o L → Ruled K x o L
-ruled {K} {x} (refuses {c = c} r) =
-    record {
-      struck = (λ s. absurd (struck-code (s .0) (s .1) c (sym (s .2))), λ d. absurd (reason-subsumed r (d .0) (d .1)));
-      strikes = λ n k. (λ e. absurd (struck-code n k c (sym e)), λ s. absurd (reason-subsumed r (s .decided) (striking s)));
-      kept = λ u. (λ e. absurd (kept-code u c (sym e)), λ t. absurd (reason-takes r (t .0)));
-      refused = λ d. (λ e. let i : c ≡ d = cc in rw i at r, λ q. ap Refused (reason-only r q));
-      grows = λ k. absurd (kept-code (k .0) c (sym (k .1)));
-      stays = λ n. refl;
-    }
-ruled {K} {x} (strikes {n = n} {k = k} s) =
-    record {
-      struck = (λ e. (s .decided, striking s), λ d. (n, k, refl));
-      strikes = λ m l. (
-        λ e. let i : n ≡ m = cc in let j : k ≡ l = cc in rw (i, j) at s,
-        λ t. let w = sym (s .walked) ∙ t .walked in let i : n ≡ m = cc in let j : k ≡ l = cc in ap₂ Struck i j,
-      );
-      kept = λ u. (λ e. absurd (kept-struck u n k (sym e)), λ t. absurd (t .0 .uncovered .unsubsumed (striking s)));
-      refused = λ d. (λ e. absurd (struck-code n k d e), λ q. absurd (reason-subsumed q (s .decided) (striking s)));
-      grows = λ h. absurd (kept-struck (h .0) n k (sym (h .1)));
-      stays = λ m. refl;
-    }
-ruled {K} {x} (keeps t) =
-    record {
-      struck = (λ s. absurd (kept-struck (wordsOf (pairOf x ∷ K)) (s .0) (s .1) (s .2)), λ d. absurd (t .uncovered .unsubsumed (d .1)));
-      strikes = λ n k. (λ e. absurd (kept-struck (wordsOf (pairOf x ∷ K)) n k e), λ s. absurd (t .uncovered .unsubsumed (striking s)));
-      kept = λ u. (λ e. let i : wordsOf (pairOf x ∷ K) ≡ u = cc in (t, sym i), λ s. ap Kept (sym (s .1)));
-      refused = λ d. (λ e. absurd (kept-code (wordsOf (pairOf x ∷ K)) d e), λ q. absurd (reason-takes q t));
-      grows = λ h. refl;
-      stays = λ n. absurd (n (wordsOf (pairOf x ∷ K), refl));
-    }
+module _ {s : Setting} {K : List Pair} {x : Record} (ns : List ℕ) (a : Accepted (x .words) → Clears s K x ns) where
+  -- what is left of the book
+  abbrev Left : List Pair
+  Left = withoutAll ns K
+
+  ruled-by : {o : Outcome} {ms : List ℕ} {M : List Pair} → Course K Left x ns o ms M → Ruled s K x o ms M
+  ruled-by (refuses {c = c} r) =
+      record {
+        struck = (λ s. absurd (struck-code (s .0) (s .1) c (sym (s .2))), λ d. absurd (reason-subsumed r (d .0) (d .1)));
+        strikes = λ n k. (λ e. absurd (struck-code n k c (sym e)), λ s. absurd (reason-subsumed r (s .decided) (striking s)));
+        cleared = ns;
+        clears = a;
+        kept = λ u. (λ e. absurd (kept-code u c (sym e)), λ t. absurd (reason-takes r (t .0)));
+        refused = λ d. (λ e. let i : c ≡ d = cc in rw i at r, λ q. ap Refused (reason-only r q));
+        grows = λ k. absurd (kept-code (k .0) c (sym (k .1)));
+        stays = λ n. (refl, refl);
+      }
+  ruled-by (strikes {n = n} {k = k} s) =
+      record {
+        struck = (λ e. (s .decided, striking s), λ d. (n, k, refl));
+        strikes = λ m l. (
+          λ e. let i : n ≡ m = cc in let j : k ≡ l = cc in rw (i, j) at s,
+          λ t. let w = sym (s .walked) ∙ t .walked in let i : n ≡ m = cc in let j : k ≡ l = cc in ap₂ Struck i j,
+        );
+        cleared = ns;
+        clears = a;
+        kept = λ u. (λ e. absurd (kept-struck u n k (sym e)), λ t. absurd (t .0 .uncovered .unsubsumed (striking s)));
+        refused = λ d. (λ e. absurd (struck-code n k d e), λ q. absurd (reason-subsumed q (s .decided) (striking s)));
+        grows = λ h. absurd (kept-struck (h .0) n k (sym (h .1)));
+        stays = λ m. (refl, refl);
+      }
+  ruled-by (keeps t) =
+      record {
+        struck = (λ s. absurd (kept-struck (wordsOf (pairOf x ∷ Left)) (s .0) (s .1) (s .2)), λ d. absurd (t .uncovered .unsubsumed (d .1)));
+        strikes = λ n k. (λ e. absurd (kept-struck (wordsOf (pairOf x ∷ Left)) n k e), λ s. absurd (t .uncovered .unsubsumed (striking s)));
+        cleared = ns;
+        clears = a;
+        kept = λ u. (λ e. let i : wordsOf (pairOf x ∷ Left) ≡ u = cc in (t, sym i), λ s. ap Kept (sym (s .1)));
+        refused = λ d. (λ e. absurd (kept-code (wordsOf (pairOf x ∷ Left)) d e), λ q. absurd (reason-takes q t));
+        grows = λ h. (refl, refl);
+        stays = λ n. absurd (n (wordsOf (pairOf x ∷ Left), refl));
+      }
+
+pub ruled : {s : Setting} {K : List Pair} {x : Record} {o : Outcome} {ms : List ℕ} {M : List Pair} → Fate s K x o ms M → Ruled s K x o ms M
+ruled f = ruled-by (f .cleared) (f .clears) (f .course)
 
 -- the codes; the budget is enough
-pub ruled-codes : {K L : List Pair} {x : Record} {o : Outcome} → Holds treeWords K (treeOf K) → Ruled K x o L
+pub ruled-codes : {s : Setting} {K M : List Pair} {x : Record} {o : Outcome} {ms : List ℕ} → Holds treeWords K (treeOf K) → Ruled s K x o ms M
     → (code : ℕ) → o ≡ Refused code → List·Memᴰ code (3 ∷ 4 ∷ 5 ∷ 7 ∷ 10 ∷ 11 ∷ [])
 ruled-codes {x = x} h r code e = reason-code (λ D. omega (arith, holds-enough h (x .words) D)) (r .refused code .0 e)
 
 -- over a book of units
-pub ruled-by-units : {K L : List Pair} {x : Record} {o : Outcome} → Holds treeWords K (treeOf K) → Units K → Ruled K x o L → RuledByUnits K x o
+pub ruled-by-units : {s : Setting} {K M : List Pair} {x : Record} {o : Outcome} {ms : List ℕ} → Holds treeWords K (treeOf K) → Units K → Ruled s K x o ms M
+    → RuledByUnits K x o
 ruled-by-units {x = x} h u r =
     record {
       exact = λ some (used, e).
@@ -196,7 +220,7 @@ ruled-by-units {x = x} h u r =
 -- ---- the insertion
 
 -- what an insertion does to the tree of the book, by the book
-data Tried (K : List Pair) (x : Record) : Change → Type 0 where
+pub data Tried (K : List Pair) (x : Record) : Change → Type 0 where
   taken : Numbered K (x .number) → Tried K x (refuse NumberTaken)
   varied : (m : ℕ) → Subsumed K (x .words) → Tried K x (refuse (Held m))
   full : (Numbered K (x .number) → ⊥) → maxKept ≤ length K → Tried K x (refuse ListFull)
@@ -205,7 +229,7 @@ data Tried (K : List Pair) (x : Record) : Change → Type 0 where
       → Tried K x (change G)
 
 -- the used words stand in the first word
-used-layout : (len : ℕ) (F : Forest) → leaves F ≤ maxKept → usedOf (getD (layout len F) 0 0) ≡ size F
+pub used-layout : (len : ℕ) (F : Forest) → leaves F ≤ maxKept → usedOf (getD (layout len F) 0 0) ≡ size F
 unfolding layout
 used-layout len F h = omega arith
 
@@ -217,12 +241,12 @@ module _ (K : List Pair) (F : Forest) (h : Holds treeWords K F) (x : Record) (f 
   body = plain-body (sequence-plain (x .words) (accepted (x .words) (q, s)) (f .0))
 
   -- a number that a Success has is in the book
-  find-numbered : (cs : List ℕ) → find (x .number) F ≡ some cs → Numbered K (x .number)
+  pub find-numbered : (cs : List ℕ) → find (x .number) F ≡ some cs → Numbered K (x .number)
   find-numbered cs u =
       let (p, m, i, j) = kept-pair K cs (x .number) (h .keeps .mirrors .paths cs (x .number) .0 (find-some (x .number) F (f .1) (h .keeps .mirrors .formed) cs u)) in
       (p, m, sym j)
 
-  find-new : find (x .number) F ≡ nobody → Numbered K (x .number) → ⊥
+  pub find-new : find (x .number) F ≡ nobody → Numbered K (x .number) → ⊥
   find-new u (p, m, e) =
       find-none (x .number) F (f .1) (h .keeps .mirrors .formed) u (keys (p .clause))
       (h .keeps .mirrors .paths (keys (p .clause)) (x .number) .1 (rw e at (pair-kept K p m)))
@@ -241,7 +265,7 @@ module _ (K : List Pair) (F : Forest) (h : Holds treeWords K F) (x : Record) (f 
       book-size (ins (keys (x .words)) (x .number) F) (map entry (pairOf x ∷ K))
       (mirrors-ins F (map entry K) (entry (pairOf x)) (h .keeps .mirrors) body (f .1) (λ m p. w m (h .keeps .mirrors .paths (keys (x .words)) m .1 p)))
 
-  tried : Tried K x (insertInto treeWords F (entry (pairOf x)))
+  pub tried : Tried K x (insertInto treeWords F (entry (pairOf x)))
   unfolding insertInto
   tried =
       go (find (x .number) F) refl (holder (keys (x .words)) F) refl (holding 0 (keys (x .words)) F (h .keeps .mirrors .formed)) (leb maxKept (leaves F)) refl
@@ -270,123 +294,10 @@ module _ (K : List Pair) (F : Forest) (h : Holds treeWords K F) (x : Record) (f 
   inserting : Inserts treeWords F (map entry K) (entry (pairOf x))
   inserting = inserts treeWords (entry (pairOf x)) F (map entry K) body (f .1) (h .keeps)
 
-  book-left : (r : Refusal) → insertInto treeWords F (entry (pairOf x)) ≡ refuse r → bookStep treeWords K (insert (x .words) (x .number)) ≡ K
-  unfolding bookStep
-  book-left r e = go inserting
-    where
-      go : Inserts treeWords F (map entry K) (entry (pairOf x)) → bookStep treeWords K (insert (x .words) (x .number)) ≡ K
-      go (refused r′ i b) = rw (s, b)
-      go (grown i b k new room few) = absurd (refuse≢change r _ (sym e ∙ i))
-
-  book-grown : (G : Forest) → insertInto treeWords F (entry (pairOf x)) ≡ change G → bookStep treeWords K (insert (x .words) (x .number)) ≡ pairOf x ∷ K
+  pub book-grown : (G : Forest) → insertInto treeWords F (entry (pairOf x)) ≡ change G → bookStep treeWords K (insert (x .words) (x .number)) ≡ pairOf x ∷ K
   unfolding bookStep
   book-grown G e = go inserting
     where
       go : Inserts treeWords F (map entry K) (entry (pairOf x)) → bookStep treeWords K (insert (x .words) (x .number)) ≡ pairOf x ∷ K
       go (refused r i b) = absurd (refuse≢change r G (sym i ∙ e))
       go (grown i b k new room few) = rw (s, b)
-
-  -- what an insertion makes of the record
-  abbrev Inserted : Change → Type 0
-  Inserted y =
-      let r : Called = changed (layout treeWords F) call.Kept y in
-      Fate K x (insertedAs (r .answer) (r .slice)) (bookStep treeWords K (insert (x .words) (x .number)))
-
-  fate-inserted : Uncovered K x → {y : Change} → insertInto treeWords F (entry (pairOf x)) ≡ y → Tried K x y → Inserted y
-  fate-inserted u e (taken m) = rw (book-left NumberTaken e) (refuses (number-taken u m))
-  fate-inserted u e (varied m k) = absurd (u .unsubsumed k)
-  fate-inserted u e (full n l) = rw (book-left ListFull e) (refuses (list-full u n l))
-  fate-inserted u e (crowded n l r) = rw (book-left NoRoom e) (refuses (no-room u n l r))
-  fate-inserted u e (larger n l r G i j) =
-      rw (book-grown G e, used-layout (length (layout treeWords F)) G j, i) (keeps (record { uncovered = u; new = n; few = l; room = r }))
-
--- ---- the record
-
--- what the walk answers where the query is answered covered
-told-covered : (b : ℕ) (W : List ℕ) (a : Answer State) (n k : ℕ) → answerBy b W a .answer ≡ Covered n k → (t : State) × (a ≡ covered n t k)
-told-covered b W (covered m t l) n k e = let i : m ≡ n = cc in let j : l ≡ k = cc in (t, rw (i, j))
-told-covered b W (notCovered c) n k e = apart cc
-told-covered b W spent n k e = apart cc
-told-covered b W broken n k e = apart cc
-
-module _ (K : List Pair) (h : Holds treeWords K (treeOf K)) (x : Record) (f : Fit (insert (x .words) (x .number))) where
-  abbrev T : List ℕ
-  T = layout treeWords (treeOf K)
-
-  abbrev W : List ℕ
-  W = replicate witnessWords 0
-
-  -- by the query's answer
-  fate-as : (a : QueryAnswer) → query T (x .words) budget W .answer ≡ a → Fate K x (answerAs a T x .outcome) (bookFrom treeWords K (callsOn a x))
-      → Fate K x (answerTo T x .outcome) (bookFrom treeWords K (callsFor T x))
-  unfolding answerTo callsFor
-  fate-as a e r = rw e r
-
-  -- a clause with a fault
-  asked-faulty : (v : Fault) → shape (x .words) ≡ Faulty v → query T (x .words) budget W .answer ≡ Unanswered (BadClause v)
-  unfolding query
-  asked-faulty v e = rw (length-layout treeWords (treeOf K) (h .room), e)
-
-  module _ (q : ℕ) (s : shape (x .words) ≡ Whole q) where
-    asked : Answers K (treeOf K) T (x .words) budget W
-    asked = answers K (treeOf K) (h .sound) (h .keeps .mirrors) (holds-leaves h) (x .words) (q, s) treeWords (omega arith) (omega arith) (h .room) budget W witness-long
-
-    -- within the budget, where it is covered or not
-    within : IsCovered T (x .words) budget W ⊎ IsNotCovered T (x .words) budget W → Decided K x
-    within u = record { accepted = (q, s); fits = decided-fits asked u }
-
-    fate-covered : (n k : ℕ) → query T (x .words) budget W .answer ≡ Covered n k → Strikes K x n k
-    fate-covered n k e =
-        let (p, m, i, shows, spared) = asked .covers n k e in
-        let over = query-tree treeWords (treeOf K) (omega arith) (omega arith) (h .room) (x .words) (q, s) budget W witness-long (h .keeps .mirrors .formed) in
-        let (t, w) = told-covered budget W (walk (machine (x .words)) (upTo budget) (treeOf K) initial 0) n k (ap (λ y. y .answer) (sym over) ∙ e) in
-        record {
-          decided = within (inl (n, k, e));
-          state = t;
-          walked = w;
-          count = asked .counts n k e;
-          striking = p;
-          kept = m;
-          number = i;
-          subsumes = shows-subsumes (p .clause) (x .words) _ shows;
-          shows = rw (ap (λ y. y .witness) over ∙ ap (λ a. answerBy budget W a .witness) w) at shows;
-        }
-
-    fate-new : (k : ℕ) → query T (x .words) budget W .answer ≡ NotCovered k → Uncovered K x
-    fate-new k e = record { decided = within (inr (k, e)); unsubsumed = asked .spares k e .0 }
-
-    fate-kinds : IsCovered T (x .words) budget W ⊎ (IsNotCovered T (x .words) budget W ⊎ IsSpent T (x .words) budget W)
-        → Fate K x (answerTo T x .outcome) (bookFrom treeWords K (callsFor T x))
-    fate-kinds (inl (n, k, e)) = fate-as (Covered n k) e (strikes (fate-covered n k e))
-    fate-kinds (inr (inl (k, e))) =
-        fate-as (NotCovered k) e
-        (rw (insertion-is treeWords K (treeOf K) h (omega arith) (omega arith) (x .words) (x .number) q s)
-        (fate-inserted K (treeOf K) h x f q s (fate-new k e) refl (tried K (treeOf K) h x f q s)))
-    fate-kinds (inr (inr e)) = fate-as (Unanswered (Spent budget)) e (refuses (over-budget (q, s) (asked .spends .0 e)))
-
-  pub fate : Fate K x (answerTo T x .outcome) (bookFrom treeWords K (callsFor T x))
-  fate = go (shape (x .words)) refl
-    where
-      go : (s : Shape) → shape (x .words) ≡ s → Fate K x (answerTo T x .outcome) (bookFrom treeWords K (callsFor T x))
-      go (Faulty v) e = fate-as (Unanswered (BadClause v)) (asked-faulty v e) (refuses (faulty v e))
-      go (Whole q) e = fate-kinds q e (asked q e .kinds)
-
--- the slice after a record is that after its insertion, if any
-pub slice-after : (T : List ℕ) (x : Record) → answerTo T x .slice ≡ after T (callsFor T x)
-unfolding answerTo callsFor
-slice-after T x = go (query T (x .words) budget (replicate witnessWords 0) .answer)
-  where
-    go : (a : QueryAnswer) → answerAs a T x .slice ≡ after T (callsOn a x)
-    go (Unanswered r) = refl
-    go (Covered n k) = refl
-    go (NotCovered k) = refl
-
--- its insertion fits where its words and its number do
-pub calls-fit : (T : List ℕ) (x : Record) → Fit (insert (x .words) (x .number)) → AllFit (callsFor T x)
-unfolding callsFor
-calls-fit T x f = go (query T (x .words) budget (replicate witnessWords 0) .answer)
-  where
-    go : (a : QueryAnswer) → AllFit (callsOn a x)
-    go (Unanswered r) = tt
-    go (Covered n k) = tt
-    go (NotCovered k) = (f, tt)

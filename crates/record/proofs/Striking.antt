@@ -162,11 +162,14 @@ pub weight-struck : (rs : List Row) (t : Totals) → totalsWith t rs .struck ≡
 weight-struck [] t = omega arith
 weight-struck (r ∷ rs) t = go (r .outcome) (weight-struck rs)
   where
+    m : ℕ
+    m = length (r .removed)
+
     go : (o : Outcome) → ((u : Totals) → totalsWith u rs .struck ≡ u .struck + weight (λ r. 1) rs)
-        → totalsWith (counted o t) rs .struck ≡ t .struck + (weighed (λ r. 1) r o + weight (λ r. 1) rs)
-    go (Kept used) ih = omega (arith, ih (counted (Kept used) t))
-    go (Struck n k) ih = omega (arith, ih (counted (Struck n k) t))
-    go (Refused code) ih = omega (arith, ih (counted (Refused code) t))
+        → totalsWith (counted o m t) rs .struck ≡ t .struck + (weighed (λ r. 1) r o + weight (λ r. 1) rs)
+    go (Kept used) ih = omega (arith, ih (counted (Kept used) m t))
+    go (Struck n k) ih = omega (arith, ih (counted (Struck n k) m t))
+    go (Refused code) ih = omega (arith, ih (counted (Refused code) m t))
 
 -- the candidates of the strikes are all that were spent so
 pub weight-spent : (rs : List Row) → weight (λ r. spentOn (r .outcome)) rs ≡ spent rs

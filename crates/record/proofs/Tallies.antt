@@ -4,7 +4,6 @@ use mathlib.Core.Path.{_≡_, refl, sym, ap, subst, _∙_}
 use mathlib.Core.List.{List, [], _∷_, _++_, map, flatMap, map-append, append-assoc, List·Memᴰ, List·Memᴰ·head, List·Memᴰ·tail, Memᴰ·append-left, Memᴰ·map, Memᴰ·of-map}
 use Prim.Native.Nat.{ℕ, _+_, _≤_, _<_}
 use native.Mathlib.Omega.{arith}
-use mathlib.Core.Logic.{_≢_}
 use lib.ListN.{length, replicate, length-map}
 use Rattle.clause.specs.Lists.{Each, besides}
 use Rattle.clause.specs.Clause.{Subsumes}
@@ -13,24 +12,20 @@ use Rattle.tree.specs.Entries.{Pair}
 use Rattle.record.specs.Marks.{numberCount}
 use Rattle.record.specs.Output.{recordsOf, Row, freshSlice, rowsOf, totalsWith, none}
 use Rattle.record.specs.Ruled.{pairOf, Numbered}
-use Rattle.record.specs.Sheet.{Bytes, bookAfter, KeptLine, KeptCovers, RowAt, Sheet}
+use Rattle.record.specs.Sheet.{Bytes, bookAfter, takenOut, KeptLine, KeptCovers, RowAt, Sheet}
 use Rattle.record.specs.Tally.{spentOn, everKept, struckBy, total, TallyRow, tallyRow, passing, tallyFrom, tallyOf, tallyLines}
 use Rattle.record.specs.Counters.{counterWords, shownFrom}
 use Rattle.record.specs.Tallies.{mostBytes, numbersOf, RowStands, Tallied, Tallies}
+use Rattle.record.specs.declared.Setting.{Setting}
+use Rattle.record.specs.declared.Setting.the-variants.{Plain}
 use Rattle.record.specs.declared.Outcome.the-variants.{Struck}
 use Rattle.record.proofs.Reading.{input-narrow, records-few}
-use Rattle.record.proofs.Rows.{rows-records, kept-mem, mem-kept, counted-read, rows-counted}
+use Rattle.record.proofs.Rows.{Fated, rows-records, kept-mem, mem-kept, rows-read, rows-plain}
+use Rattle.record.proofs.Clearing.{same-pair}
 use Rattle.record.proofs.Sheets.{rows-fated, sheets}
 use Rattle.record.proofs.Passing.{passing-has, passing-all, passing-rises, passing-append}
 use Rattle.record.proofs.Striking.{struck-among, among-struck, ever-line, line-ever, weightBy, weights, weigh-one, weight-struck, weight-spent}
 use Rattle.record.proofs.Counting.{marksWith, countersWith, fated-spent, shown-tally}
-
--- two pairs of a book with the same number are one
-same-pair : {K : List Pair} {p q : Pair} → Each (λ p q. p .number ≢ q .number) K → List·Memᴰ p K → List·Memᴰ q K → p .number ≡ q .number → p ≡ q
-same-pair d (List·Memᴰ·head i) (List·Memᴰ·head j) e = i ∙ sym j
-same-pair (besides h d) (List·Memᴰ·head i) (List·Memᴰ·tail n) e = absurd (all-mem h n (ap (λ (x : Pair). x .number) (sym i) ∙ e))
-same-pair (besides h d) (List·Memᴰ·tail m) (List·Memᴰ·head j) e = absurd (all-mem h m (ap (λ (x : Pair). x .number) (sym j) ∙ sym e))
-same-pair (besides h d) (List·Memᴰ·tail m) (List·Memᴰ·tail n) e = same-pair d m n e
 
 -- the numbers of some rows of a tally
 numbers-map : (rs : List Row) (l : List ℕ) → numbersOf (map (tallyRow rs) l) ≡ l
@@ -46,11 +41,11 @@ candidates-map rs [] = refl
 candidates-map rs (n ∷ l) = omega (arith, candidates-map rs l)
 
 -- as many are counted as the input has
-pub read-records : (input : List ℕ) → totalsWith none (rowsOf input) .records ≡ length (recordsOf input)
+pub read-records : (v : Setting) (input : List ℕ) → totalsWith none (rowsOf v input) .records ≡ length (recordsOf input)
 unfolding rowsOf
-read-records input =
-    let rs : List Row = rowsOf input in
-    omega (arith, rows-counted (λ t. t .records) counted-read rs none, length-map rs (λ (r : Row). r .of), ap length (rows-records freshSlice (recordsOf input)))
+read-records v input =
+    let rs : List Row = rowsOf v input in
+    omega (arith, rows-read rs none, length-map rs (λ (r : Row). r .of), ap length (rows-records v freshSlice (recordsOf input)))
 
 -- a row in its place
 row-at : (r : Row) (rs : List Row) → List·Memᴰ r rs → (a : RowAt rs) × (a .this ≡ r)
@@ -59,12 +54,12 @@ row-at r (s ∷ rs) (List·Memᴰ·tail m) =
     let (a, e) = row-at r rs m in
     (record { before = s ∷ a .before; this = a .this; after = a .after; whole = ap (λ (l : List Row). s ∷ l) (a .whole) }, e)
 
-module _ (input : List ℕ) (b : Bytes input) where
+module _ (v : Setting) (input : List ℕ) (b : Bytes input) where
   abbrev rs : List Row
-  rs = rowsOf input
+  rs = rowsOf v input
 
-  abbrev sheet : Sheet input
-  sheet = sheets input b
+  abbrev sheet : Sheet v input
+  sheet = sheets v input b
 
   -- the numbers that were ever kept
   abbrev kept : List ℕ
@@ -87,9 +82,15 @@ module _ (input : List ℕ) (b : Bytes input) where
   kept-line : (n : ℕ) → List·Memᴰ n kept → KeptLine rs n
   kept-line n m = ever-line n rs (all-mem (passing-all (λ k. everKept k rs) numberCount 0) m .test)
 
+  -- without backward striking no line takes a clause out
+  none-out : v ≡ Plain → takenOut rs ≡ []
+  none-out e = rows-plain (subst (λ (u : Setting). Fated u [] rs) e (rows-fated v input b))
+
   -- a line and a pair of the last book
-  line-book : (n : ℕ) → KeptLine rs n → Numbered (bookAfter rs) n
-  line-book n l = let (r, m, k, e) = l in (pairOf (r .of), subst (List·Memᴰ (pairOf (r .of))) (sym (sheet .covers .pairs)) (kept-mem rs r m k), e)
+  line-book : v ≡ Plain → (n : ℕ) → KeptLine rs n → Numbered (bookAfter rs) n
+  line-book p n l =
+      let (r, m, k, e) = l in
+      (pairOf (r .of), subst (List·Memᴰ (pairOf (r .of))) (sym (sheet .covers .pairs)) (kept-mem rs (none-out p) r m k), e)
 
   book-line : (n : ℕ) → Numbered (bookAfter rs) n → KeptLine rs n
   book-line n x =
@@ -111,13 +112,13 @@ module _ (input : List ℕ) (b : Bytes input) where
   row-stands n = record { strikes = refl; candidates = refl; struck = λ r l. let (m, (k, e)) = struck-among n rs r l in struck-line r m n k e }
 
   -- the clause of the last book with a number subsumes all that the number struck
-  last-clause : (p : Pair) → List·Memᴰ p (bookAfter rs) → (r : Row) → List·Memᴰ r (struckBy (p .number) rs) → Subsumes (p .clause) (r .of .words)
-  last-clause p i r l =
+  last-clause : v ≡ Plain → (p : Pair) → List·Memᴰ p (bookAfter rs) → (r : Row) → List·Memᴰ r (struckBy (p .number) rs) → Subsumes (p .clause) (r .of .words)
+  last-clause plain p i r l =
       let (m, (k, e)) = struck-among (p .number) rs r l in
-      let (q, j, f, s) = sheet .covers .named r m (p .number) k e in
+      let (q, j, f, s) = sheet .covers .named plain r m (p .number) k e in
       subst (λ (x : Pair). Subsumes (x .clause) (r .of .words)) (same-pair (sheet .stands .numbers) j i f) s
 
-  tallied : Tallied input
+  tallied : Tallied v input
   tallied =
       record {
         strikes =
@@ -126,10 +127,10 @@ module _ (input : List ℕ) (b : Bytes input) where
         candidates =
             ap (λ (l : List TallyRow). total (map (λ t. t .candidates) l)) rows-are ∙ candidates-map rs kept
             ∙ weights (λ r. spentOn (r .outcome)) kept (passing-rises (λ k. everKept k rs) numberCount 0) rs striking ∙ weight-spent rs;
-        records = read-records input;
+        records = read-records v input;
         numbers = λ n. (λ m. kept-line n (subst (List·Memᴰ n) numbers-are m), λ l. subst (List·Memᴰ n) (sym numbers-are) (line-kept n l));
-        book = λ n. (
-          λ m. line-book n (kept-line n (subst (List·Memᴰ n) numbers-are m)),
+        book = λ p n. (
+          λ m. line-book p n (kept-line n (subst (List·Memᴰ n) numbers-are m)),
           λ x. subst (List·Memᴰ n) (sym numbers-are) (line-kept n (book-line n x)),
         );
         rising = subst (Each _<_) (sym numbers-are) (passing-rises (λ k. everKept k rs) numberCount 0);
@@ -143,12 +144,13 @@ module _ (input : List ℕ) (b : Bytes input) where
 -- ---- in lent words
 
 -- after an input that is not too long, the marks and the counters show its tally
-pub shown-input : (input : List ℕ) → Bytes input → length input < mostBytes → (n c : ℕ) → n + c ≤ numberCount
-    → shownFrom (marksWith (replicate numberCount 0) (rowsOf input)) (countersWith (replicate counterWords 0) (rowsOf input)) n c ≡ tallyFrom (rowsOf input) n c
-shown-input input b l n c h =
-    let few : length (rowsOf input) < mostBytes =
-    omega (arith, records-few input, length-map (rowsOf input) (λ (r : Row). r .of), ap length (sheets input b .rows)) in
-    shown-tally (rowsOf input) (fated-spent (rows-fated input b)) few n c h
+pub shown-input : (v : Setting) (input : List ℕ) → Bytes input → length input < mostBytes → (n c : ℕ) → n + c ≤ numberCount
+    → shownFrom (marksWith (replicate numberCount 0) (rowsOf v input)) (countersWith (replicate counterWords 0) (rowsOf v input)) n c
+    ≡ tallyFrom (rowsOf v input) n c
+shown-input v input b l n c h =
+    let few : length (rowsOf v input) < mostBytes =
+    omega (arith, records-few input, length-map (rowsOf v input) (λ (r : Row). r .of), ap length (sheets v input b .rows)) in
+    shown-tally (rowsOf v input) (fated-spent (rows-fated v input b)) few n c h
 
 -- ---- in pieces
 
@@ -169,4 +171,4 @@ module _ (row : ℕ → TallyRow) (p : ℕ → Bool) where
       ∙ lines-append (map row (passing p n a)) (map row (passing p (n + a) b))
 
 pub tallies : Tallies
-tallies input b = tallied input b
+tallies v input b = tallied v input b

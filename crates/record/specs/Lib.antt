@@ -1,5 +1,6 @@
 pub mod Text
 pub mod Line
+pub mod Settings
 pub mod Answer
 pub mod Marks
 pub mod Output

@@ -13,7 +13,9 @@ use Rattle.book.specs.Book.{sliceOf, bookOf}
 use Rattle.book.specs.Claims.{Run}
 use Rattle.record.specs.Answer.{treeWords, Record}
 use Rattle.record.specs.Output.{fields, recordsOf, Row, rowOn, freshSlice, rowsOf, rowCalls, totalsWith, none}
-use Rattle.record.specs.Ruled.{pairOf, IsKept, IsStruck, Ruled, RuledByUnits}
+use Rattle.record.specs.Ruled.{pairOf, IsKept, IsStruck, withoutAll, Ruled, RuledByUnits}
+use Rattle.record.specs.declared.Setting.{Setting}
+use Rattle.record.specs.declared.Setting.the-variants.{Plain, Back}
 use Rattle.record.specs.declared.Outcome.{Outcome}
 use Rattle.record.specs.declared.Outcome.the-variants.{Kept, Struck, Refused}
 
@@ -33,10 +35,15 @@ keptOn (Kept used) x = pairOf x ∷ []
 keptOn (Struck n k) x = []
 keptOn (Refused code) x = []
 
--- the pairs of those with a `kept` line, the last one first
+-- the numbers with a `removed` line among them
+abbrev pub takenOut : List Row → List ℕ
+takenOut [] = []
+takenOut (r ∷ rs) = r .removed ++ takenOut rs
+
+-- the pairs of those with a `kept` line that no later `removed` line takes out, the last one first
 abbrev pub keptPairs : List Row → List Pair
 keptPairs [] = []
-keptPairs (r ∷ rs) = keptPairs rs ++ keptOn (r .outcome) (r .of)
+keptPairs (r ∷ rs) = keptPairs rs ++ withoutAll (takenOut rs) (keptOn (r .outcome) (r .of))
 
 -- their calls are a list of which `Reach`, `Demand2`, `Demand3` and `ExactCount` speak; in the book they leave, numbers differ and no two clauses are variants
 pub record BookStands (rs : List Row) : Type 0 where
@@ -62,15 +69,16 @@ pub record RowAt (rs : List Row) : Type 0 where
   pub whole : rs ≡ before ++ (this ∷ after)
 
 -- what is claimed of it
-pub record RowClaims {rs : List Row} (a : RowAt rs) : Type 0 where
+pub record RowClaims (s : Setting) {rs : List Row} (a : RowAt rs) : Type 0 where
   -- it is the row of its record, asked on the slice that the calls of the rows before it leave
-  pub asked : a .this ≡ rowOn (sliceOf freshSlice (rowCalls (a .before))) (a .this .of)
+  pub asked : a .this ≡ rowOn s (sliceOf freshSlice (rowCalls (a .before))) (a .this .of)
   pub stands : BookStands (a .before)
   -- the book before it rules it
-  pub ruled : Ruled (bookAfter (a .before)) (a .this .of) (a .this .outcome) (bookAfter (a .before ++ (a .this ∷ [])))
+  pub ruled : Ruled s (bookAfter (a .before)) (a .this .of) (a .this .outcome) (a .this .removed) (bookAfter (a .before ++ (a .this ∷ [])))
   -- where it is struck, an earlier row says that the number was kept, and the clause of that row subsumes this one's
   pub earlier : (n k : ℕ) → a .this .outcome ≡ Struck n k → KeptCovers (a .before) n (a .this .of)
-  -- the codes with which it can be refused; 12 is none of them, since the budget is enough for every query that can come
+  -- the codes with which it can be refused; 12 is none of them, since the budget is enough for every query and listing that can come; nor are the
+  -- listing's 1, 2, 14 and 16
   pub codes : (code : ℕ) → a .this .outcome ≡ Refused code → List·Memᴰ code (3 ∷ 4 ∷ 5 ∷ 7 ∷ 10 ∷ 11 ∷ [])
   -- where the book before it has units only: how many candidates its query takes
   pub units : Units (bookAfter (a .before)) → RuledByUnits (bookAfter (a .before)) (a .this .of) (a .this .outcome)
@@ -92,33 +100,42 @@ pub record Complete (xs : List Record) (fs : List ℕ) : Type 0 where
   pub whole : fs ≡ allFields xs ++ rest
   pub cut : (x : Record) (ys : List ℕ) → rest ≡ fieldsOf x ++ ys → ⊥
 
--- the last book covers what was kept or struck, and it is what the `kept` lines say
-pub record Covers (input : List ℕ) : Type 0 where
-  -- every record that was kept or struck is subsumed by a clause of the last book
-  pub covered : (r : Row) → List·Memᴰ r (rowsOf input) → IsKept (r .outcome) ⊎ IsStruck (r .outcome)
-      → Subsumed (bookAfter (rowsOf input)) (r .of .words)
-  -- one that was struck is so by the clause with the number that its line says
-  pub named : (r : Row) → List·Memᴰ r (rowsOf input) → (n k : ℕ) → r .outcome ≡ Struck n k
-      → (p : Pair) × List·Memᴰ p (bookAfter (rowsOf input)) × (p .number ≡ n) × Subsumes (p .clause) (r .of .words)
-  -- the pairs of the last book are exactly the records with a `kept` line, as many as the totals say
-  pub pairs : bookAfter (rowsOf input) ≡ keptPairs (rowsOf input)
-  pub many : totalsWith none (rowsOf input) .kept ≡ length (bookAfter (rowsOf input))
+-- no clause of a book subsumes another one of it
+abbrev pub Antichain : List Pair → Type 0
+Antichain K = Each (λ p q. (Subsumes (p .clause) (q .clause) → ⊥) × (Subsumes (q .clause) (p .clause) → ⊥)) K
+
+-- the last book covers what was kept or struck, and it is what the `kept` and `removed` lines say
+pub record Covers (s : Setting) (input : List ℕ) : Type 0 where
+  -- every record that was kept, also if it was removed later, or struck is subsumed by a clause of the last book
+  pub covered : (r : Row) → List·Memᴰ r (rowsOf s input) → IsKept (r .outcome) ⊎ IsStruck (r .outcome)
+      → Subsumed (bookAfter (rowsOf s input)) (r .of .words)
+  -- without backward striking one that was struck is so by the clause with the number that its line says
+  pub named : s ≡ Plain → (r : Row) → List·Memᴰ r (rowsOf s input) → (n k : ℕ) → r .outcome ≡ Struck n k
+      → (p : Pair) × List·Memᴰ p (bookAfter (rowsOf s input)) × (p .number ≡ n) × Subsumes (p .clause) (r .of .words)
+  -- with it no clause of the last book subsumes another one of it
+  pub apart : s ≡ Back → Antichain (bookAfter (rowsOf s input))
+  -- the pairs of the last book are exactly the records with a `kept` line that no later `removed` line takes out, as many as the totals say
+  pub pairs : bookAfter (rowsOf s input) ≡ keptPairs (rowsOf s input)
+  pub many : totalsWith none (rowsOf s input) .kept ≡ length (bookAfter (rowsOf s input))
+  -- and as many `removed` lines
+  pub removed : totalsWith none (rowsOf s input) .removed ≡ length (takenOut (rowsOf s input))
 
 -- what is claimed of an input; `listingOf` is the lines of its rows, and their totals
-pub record Sheet (input : List ℕ) : Type 0 where
+pub record Sheet (s : Setting) (input : List ℕ) : Type 0 where
   -- a row for each complete record, in order; the totals count each of them once
   pub reads : Complete (recordsOf input) (fields input)
-  pub rows : map (λ r. r .of) (rowsOf input) ≡ recordsOf input
-  pub counts : let t = totalsWith none (rowsOf input) in t .kept + t .struck + t .refused ≡ length (recordsOf input)
+  pub rows : map (λ r. r .of) (rowsOf s input) ≡ recordsOf input
+  pub counts : let t = totalsWith none (rowsOf s input) in t .kept + t .struck + t .refused + t .removed ≡ length (recordsOf input)
   -- each row in its place, and the last book
-  pub placed : (a : RowAt (rowsOf input)) → RowClaims a
-  pub stands : BookStands (rowsOf input)
-  pub covers : Covers input
+  pub placed : (a : RowAt (rowsOf s input)) → RowClaims s a
+  pub stands : BookStands (rowsOf s input)
+  pub covers : Covers s input
 
--- the claim
+-- the claim, with each setting
 abbrev pub Sheets : Type 0
-Sheets = (input : List ℕ) → Bytes input → Sheet input
+Sheets = (s : Setting) (input : List ℕ) → Bytes input → Sheet s input
 
 -- and its last part by itself: every record that was kept or struck is subsumed by a clause of the last book, whose pairs are the `kept` lines
+-- without those that a later `removed` line takes out
 abbrev pub NoStrikeIsWrong : Type 0
-NoStrikeIsWrong = (input : List ℕ) → Bytes input → Covers input
+NoStrikeIsWrong = (s : Setting) (input : List ℕ) → Bytes input → Covers s input

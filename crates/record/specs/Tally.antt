@@ -7,6 +7,7 @@ use lib.ListN.{length}
 use Rattle.record.specs.Line.{tallyLine, recordsLine}
 use Rattle.record.specs.Marks.{numberCount}
 use Rattle.record.specs.Output.{recordsOf, Row, rowsOf, listingOf}
+use Rattle.record.specs.declared.Setting.{Setting}
 use Rattle.record.specs.declared.Outcome.{Outcome}
 use Rattle.record.specs.declared.Outcome.the-variants.{Kept, Struck, Refused}
 
@@ -81,9 +82,9 @@ unfoldable pub tallyLines : List TallyRow → List ℕ
 tallyLines ts = flatMap (λ t. tallyLine (t .number) (t .strikes) (t .candidates)) ts
 
 -- the tally sheet of an input: the rows of its tally, and how many complete records it has
-unfoldable pub tallySheetOf : (input : List ℕ) → List ℕ
-tallySheetOf bs = tallyLines (tallyOf (rowsOf bs)) ++ recordsLine (length (recordsOf bs))
+unfoldable pub tallySheetOf : Setting → (input : List ℕ) → List ℕ
+tallySheetOf s bs = tallyLines (tallyOf (rowsOf s bs)) ++ recordsLine (length (recordsOf bs))
 
 -- the whole output: the listing, and after it the tally sheet
-unfoldable pub outputOf : (input : List ℕ) → List ℕ
-outputOf bs = listingOf bs ++ tallySheetOf bs
+unfoldable pub outputOf : Setting → (input : List ℕ) → List ℕ
+outputOf s bs = listingOf s bs ++ tallySheetOf s bs

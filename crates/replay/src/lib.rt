@@ -7,6 +7,7 @@ ghost use Rattle.book.specs.Encoding.{whole, callsOf, HasWords, Ran};
 ghost use Rattle.book.specs.Believable.{Believable};
 ghost use Rattle.book.specs.Claims.{Run, Reached, Demand1, Reach, Demand2, Demand3, ExactCount};
 ghost use Rattle.book.specs.Saved.{ReachSaved, PassedSaved, SavedIsMade, SavedDemand2, SavedDemand3, ReadsBook};
+ghost use Rattle.book.specs.Backward.{ListsBook};
 ghost use Rattle.tree.specs.Calls.{fresh};
 ghost use Rattle.tree.specs.declared.CallAnswer.the-variants.{Ready};
 
@@ -58,6 +59,7 @@ pub fn run(tree: &mut [u64], calls: &[u16])
     ensures demands { λ _. ⌜ Demand1 × Reach × Demand2 × Demand3 ⌝ }
     ensures count { λ _. ⌜ ExactCount ⌝ }
     ensures saved { λ _. ⌜ ReachSaved × PassedSaved × SavedIsMade × SavedDemand2 × SavedDemand3 × ReadsBook ⌝ }
+    ensures backward { λ _. ⌜ ListsBook ⌝ }
 {
     laid::fresh(tree);
     let mut at = 0;

@@ -9,6 +9,11 @@ pub told-one : (ws : List ℕ) (u : ℕ) → set ws 0 u ≡ toldBy (u ∷ []) ws
 told-one [] u = refl
 told-one (w ∷ ws) u = refl
 
+pub told-two : (ws : List ℕ) (u v : ℕ) → set (set ws 0 u) 1 v ≡ toldBy (u ∷ v ∷ []) ws
+told-two [] u v = refl
+told-two (w ∷ []) u v = refl
+told-two (w ∷ y ∷ ws) u v = refl
+
 pub told-three : (ws : List ℕ) (u v x : ℕ) → set (set (set ws 0 u) 1 v) 2 x ≡ toldBy (u ∷ v ∷ x ∷ []) ws
 told-three [] u v x = refl
 told-three (w ∷ []) u v x = refl

@@ -5,8 +5,9 @@ ghost use lib.ListN.{set};
 ghost use Rattle.clause.specs.declared.Fault.{Fault};
 ghost use Rattle.tree.specs.declared.Refusal.the-variants.{BadClause};
 ghost use Rattle.tree.specs.Refusal.{codeOf, valuesOf};
-ghost use Rattle.book.specs.Table.{saidCall, saidQuery, saidCeiling, saidCheck, saidRead};
+ghost use Rattle.book.specs.Table.{saidCall, saidQuery, saidCeiling, saidCheck, saidRead, saidBack};
 ghost use Rattle.interface.specs.Told.{numberOf, toldBy, replied};
+use backward::BackAnswer;
 use clause::Fault;
 use readback::CheckAnswer;
 use readback::ReadAnswer;
@@ -53,6 +54,7 @@ fn tell_refusal(told: &mut [u64], refusal: Refusal)
         Refusal::BadSize => {}
         Refusal::NoSuchTree => {}
         Refusal::ShortOutput => {}
+        Refusal::ShortList => {}
     }
 }
 
@@ -123,6 +125,20 @@ pub fn hand_read(answer: ReadAnswer, told: &mut [u64]) -> u64
         ReadAnswer::Unread(refusal) => refuse(refusal, told),
         ReadAnswer::Read(length) => {
             tell(told, 0, length as u64);
+            0
+        }
+    }
+}
+
+// Hands an answer of listing backward over: how many numbers, and the candidates in all.
+pub fn hand_back(answer: BackAnswer, told: &mut [u64]) -> u64
+    ensures { λ r. ⌜ record { number = r; told = now (told .exit) } ≡ replied (saidBack answer) (now (told .entry)) ⌝ }
+{
+    match answer {
+        BackAnswer::Unlisted(refusal) => refuse(refusal, told),
+        BackAnswer::Listed(count, candidates) => {
+            tell(told, 0, count as u64);
+            tell(told, 1, candidates);
             0
         }
     }

@@ -11,17 +11,18 @@ use Rattle.record.specs.Tally.{tallySheetOf}
 use Rattle.record.specs.Counters.{counterWords, shownSheet}
 use Rattle.lines.proofs.Writing.{placed, text-there}
 use Rattle.intake.specs.Feed.{Store, storeOf, firstStore}
+use Rattle.record.specs.declared.Setting.{Setting}
 use Rattle.intake.specs.declared.Session.{Session}
 use Rattle.intake.proofs.Records.{whole-input}
 use Rattle.streaming.specs.Fed.{FedSoFar}
 use Rattle.running.specs.Run.{Listed, RunEnds}
 
 -- the line of totals
-pub totals-listed : {s : Session} {m : Store} (o : List ℕ) {r : ℕ} {p : List ℕ} → FedSoFar s m
-    → _≡_ {A = Written} (record { next = r; output = p }) (putAt (totalsLine (s .totals)) o 0) → r ≤ longestTotals → longestTotals ≤ length o → Listed s m p r
-totals-listed {s} o h e l k =
-    let w = placed (totalsLine (s .totals)) o 0 e in
-    record { fed = h; line = text-there (totalsLine (s .totals)) o (omega (arith, w)) e; bytes = omega (arith, w); short = l }
+pub totals-listed : (v : Setting) {s : Session} {m : Store} (o : List ℕ) {r : ℕ} {p : List ℕ} → FedSoFar v s m
+    → _≡_ {A = Written} (record { next = r; output = p }) (putAt (totalsLine v (s .totals)) o 0) → r ≤ longestTotals → longestTotals ≤ length o → Listed v s m p r
+totals-listed v {s} o h e l k =
+    let w = placed (totalsLine v (s .totals)) o 0 e in
+    record { fed = h; line = text-there (totalsLine v (s .totals)) o (omega (arith, w)) e; bytes = omega (arith, w); short = l }
 
 -- the lengths of the first store
 pub first-lengths : {ws T m c : List ℕ} → storeOf ws T m c ≡ firstStore → (length m ≡ numberCount) × (length c ≡ counterWords)
@@ -32,15 +33,15 @@ first-lengths e = (
 )
 
 -- the tally sheet, and the whole run
-pub run-ends : {s : Session} {m : Store} {o : List ℕ} {t : List ℕ} {k put : ℕ} → Listed s m o k → put ≡ length (shownSheet (m .marks) (m .counters) (s .totals .records))
-    → t ≡ recordsLine (s .totals .records) → RunEnds s m (k + put) t
-run-ends {s} {m} h e i =
+pub run-ends : {v : Setting} {s : Session} {m : Store} {o : List ℕ} {t : List ℕ} {k put : ℕ} → Listed v s m o k → put ≡ length (shownSheet (m .marks) (m .counters) (s .totals .records))
+    → t ≡ recordsLine (s .totals .records) → RunEnds v s m (k + put) t
+run-ends {v} {s} {m} h e i =
     let f = h .fed in
     let x = ap (λ (y : Session). y .totals .records) (f .read) in
     record {
       fed = f;
       all = λ l.
-          let g = e ∙ ap₂ (λ (y : Store) (n : ℕ). length (shownSheet (y .marks) (y .counters) n)) (f .lent) x ∙ ap length (whole-input .tally (f .bytes) (f .small) l) in
-          omega (arith, h .bytes, g, length-append (totalsLine (s .totals)) (tallySheetOf (f .bytes)));
-      line = i ∙ ap recordsLine (x ∙ whole-input .records (f .bytes));
+          let g = e ∙ ap₂ (λ (y : Store) (n : ℕ). length (shownSheet (y .marks) (y .counters) n)) (f .lent) x ∙ ap length (whole-input .tally v (f .bytes) (f .small) l) in
+          omega (arith, h .bytes, g, length-append (totalsLine v (s .totals)) (tallySheetOf v (f .bytes)));
+      line = i ∙ ap recordsLine (x ∙ whole-input .records v (f .bytes));
     }

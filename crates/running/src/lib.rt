@@ -1,9 +1,14 @@
 // The whole run: the listing of the input, line by line with its totals, and then the tally sheet (docs/REFERENCE.md, "The program").
 // A record's line is made by `feeding::feed`, the totals by `lines::put_totals`, the tally sheet by `tallying`; what is here moves the bytes.
+mod settings;
+
 use intake::Session;
 use lines::put_totals;
 use printing::write_more;
 use printing::write_tally;
+use record::Setting;
+pub use settings::Argument;
+pub use settings::setting_of;
 use streaming::FedBlock;
 use streaming::feed_all;
 ghost use mathlib.Core.Path.{_≡_};
@@ -21,6 +26,7 @@ pub struct Ran {
 
 // Feeds the whole input, and then puts the totals into the output and writes them, unless a write has failed.
 fn write_listing(
+    setting: Setting,
     input: &mut [u8],
     tree: &mut [u64],
     marks: &mut [u8],
@@ -29,13 +35,13 @@ fn write_listing(
     output: &mut [u8],
 ) -> FedBlock
     requires { ⌜ Buffers (now input) (now output) × (storeOf (now words) (now tree) (now marks) (now counters) ≡ firstStore) ⌝ }
-    ensures { λ r. ⌜ Listed (r .session) (storeOf (now (words .exit)) (now (tree .exit)) (now (marks .exit)) (now (counters .exit)))
+    ensures { λ r. ⌜ Listed setting (r .session) (storeOf (now (words .exit)) (now (tree .exit)) (now (marks .exit)) (now (counters .exit)))
         (now (output .exit)) (r .next) ⌝ }
 {
-    let all = feed_all(input, tree, marks, counters, words, output);
+    let all = feed_all(setting, input, tree, marks, counters, words, output);
     let session = all.session;
     let totals = session.totals;
-    let end = put_totals(output, 0, totals);
+    let end = put_totals(output, 0, setting, totals);
     let good = write_more(&output[..end], all.good);
     FedBlock {
         session: session,
@@ -46,6 +52,7 @@ fn write_listing(
 
 // The whole run. The output then begins with its last line.
 pub fn run(
+    setting: Setting,
     input: &mut [u8],
     tree: &mut [u64],
     marks: &mut [u8],
@@ -54,10 +61,10 @@ pub fn run(
     output: &mut [u8],
 ) -> Ran
     requires { ⌜ Buffers (now input) (now output) × (storeOf (now words) (now tree) (now marks) (now counters) ≡ firstStore) ⌝ }
-    ensures { λ r. ⌜ RunEnds (r .session) (storeOf (now (words .exit)) (now (tree .exit)) (now (marks .exit)) (now (counters .exit)))
+    ensures { λ r. ⌜ RunEnds setting (r .session) (storeOf (now (words .exit)) (now (tree .exit)) (now (marks .exit)) (now (counters .exit)))
         (r .bytes) (take (r .next) (now (output .exit))) ⌝ }
 {
-    let listed = write_listing(input, tree, marks, counters, words, output);
+    let listed = write_listing(setting, input, tree, marks, counters, words, output);
     let session = listed.session;
     let totals = session.totals;
     let tally = write_tally(totals.records, marks, counters, output, listed.good);

@@ -5,12 +5,12 @@ use intake::Session;
 use intake::begin;
 use libc::STDIN_FILENO;
 use printing::write_text;
+use record::Setting;
 ghost use mathlib.Core.Path.{_≡_};
 ghost use Prim.Native.Nat.{_≤_, _<_};
 ghost use lib.ListN.{length, take};
 ghost use Rattle.intake.specs.Feed.{storeOf, firstStore};
-ghost use Rattle.answering.specs.inner.Steady.{Steady};
-ghost use Rattle.feeding.specs.inner.Blocks.{Feedable};
+ghost use Rattle.feeding.specs.inner.Blocks.{Feedable, Stays};
 ghost use Rattle.intake.specs.Feed.{feed as Feed·feed};
 ghost use Rattle.record.specs.Sheet.{Bytes};
 ghost use Rattle.streaming.specs.Fed.{Buffers, FedSoFar};
@@ -55,6 +55,7 @@ fn read_block(input: &mut [u8]) -> Got
 
 // Feeds a block, and writes its lines.
 fn feed_block(
+    setting: Setting,
     block: &[u8],
     session: Session,
     tree: &mut [u64],
@@ -69,11 +70,21 @@ fn feed_block(
       store = storeOf (now (words .exit)) (now (tree .exit)) (now (marks .exit)) (now (counters .exit));
       text = take (r .next) (now (output .exit));
     }
-        ≡ Feed·feed session (storeOf (now (words .entry)) (now (tree .entry)) (now (marks .entry)) (now (counters .entry))) (now (block .entry)) ⌝ }
-    ensures steady { λ _. ⌜ Steady (now (tree .exit)) (now (marks .exit)) ⌝ }
+        ≡ Feed·feed setting session (storeOf (now (words .entry)) (now (tree .entry)) (now (marks .entry)) (now (counters .entry))) (now (block .entry)) ⌝ }
+    ensures stays { λ r. ⌜ Stays (session .totals) (length (now (block .entry))) (r .session .totals)
+        (storeOf (now (words .exit)) (now (tree .exit)) (now (marks .exit)) (now (counters .exit))) ⌝ }
     ensures bytes { λ _. ⌜ Bytes (now (block .entry)) ⌝ }
 {
-    let turn = feed(block, session, tree, marks, counters, words, output);
+    let turn = feed(
+        setting,
+        block,
+        session,
+        tree,
+        marks,
+        counters,
+        words,
+        output,
+    );
     let next = turn.next;
     let good = write_text(&output[..next]);
     let after = turn.session;
@@ -99,6 +110,7 @@ fn left_after(blocks: u64, more: bool, good: bool) -> u64
 
 // Reads and feeds block after block. The end of the input is a block of no bytes.
 pub fn feed_all(
+    setting: Setting,
     input: &mut [u8],
     tree: &mut [u64],
     marks: &mut [u8],
@@ -107,7 +119,7 @@ pub fn feed_all(
     output: &mut [u8],
 ) -> FedBlock
     requires { ⌜ Buffers (now input) (now output) × (storeOf (now words) (now tree) (now marks) (now counters) ≡ firstStore) ⌝ }
-    ensures { λ r. ⌜ FedSoFar (r .session) (storeOf (now (words .exit)) (now (tree .exit)) (now (marks .exit)) (now (counters .exit))) ⌝ }
+    ensures { λ r. ⌜ FedSoFar setting (r .session) (storeOf (now (words .exit)) (now (tree .exit)) (now (marks .exit)) (now (counters .exit))) ⌝ }
 {
     let mut here = FedBlock {
         session: begin(),
@@ -120,6 +132,7 @@ pub fn feed_all(
         let count = got.count;
         let session = here.session;
         let fed = feed_block(
+            setting,
             &input[..count],
             session,
             tree,

@@ -1,4 +1,7 @@
 // The input as it streams in: block after block is read from standard input and fed, and its lines are written (docs/REFERENCE.md, "The program").
+use lines::Longest;
+use tree::Tree;
+
 mod blocks;
 
 pub use blocks::FedBlock;
@@ -10,6 +13,9 @@ pub struct Limit {}
 impl Limit {
     // The most bytes of a block.
     pub const BLOCK: usize = 0x4000;
+    // The most bytes that a block prints: the lines of its records, and one for each clause that they remove.
+    pub const OUTPUT: usize = Limit::BLOCK * (Longest::LINE + Longest::REMOVAL)
+        + Tree::CLAUSES * Longest::REMOVAL;
     // The most blocks. A proved loop has to end, and nothing says that the input does: no run uses them up.
     const BLOCKS: u64 = 0x8000_0000_0000;
 }

@@ -3,7 +3,7 @@ use mathlib.Core.List.{List, [], _∷_}
 use Prim.Native.Nat.{ℕ}
 use Rattle.clause.specs.declared.Fault.the-variants.{BadLength, Bad, Ninth}
 use Rattle.tree.specs.declared.Refusal.{Refusal}
-use Rattle.tree.specs.declared.Refusal.the-variants.{BadSlice, Broken, BadClause, ShortWitness, NumberTaken, Held, NoSuchNumber, ListFull, NoRoom, Spent, BadSize, NoSuchTree, ShortOutput}
+use Rattle.tree.specs.declared.Refusal.the-variants.{BadSlice, Broken, BadClause, ShortWitness, NumberTaken, Held, NoSuchNumber, ListFull, NoRoom, Spent, BadSize, NoSuchTree, ShortOutput, ShortList}
 
 -- its code
 abbrev pub codeOf : Refusal → ℕ
@@ -22,6 +22,7 @@ codeOf (Spent count) = 12
 codeOf BadSize = 13
 codeOf NoSuchTree = 14
 codeOf ShortOutput = 15
+codeOf ShortList = 16
 
 -- the values that go with it: the position for 4 and 5, the number for 8, the count for 12
 abbrev pub valuesOf : Refusal → List ℕ
@@ -40,3 +41,4 @@ valuesOf (Spent count) = count ∷ []
 valuesOf BadSize = []
 valuesOf NoSuchTree = []
 valuesOf ShortOutput = []
+valuesOf ShortList = []

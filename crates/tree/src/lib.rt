@@ -30,6 +30,7 @@ pub enum Refusal {
     BadSize,
     NoSuchTree,
     ShortOutput,
+    ShortList,
 }
 
 // The answer to a call that changes a tree: "ready" of fresh, "kept" of insertion, "removed" of removal, or a refusal.

@@ -34,6 +34,7 @@ impl Refusal {
             Refusal::BadSize => 13,
             Refusal::NoSuchTree => 14,
             Refusal::ShortOutput => 15,
+            Refusal::ShortList => 16,
         }
     }
 }

@@ -15,6 +15,7 @@ use Rattle.book.proofs.Agreement.{demand3}
 use Rattle.book.proofs.Exact.{exact-count}
 use Rattle.book.specs.Saved.{ReachSaved, PassedSaved, SavedIsMade, SavedDemand2, SavedDemand3, ReadsBook}
 use Rattle.book.proofs.Saved.{reach-saved, passed-saved, saved-is-made, saved-demand2, saved-demand3, reads-book}
+use Rattle.book.proofs.Backward.{lists-book}
 use Rattle.tree.specs.Calls.{fresh}
 use Rattle.tree.specs.declared.CallAnswer.the-variants.{Ready}
 use borrow.Author.Needs.{needs}
@@ -67,7 +68,7 @@ returns c =
     let run : fresh (a .tree .now) .answer ≡ Ready → Run (a .tree .now) (callsOf (a .calls .now)) =
     λ r. record { ready = r; fit = l .loop .inv .2 (rw none-left tt) } in (
       sym (ap (λ T. after T (callsOf (a .calls .now))) (sym (ap (λ y. y .slice) (f .fresh .ensures))) ∙ l .loop .inv .3 ∙ rw none-left),
-      (λ r. (run r, reach _ _ (run r)), (has-words, (believable, ((demand1, reach, demand2, demand3), (exact-count, saved))))),
+      (λ r. (run r, reach _ _ (run r)), (has-words, (believable, ((demand1, reach, demand2, demand3), (exact-count, (saved, lists-book)))))),
     )
 
 pub run-spec : {M : Type 1} → statement M

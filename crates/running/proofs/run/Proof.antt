@@ -23,8 +23,8 @@ write-tally-requires c κs =
       room = omega (arith, c6 .output .given, c30 .pre .0 .room);
     }
 
-add-t29 : tie.Need-add-t29
-add-t29 c =
+add-t30 : tie.Need-add-t30
+add-t30 c =
     let c4 = c .before .before .before .before in
     let c13 = c4 .before .before .before .before .before .before .before .before .before in
     let c22 = c13 .before .before .before .before .before .before .before .before .before in
@@ -62,7 +62,7 @@ run-spec =
     (tie.spec
     write-listing-requires
     write-tally-requires
-    add-t29
+    add-t30
     same-length
     same-length-2
     same-length-3

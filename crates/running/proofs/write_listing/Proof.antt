@@ -57,7 +57,7 @@ returns c =
     let c20 = c9 .before .before .before .before .before .before .before .before .before .before .before in
     let c33 = c20 .before .before .before .before .before .before .before .before .before .before .before .before .before in
     let p = c4 .put-totals .ensures in
-    totals-listed _ (c20 .feed-all .ensures) (p .0) (p .1) (omega (arith, c9 .output .given, c33 .pre .0 .room))
+    totals-listed _ _ (c20 .feed-all .ensures) (p .0) (p .1) (omega (arith, c9 .output .given, c33 .pre .0 .room))
 
 pub write-listing-spec : {M : Type 1} → statement M
 write-listing-spec =

@@ -1,4 +1,4 @@
--- The buffers, all zeros: what the first store has.
+-- The first argument, and the buffers, all zeros: what the first store has.
 use mathlib.Core.Path.{refl, sym}
 use Prim.Native.Nat.{ℕ}
 use native.Mathlib.Omega.{arith}
@@ -7,6 +7,21 @@ use Rattle.streaming.proofs.FedBlocks.{buffers, store-first}
 use borrow.Author.Needs.{needs}
 use Rattle.subsume.proofs.main.Statement.{statement}
 use Rattle.subsume.proofs.main.Tie as tie
+
+slice-aggregate-arg : tie.Need-slice-aggregate-arg
+slice-aggregate-arg c = search needs
+
+arg-requires : tie.Need-arg-requires
+arg-requires c κs = search needs
+
+array-share-prefix-argument : tie.Need-array-share-prefix-argument
+array-share-prefix-argument c = search needs
+
+slice-aggregate-setting-of : tie.Need-slice-aggregate-setting-of
+slice-aggregate-setting-of c = search needs
+
+setting-of-requires : tie.Need-setting-of-requires
+setting-of-requires c κs = search needs
 
 slice-aggregate-run : tie.Need-slice-aggregate-run
 slice-aggregate-run c = sym (length-replicate {A = ℕ} 16_384 0)
@@ -24,10 +39,10 @@ slice-aggregate-run-5 : tie.Need-slice-aggregate-run-5
 slice-aggregate-run-5 c = sym (length-replicate {A = ℕ} 64 0)
 
 slice-aggregate-run-6 : tie.Need-slice-aggregate-run-6
-slice-aggregate-run-6 c = sym (length-replicate {A = ℕ} 737_280 0)
+slice-aggregate-run-6 c = sym (length-replicate {A = ℕ} 1_085_440 0)
 
 run-requires : tie.Need-run-requires
-run-requires c κs = (buffers 16_384 737_280 refl (omega arith), store-first)
+run-requires c κs = (buffers 16_384 1_085_440 refl (omega arith), store-first)
 
 returns : tie.Need-returns
 returns c = search needs
@@ -36,6 +51,11 @@ pub main-spec : {M : Type 1} → statement M
 main-spec =
     tie.close
     (tie.spec
+    slice-aggregate-arg
+    arg-requires
+    array-share-prefix-argument
+    slice-aggregate-setting-of
+    setting-of-requires
     slice-aggregate-run
     slice-aggregate-run-2
     slice-aggregate-run-3

@@ -17,16 +17,12 @@ code-requires c κs = search needs
 
 returns : tie.Need-returns
 unfolding finishing
-returns c =
-    let c1 = c .before in
-    let c6 = c1 .before .before .before .before .before in
-    record { answer = rw (lt-ltb maxWords _ (c1 .if1 .taken), c .code .ensures); marking = refl; steady = c6 .pre .0 }
+returns c = record { many = omega arith; answer = rw (lt-ltb maxWords _ (c .before .if1 .taken), c .code .ensures); marking = refl }
 
 slice-aggregate-answer : tie.Need-slice-aggregate-answer
 slice-aggregate-answer c =
-    let c4 = c .before .before .before .before in
-    let c9 = c4 .before .before .before .before .before in
-    sym (length-take-le _ _ (omega (arith, c9 .pre .1, c4 .if1 .left)))
+    let c5 = c .before .before .before .before .before in
+    sym (length-take-le _ _ (omega (arith, c5 .before .before .before .before .before .before .pre .2, c5 .if1 .left)))
 
 answer-requires : tie.Need-answer-requires
 answer-requires c κs = search needs
@@ -37,13 +33,15 @@ same-length c = search needs
 same-length-2 : tie.Need-same-length-2
 same-length-2 c = search needs
 
+same-length-3 : tie.Need-same-length-3
+same-length-3 c = search needs
+
 returns-2 : tie.Need-returns-2
 unfolding finishing
 returns-2 c =
-    let c4 = c .before .before .before .before in
-    let c9 = c4 .before .before .before .before .before in
-    let a = c4 .answer .ensures in
-    record { answer = rw (le-ltb maxWords _ (c9 .if1 .left)) (a .answer); marking = a .marking; steady = a .steady }
+    let c6 = c .before .before .before .before .before .before in
+    let a = c6 .answer .ensures in
+    record { many = a .many; answer = rw (le-ltb maxWords _ (c6 .before .before .before .before .before .before .if1 .left)) (a .answer); marking = a .marking }
 
 pub outcome-of-spec : {M : Type 1} → statement M
 outcome-of-spec =
@@ -56,4 +54,5 @@ outcome-of-spec =
     answer-requires
     same-length
     same-length-2
+    same-length-3
     returns-2)

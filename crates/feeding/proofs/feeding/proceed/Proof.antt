@@ -17,11 +17,11 @@ finish-requires c κs = search needs
 returns : tie.Need-returns
 returns c =
     let c3 = c .before .before .before in
-    let c10 = c3 .before .before .before .before .before .before .before in
-    let a = c10 .args in
+    let s = c3 .before .before .before .before .before .before .before .before in
+    let a = s .args in
     let n = c3 .next .given in
     let m = storeOf (a .words .now) (a .tree .now) (a .marks .now) (a .counters .now) in
-    goes (n .0 .0) (n .0 .1 .0) (a .turn .session .totals) m (a .output .now) (a .turn .next) (n .1) (c10 .pre .steady)
+    goes (a .setting) (n .0 .0) (n .0 .1 .0) (a .turn .session .totals) m (a .output .now) (a .turn .next) (n .1) (s .pre .0 .steady) (s .pre .0 .kept)
 
 same-length : tie.Need-same-length
 same-length c = search needs
@@ -35,14 +35,17 @@ same-length-3 c = search needs
 same-length-4 : tie.Need-same-length-4
 same-length-4 c = search needs
 
+same-length-5 : tie.Need-same-length-5
+same-length-5 c = search needs
+
 returns-2 : tie.Need-returns-2
 returns-2 c =
-    let c8 = c .before .before .before .before .before .before .before .before in
-    let c15 = c8 .before .before .before .before .before .before .before in
-    let a = c15 .before .before .before .before .before .before .before .args in
-    let n = c15 .next2 .given in
+    let c10 = c .before .before .before .before .before .before .before .before .before .before in
+    let c18 = c10 .before .before .before .before .before .before .before .before in
+    let a = c18 .before .before .before .before .before .before .before .before .args in
+    let n = c18 .next2 .given in
     let m = storeOf (a .words .now) (a .tree .now) (a .marks .now) (a .counters .now) in
-    took-as (ends (n .0 .0) (a .turn .session .totals) m (n .1)) (c8 .finish .ensures)
+    took-as (ends (a .setting) (n .0 .0) (a .turn .session .totals) m (n .1)) (c10 .finish .ensures)
 
 pub proceed-spec : {M : Type 1} → statement M
 proceed-spec =
@@ -56,4 +59,5 @@ proceed-spec =
     same-length-2
     same-length-3
     same-length-4
+    same-length-5
     returns-2)

@@ -22,9 +22,9 @@ advance-requires : tie.Need-advance-requires
 advance-requires c κs = search needs
 
 returns : tie.Need-returns
-returns c = λ T m k.
+returns c = λ v T m k.
     let a = c .before .before .before .args in
-    first-byte (a .session) (storeOf (a .words .now) T m k) (a .byte) (c .enum-told .given .1) refl
+    first-byte v (a .session) (storeOf (a .words .now) T m k) (a .byte) (c .enum-told .given .1) refl
 
 same-length : tie.Need-same-length
 same-length c = search needs
@@ -35,10 +35,10 @@ returns-2 c =
     let c5 = c3 .before .before in
     let c7 = c5 .before .before in
     let c10 = c7 .before .before .before in
-    λ T m k.
+    λ v T m k.
     let a = c10 .args in
     let h = c7 .half .given in
-    second-byte (a .session) (storeOf (a .words .now) T m k) (a .byte) (h .0 .0) (h .1) (c5 .field-of .ensures) (c3 .store .ensures) (c .advance .ensures)
+    second-byte v (a .session) (storeOf (a .words .now) T m k) (a .byte) (h .0 .0) (h .1) (c5 .field-of .ensures) (c3 .store .ensures) (c .advance .ensures)
 
 pub read-byte-spec : {M : Type 1} → statement M
 read-byte-spec =

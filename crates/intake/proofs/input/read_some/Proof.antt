@@ -34,7 +34,7 @@ returns c =
     record {
       some = omega arith;
       inside = omega (arith, s .pre .0);
-      feeds = λ T m k. feed-one (a .input .now) (a .session) (storeOf (a .words .now) T m k) (s .pre .0) ∙ c .before .before .read-byte .ensures T m k;
+      feeds = λ v T m k. feed-one v (a .input .now) (a .session) (storeOf (a .words .now) T m k) (s .pre .0) ∙ c .before .before .read-byte .ensures v T m k;
     }
 
 field-at-requires : tie.Need-field-at-requires

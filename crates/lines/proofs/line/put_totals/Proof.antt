@@ -1,8 +1,8 @@
--- The three totals, one after another, and the end of the line.
+-- The totals, one after another, and the end of the line.
 use native.Mathlib.Omega.{arith}
 use mathlib.Core.List.{_++_}
-use Rattle.record.specs.Line.{lineEnd, named, saysFirst, saysStruck, saysRefused, totalsLine}
-use Rattle.lines.proofs.Writing.{placed, joined, decimal-length, named-put}
+use Rattle.record.specs.Line.{lineEnd, named, saysFirst, saysStruck, saysRefused, saysTaken, totalsLine}
+use Rattle.lines.proofs.Writing.{placed, joined, decimal-length, named-put, taken-length}
 use borrow.Author.Needs.{needs}
 use Rattle.lines.proofs.line.put_totals.Statement.{statement}
 use Rattle.lines.proofs.line.put_totals.Tie as tie
@@ -42,23 +42,41 @@ put-named-requires-3 c κs =
     let l = named-put saysStruck 19 (t .struck) (omega (arith, s .good)) (p .last .0) (p .result) (c4 .put-named2 .ensures) in
     omega (arith, s .pre, k, l, decimal-length 19 (t .refused) (omega (arith, s .good)))
 
+put-taken-requires : tie.Need-put-taken-requires
+put-taken-requires c κs =
+    let c3 = c .before .before .before in
+    let c8 = c3 .before .before .before .before .before in
+    let c13 = c8 .before .before .before .before .before in
+    let s = c13 .before .before .before .before in
+    let o = s .args .output .now in
+    let t = s .args .totals in
+    let p = c13 .put-named in
+    let q = c8 .put-named2 in
+    let k = named-put saysFirst 19 (t .kept) (omega (arith, s .good)) o (s .args .at) (p .ensures) in
+    let l = named-put saysStruck 19 (t .struck) (omega (arith, s .good)) (p .last .0) (p .result) (q .ensures) in
+    let m = named-put saysRefused 19 (t .refused) (omega (arith, s .good)) (q .last .0) (q .result) (c3 .put-named3 .ensures) in
+    omega (arith, s .pre, k, l, m, taken-length (s .args .setting) (t .removed) (omega (arith, s .good)))
+
 slice-aggregate-put-text : tie.Need-slice-aggregate-put-text
 slice-aggregate-put-text c = search needs
 
 put-text-requires : tie.Need-put-text-requires
 put-text-requires c κs =
     let c4 = c .before .before .before .before in
-    let c9 = c4 .before .before .before .before .before in
-    let c14 = c9 .before .before .before .before .before in
-    let s = c14 .before .before .before .before in
+    let c8 = c4 .before .before .before .before in
+    let c13 = c8 .before .before .before .before .before in
+    let c18 = c13 .before .before .before .before .before in
+    let s = c18 .before .before .before .before in
     let o = s .args .output .now in
     let t = s .args .totals in
-    let p = c14 .put-named in
-    let q = c9 .put-named2 in
+    let p = c18 .put-named in
+    let q = c13 .put-named2 in
+    let r = c8 .put-named3 in
     let k = named-put saysFirst 19 (t .kept) (omega (arith, s .good)) o (s .args .at) (p .ensures) in
     let l = named-put saysStruck 19 (t .struck) (omega (arith, s .good)) (p .last .0) (p .result) (q .ensures) in
-    let m = named-put saysRefused 19 (t .refused) (omega (arith, s .good)) (q .last .0) (q .result) (c4 .put-named3 .ensures) in
-    omega (arith, s .pre, k, l, m)
+    let m = named-put saysRefused 19 (t .refused) (omega (arith, s .good)) (q .last .0) (q .result) (r .ensures) in
+    let n = taken-length (s .args .setting) (t .removed) (omega (arith, s .good)) in
+    omega (arith, s .pre, k, l, m, n, placed (saysTaken (s .args .setting) (t .removed)) (r .last .0) (r .result) (c4 .put-taken .ensures))
 
 same-length : tie.Need-same-length
 same-length c = search needs
@@ -68,23 +86,28 @@ unfolding totalsLine
 returns c =
     let c2 = c .before .before in
     let c7 = c2 .before .before .before .before .before in
-    let c12 = c7 .before .before .before .before .before in
-    let c17 = c12 .before .before .before .before .before in
-    let s = c17 .before .before .before .before in
+    let c11 = c7 .before .before .before .before in
+    let c16 = c11 .before .before .before .before .before in
+    let c21 = c16 .before .before .before .before .before in
+    let s = c21 .before .before .before .before in
     let o = s .args .output .now in
     let t = s .args .totals in
-    let p = c17 .put-named in
-    let q = c12 .put-named2 in
-    let r = c7 .put-named3 in
+    let p = c21 .put-named in
+    let q = c16 .put-named2 in
+    let r = c11 .put-named3 in
+    let u = c7 .put-taken in
     let e = c2 .put-text .ensures in
-    let last = named saysRefused (t .refused) ++ lineEnd in
+    let taken = saysTaken (s .args .setting) (t .removed) in
+    let third = named saysRefused (t .refused) ++ (taken ++ lineEnd) in
     let k = named-put saysFirst 19 (t .kept) (omega (arith, s .good)) o (s .args .at) (p .ensures) in
     let l = named-put saysStruck 19 (t .struck) (omega (arith, s .good)) (p .last .0) (p .result) (q .ensures) in
-    let m = named-put saysRefused 19 (t .refused) (omega (arith, s .good)) (q .last .0) (q .result) (r .ensures) in (
-      joined (named saysFirst (t .kept)) (named saysStruck (t .struck) ++ last) o (s .args .at) (p .ensures)
-          (joined (named saysStruck (t .struck)) last (p .last .0) (p .result) (q .ensures)
-          (joined (named saysRefused (t .refused)) lineEnd (q .last .0) (q .result) (r .ensures) e)),
-      omega (arith, k, l, m, placed lineEnd (r .last .0) (r .result) e),
+    let m = named-put saysRefused 19 (t .refused) (omega (arith, s .good)) (q .last .0) (q .result) (r .ensures) in
+    let n = taken-length (s .args .setting) (t .removed) (omega (arith, s .good)) in (
+      joined (named saysFirst (t .kept)) (named saysStruck (t .struck) ++ third) o (s .args .at) (p .ensures)
+          (joined (named saysStruck (t .struck)) third (p .last .0) (p .result) (q .ensures)
+          (joined (named saysRefused (t .refused)) (taken ++ lineEnd) (q .last .0) (q .result) (r .ensures)
+          (joined taken lineEnd (r .last .0) (r .result) (u .ensures) e))),
+      omega (arith, k, l, m, n, placed taken (r .last .0) (r .result) (u .ensures), placed lineEnd (u .last .0) (u .result) e),
     )
 
 pub put-totals-spec : {M : Type 1} → statement M
@@ -97,6 +120,7 @@ put-totals-spec =
     put-named-requires-2
     slice-aggregate-put-named-3
     put-named-requires-3
+    put-taken-requires
     slice-aggregate-put-text
     put-text-requires
     same-length

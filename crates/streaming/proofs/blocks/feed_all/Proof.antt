@@ -9,18 +9,18 @@ use Rattle.streaming.proofs.blocks.feed_all.Statement.{statement}
 use Rattle.streaming.proofs.blocks.feed_all.Tie as tie
 
 abbrev Inv-loop : tie.InvT-loop
-Inv-loop input₀ tree₀ marks₀ counters₀ words₀ output₀ here₀ blocks₀ input tree marks counters words output here blocks =
-    Running (here .session) (storeOf words tree marks counters) blocks × (length input ≡ length input₀) × (length tree ≡ length tree₀)
+Inv-loop setting input₀ tree₀ marks₀ counters₀ words₀ output₀ here₀ blocks₀ input tree marks counters words output here blocks =
+    Running setting (here .session) (storeOf words tree marks counters) blocks × (length input ≡ length input₀) × (length tree ≡ length tree₀)
     × (length marks ≡ length marks₀) × (length counters ≡ length counters₀) × (length words ≡ length words₀) × (length output ≡ length output₀)
 
 abbrev μ-loop : tie.MeasureT-loop
-μ-loop input₀ tree₀ marks₀ counters₀ words₀ output₀ here₀ blocks₀ input tree marks counters words output here blocks = blocks
+μ-loop setting input₀ tree₀ marks₀ counters₀ words₀ output₀ here₀ blocks₀ input tree marks counters words output here blocks = blocks
 
 begin-requires : tie.Need-begin-requires Inv-loop μ-loop
 begin-requires c κs = tt
 
 loop-holds : tie.Need-loop-holds Inv-loop μ-loop
-loop-holds c = (running-none (c .begin .ensures) (c .before .before .before .before .before .before .before .pre .1), refl, refl, refl, refl, refl, refl)
+loop-holds c = (running-none _ (c .begin .ensures) (c .before .before .before .before .before .before .before .pre .1), refl, refl, refl, refl, refl, refl)
 
 read-block-requires : tie.Need-read-block-requires Inv-loop μ-loop
 read-block-requires c κs = tt
@@ -60,7 +60,7 @@ loop-again c =
     let l = c24 .loop .inv in
     let b = c24 .before .before .before .before .before .before .before .before .pre .0 in
     let f = c11 .feed-block .ensures in (
-      running-more _ (f .1 .1) (l .0) (c .left-after .ensures) (simp length-take (omega (arith, b .block, l .1, c20 .input .given))) (f .0) (f .1 .0) (c4 .words .given),
+      running-more _ _ (f .1 .1) (l .0) (c .left-after .ensures) (simp length-take (omega (arith, b .block, l .1, c20 .input .given))) (f .0) (f .1 .0) (c4 .words .given),
       c20 .input .given ∙ l .1,
       c10 .tree .given ∙ l .2,
       c8 .marks .given ∙ l .3,

@@ -46,8 +46,8 @@ returns c =
     let c25 = c24 .before in
     let a = c25 .args in
     let t = c13 .feed .ensures .0 in (
-      text-of {f = feed (a .session) (storeOf (a .words .now) (a .tree .now) (a .marks .now) (a .counters .now)) (a .block .now)} t (omega (arith, c25 .pre .room)),
-      (t .steady, all-below 256 _ (λ i. omega (arith, c24 .shared-slice-known .given i))),
+      text-of {f = feed (a .setting) (a .session) (storeOf (a .words .now) (a .tree .now) (a .marks .now) (a .counters .now)) (a .block .now)} t (omega (arith, c25 .pre .room)),
+      (t .stays, all-below 256 _ (λ i. omega (arith, c24 .shared-slice-known .given i))),
     )
 
 pub feed-block-spec : {M : Type 1} → statement M

@@ -1,5 +1,5 @@
 -- A marked number is taken; else the keys are inserted.
-use mathlib.Core.Path.{sym}
+use mathlib.Core.Path.{refl, sym}
 use mathlib.Core.List.{[], _∷_}
 use native.Mathlib.Omega.{arith}
 use lib.Seq.{length-take-le}
@@ -7,8 +7,8 @@ use types.Run.{miss}
 use Rattle.machine.proofs.Compiled.{compiled-fits, compiled-keys}
 use Rattle.answering.proofs.Keeping.{clause-short, insertable, ready, number-new, keep-marked, keep-refused, keep-kept}
 use borrow.Author.Needs.{needs}
-use Rattle.answering.proofs.answering.keep.Statement.{statement}
-use Rattle.answering.proofs.answering.keep.Tie as tie
+use Rattle.answering.proofs.striking.keep.Statement.{statement}
+use Rattle.answering.proofs.striking.keep.Tie as tie
 
 slice-read-if1 : tie.Need-slice-read-if1
 slice-read-if1 c = search needs
@@ -22,7 +22,7 @@ returns c =
     let c3 = c1 .before .before in
     let s = c3 .before .before .before .before in
     let g = insertable (s .args .number) (s .pre .0) (s .pre .1) (λ i. omega (arith, c3 .shared-slice-known .given i)) (omega (arith, s .fits .number)) in
-    keep-marked g (c1 .if1 .taken) (c .code .ensures)
+    (keep-marked g (c1 .if1 .taken) (c .code .ensures), refl)
 
 compile-requires : tie.Need-compile-requires
 compile-requires c κs = let p = c .before .before .before .before .before .before .before .pre in (clause-short _ (p .1), p .2)
@@ -68,12 +68,11 @@ returns-2 c =
     let c1 = c .before in
     let c5 = c1 .before .before .before .before in
     let c10 = c5 .before .before .before .before .before in
-    let c12 = c10 .before .before in
-    let c14 = c12 .before .before in
+    let c14 = c10 .before .before .before .before in
     let s = c14 .before .before .before .before in
     let g = insertable (s .args .number) (s .pre .0) (s .pre .1) (λ i. omega (arith, c14 .shared-slice-known .given i)) (omega (arith, s .fits .number)) in
     let k = c1 .before .match .keys2 in
-    keep-kept g (c12 .if1 .left) (compiled-keys (c10 .compile .ensures)) (c5 .insert-new .ensures) (λ f e. miss (1 ∷ 2 ∷ 3 ∷ []) 0 tt (rw e at k)) (c .used .ensures)
+    (keep-kept g (compiled-keys (c10 .compile .ensures)) (c5 .insert-new .ensures) (λ f e. miss (1 ∷ 2 ∷ 3 ∷ []) 0 tt (rw e at k)) (c .used .ensures), refl)
 
 code-requires-2 : tie.Need-code-requires-2
 code-requires-2 c κs = search needs
@@ -88,12 +87,11 @@ returns-3 : tie.Need-returns-3
 returns-3 c =
     let c6 = c .before .before .before .before .before .before in
     let c11 = c6 .before .before .before .before .before in
-    let c13 = c11 .before .before in
-    let c15 = c13 .before .before in
+    let c15 = c11 .before .before .before .before in
     let s = c15 .before .before .before .before in
     let g = insertable (s .args .number) (s .pre .0) (s .pre .1) (λ i. omega (arith, c15 .shared-slice-known .given i)) (omega (arith, s .fits .number)) in
     let a = c .before .before .answer .given in
-    keep-refused g (c13 .if1 .left) (compiled-keys (c11 .compile .ensures)) (c6 .insert-new .ensures) (a .0 .0) (a .1) (c .code2 .ensures)
+    (keep-refused g (compiled-keys (c11 .compile .ensures)) (c6 .insert-new .ensures) (a .0 .0) (a .1) (c .code2 .ensures), refl)
 
 pub keep-spec : {M : Type 1} → statement M
 keep-spec =

@@ -1,0 +1,44 @@
+-- Nothing, or how many were removed.
+use mathlib.Core.Path.{sym}
+use Rattle.lines.proofs.Writing.{put-none}
+use borrow.Author.Needs.{needs}
+use Rattle.lines.proofs.line.put_taken.Statement.{statement}
+use Rattle.lines.proofs.line.put_taken.Tie as tie
+
+enum-told : tie.Need-enum-told
+enum-told c = search needs
+
+enum-told-2 : tie.Need-enum-told-2
+enum-told-2 c = search needs
+
+slice-aggregate-put-named : tie.Need-slice-aggregate-put-named
+slice-aggregate-put-named c = search needs
+
+put-named-requires : tie.Need-put-named-requires
+put-named-requires c κs =
+    let c2 = c .before .before in
+    rw (c2 .enum-told2 .given .1) at (c2 .before .before .before .pre)
+
+returns : tie.Need-returns
+returns c =
+    let a = c .before .before .before .args in
+    rw (c .enum-told .given .1) (sym (put-none (a .output .now) (a .at)))
+
+same-length : tie.Need-same-length
+same-length c = search needs
+
+returns-2 : tie.Need-returns-2
+returns-2 c =
+    rw (c .before .before .before .before .before .enum-told2 .given .1) (c .before .before .put-named .ensures)
+
+pub put-taken-spec : {M : Type 1} → statement M
+put-taken-spec =
+    tie.close
+    (tie.spec
+    enum-told
+    enum-told-2
+    slice-aggregate-put-named
+    put-named-requires
+    returns
+    same-length
+    returns-2)

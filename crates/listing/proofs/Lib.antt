@@ -1,0 +1,5 @@
+pub mod Cards
+pub mod Shelves
+pub mod Filling
+pub mod Turns
+pub mod Known

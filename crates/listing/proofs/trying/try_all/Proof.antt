@@ -1,0 +1,194 @@
+-- `try_all` meets its contract: the clauses of the cards so far are queried.
+use mathlib.Core.Logic.{⊎-elim}
+use Prim.Native.Nat.{_-_, _^_}
+use native.Mathlib.Omega.{arith}
+use lib.ListN.{length}
+use borrow.Author.Needs.{needs}
+use Rattle.clause.proofs.Lists.{all-below}
+use Rattle.listing.proofs.Turns.{Trying, lone-made, trying-first, trying-end, trying-slot, trying-row, trying-spent}
+use Rattle.listing.proofs.Turns.{other-few, trying-other, found-few, trying-full, trying-found}
+use Rattle.listing.proofs.trying.try_all.Statement.{statement}
+use Rattle.listing.proofs.trying.try_all.Tie as tie
+
+abbrev Inv-loop : tie.InvT-loop
+Inv-loop clause budget cards lengths rows room numbers₀ lone many₀ tried₀ i₀ numbers many tried i =
+    Trying clause budget cards lengths rows lone room (length numbers₀) numbers many tried i
+
+abbrev μ-loop : tie.MeasureT-loop
+μ-loop clause budget cards lengths rows room numbers₀ lone many₀ tried₀ i₀ numbers many tried i = length cards - i
+
+slice-aggregate-insert : tie.Need-slice-aggregate-insert Inv-loop μ-loop
+slice-aggregate-insert c = search needs
+
+insert-requires : tie.Need-insert-requires Inv-loop μ-loop
+insert-requires c κs = search needs
+
+loop-holds : tie.Need-loop-holds Inv-loop μ-loop
+loop-holds c =
+    let s = c .before .before .before .before .before .before .before .before in
+    let p = s .pre in
+    let w = all-below (2 ^ 16) (s .args .clause .now) (λ j. omega (arith, c .before .before .before .before .before .before .before .shared-slice-known .given j)) in
+    trying-first _ _ _
+    record { accepts = p .0; words = w; slots = p .1; names = p .2; short = p .3; pairs = p .4; tree = lone-made _ (p .0) w (c .before .insert .ensures) }
+
+mul-card : tie.Need-mul-card Inv-loop μ-loop
+mul-card c = search needs
+
+shared-slice-read-card : tie.Need-shared-slice-read-card Inv-loop μ-loop
+shared-slice-read-card c = search needs
+
+mul-start : tie.Need-mul-start Inv-loop μ-loop
+mul-start c = search needs
+
+mul-end : tie.Need-mul-end Inv-loop μ-loop
+mul-end c = search needs
+
+shared-slice-read-end : tie.Need-shared-slice-read-end Inv-loop μ-loop
+shared-slice-read-end c =
+    let l = c .before .before .before in
+    let p = l .before .before .before .before .before .before .before .before .before .pre in
+    omega (arith, trying-slot (l .loop .inv) (c .before .before .loop-test .taken), p .1 .lengths-many)
+
+add-end : tie.Need-add-end Inv-loop μ-loop
+add-end c = let h = trying-row (c .before .before .before .loop .inv) (c .before .before .loop-test .taken) in search (needs, h)
+
+sub-left : tie.Need-sub-left Inv-loop μ-loop
+sub-left c = omega (arith, c .before .before .before .loop .inv .left)
+
+slice-aggregate-ask : tie.Need-slice-aggregate-ask Inv-loop μ-loop
+slice-aggregate-ask c = search needs
+
+mul-ask : tie.Need-mul-ask Inv-loop μ-loop
+mul-ask c = search needs
+
+sub-ask : tie.Need-sub-ask Inv-loop μ-loop
+sub-ask c = omega arith
+
+part-ask-start : tie.Need-part-ask-start Inv-loop μ-loop
+part-ask-start c = omega arith
+
+part-ask-end : tie.Need-part-ask-end Inv-loop μ-loop
+part-ask-end c = trying-row (c .before .before .before .before .loop .inv) (c .before .before .before .loop-test .taken)
+
+ask-requires : tie.Need-ask-requires Inv-loop μ-loop
+ask-requires c κs = search needs
+
+enum-told : tie.Need-enum-told Inv-loop μ-loop
+enum-told c = search needs
+
+same-length : tie.Need-same-length Inv-loop μ-loop
+same-length c = c .before .before .before .before .before .before .before .before .loop .inv .places
+
+returns : tie.Need-returns Inv-loop μ-loop
+returns c =
+    let a = c .before .before in
+    let l = a .before .before .before .before .before .before in
+    trying-spent (l .loop .inv) (a .before .before .before .before .before .loop-test .taken) (a .ask .ensures) (c .enum-told .given .1)
+
+enum-known-answer : tie.Need-enum-known-answer Inv-loop μ-loop
+enum-known-answer c = search needs
+
+add-tried : tie.Need-add-tried Inv-loop μ-loop
+add-tried c =
+    let a = c .before .before .before in
+    let l = a .before .before .before .before .before .before in
+    let h = other-few (l .loop .inv) (a .before .before .before .before .before .loop-test .taken) (a .ask .ensures) (c .before .answer .given .1) in
+    search (needs, h)
+
+enum-known-answer-2 : tie.Need-enum-known-answer-2 Inv-loop μ-loop
+enum-known-answer-2 c = search needs
+
+add-tried-2 : tie.Need-add-tried-2 Inv-loop μ-loop
+add-tried-2 c =
+    let a = c .before .before .before in
+    let l = a .before .before .before .before .before .before in
+    let h = found-few (l .loop .inv) (a .before .before .before .before .before .loop-test .taken) (a .ask .ensures) (c .before .answer2 .given .1) in
+    search (needs, h)
+
+same-length-2 : tie.Need-same-length-2 Inv-loop μ-loop
+same-length-2 c = c .before .before .before .before .before .before .before .before .before .before .loop .inv .places
+
+returns-2 : tie.Need-returns-2 Inv-loop μ-loop
+returns-2 c =
+    let a = c .before .before .before .before in
+    let l = a .before .before .before .before .before .before in
+    trying-full (l .loop .inv) (a .before .before .before .before .before .loop-test .taken) (a .ask .ensures) (c .before .before .answer2 .given .1) (omega arith)
+
+cast-numbers : tie.Need-cast-numbers Inv-loop μ-loop
+cast-numbers c =
+    let k = c .before .before .before .before .before .before .before .before in omega (arith, k .shared-slice-known5 .given (k .before .before .loop .i))
+
+mul-numbers : tie.Need-mul-numbers Inv-loop μ-loop
+mul-numbers c = search needs
+
+slice-write-numbers : tie.Need-slice-write-numbers Inv-loop μ-loop
+slice-write-numbers c =
+    let t = c .before .before .before .before .before .before .before .before .before in
+    let g = t .before .loop .inv in
+    omega (arith, g .fewer, g .places, g .asking .short, t .loop-test .taken)
+
+add-many : tie.Need-add-many Inv-loop μ-loop
+add-many c = search needs
+
+add-i : tie.Need-add-i Inv-loop μ-loop
+add-i c = search needs
+
+loop-less : tie.Need-loop-less Inv-loop μ-loop
+loop-less c = omega arith
+
+loop-again : tie.Need-loop-again Inv-loop μ-loop
+loop-again c =
+    let a = c .before in
+    let g = a .before .before .before .before .before .before .loop .inv in
+    let h = a .before .before .before .before .before .loop-test .taken in
+    ⊎-elim
+    (λ w. rw (w .3, w .4, w .5) (trying-other g h (a .ask .ensures) (w .1 .given .1)))
+    (λ w. rw (w .4, w .5, w .6) (trying-found g h (a .ask .ensures) (w .1 .given .1) (omega (arith, w .3 .left))))
+    (c .match .came)
+
+same-length-3 : tie.Need-same-length-3 Inv-loop μ-loop
+same-length-3 c = c .before .loop .inv .places
+
+returns-3 : tie.Need-returns-3 Inv-loop μ-loop
+returns-3 c = trying-end (c .before .loop .inv) (omega arith)
+
+pub try-all-spec : {M : Type 1} → statement M
+try-all-spec =
+    tie.close
+    (tie.spec
+    Inv-loop
+    μ-loop
+    slice-aggregate-insert
+    insert-requires
+    loop-holds
+    mul-card
+    shared-slice-read-card
+    mul-start
+    mul-end
+    shared-slice-read-end
+    add-end
+    sub-left
+    slice-aggregate-ask
+    mul-ask
+    sub-ask
+    part-ask-start
+    part-ask-end
+    ask-requires
+    enum-told
+    same-length
+    returns
+    enum-known-answer
+    add-tried
+    enum-known-answer-2
+    add-tried-2
+    same-length-2
+    returns-2
+    cast-numbers
+    mul-numbers
+    slice-write-numbers
+    add-many
+    add-i
+    loop-less
+    loop-again
+    same-length-3
+    returns-3)

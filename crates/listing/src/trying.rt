@@ -1,0 +1,74 @@
+// The queries of the clauses on the shelf, one after another, in the tree of the given clause alone.
+use crate::Card;
+use crate::Lone;
+use crate::Tried;
+use clause::Clause;
+use insertion::insert;
+use query::query;
+use walk::QueryAnswer;
+use walk::Witness;
+ghost use mathlib.Core.Path.{_≡_};
+ghost use Prim.Native.Nat.{_≤_};
+ghost use lib.ListN.{length, replicate};
+ghost use Rattle.clause.specs.Clause.{Accepted};
+ghost use Rattle.clause.specs.Lists.{All};
+ghost use Rattle.backward.specs.Listing.{listFrom};
+ghost use Rattle.listing.specs.inner.Shelf.{Slots, NamesSlot, AcceptedPair, shelfOf, CameTo};
+ghost use Rattle.walk.specs.Query as q;
+ghost use Rattle.walk.specs.Query.{witnessWords};
+
+// Queries a clause in a tree, with a witness that is not looked at.
+fn ask(tree: &[u64], words: &[u16], budget: u64) -> QueryAnswer
+    ensures { λ r. ⌜ r ≡ q.query (now (tree .entry)) (now (words .entry)) budget (replicate witnessWords 0) .answer ⌝ }
+{
+    let mut witness = [0u16; Witness::WORDS];
+    query(tree, words, budget, &mut witness)
+}
+
+// Queries the clauses of so many cards, until the budget is spent or one number too many is found; those found are noted.
+pub(crate) fn try_all(
+    clause: &[u16],
+    budget: u64,
+    cards: &[u64],
+    lengths: &[usize],
+    rows: &[u16],
+    room: usize,
+    numbers: &mut [u32],
+) -> Tried
+    requires { ⌜ Accepted (now clause) × Slots (now lengths) (now rows) × All NamesSlot (now cards) × (length (now cards) ≤ length (now numbers))
+        × All AcceptedPair (shelfOf (now lengths) (now rows) (now cards)) ⌝ }
+    ensures { λ r. ⌜ CameTo (listFrom (now (clause .entry)) budget (shelfOf (now (lengths .entry)) (now (rows .entry)) (now (cards .entry))) room 0)
+        room r (now (numbers .exit)) ⌝ }
+{
+    let mut lone = [0u64; Lone::WORDS];
+    insert(&mut lone, clause, 0);
+    let mut many = 0;
+    let mut tried = 0;
+    let mut i = 0;
+    while i < cards.len() {
+        let card = cards[i];
+        let slot = (card % Card::SLOTS) as usize;
+        let start = slot * Clause::WORDS;
+        let end = start + lengths[slot];
+        let left = budget - tried;
+        let answer = ask(&lone, &rows[start..end], left);
+        match answer {
+            QueryAnswer::Unanswered(_) => {
+                return Tried::Spent;
+            }
+            QueryAnswer::NotCovered(count) => {
+                tried += count;
+            }
+            QueryAnswer::Covered(_, count) => {
+                tried += count;
+                if many >= room {
+                    return Tried::Overfull;
+                }
+                numbers[many] = (card / Card::SLOTS) as u32;
+                many += 1;
+            }
+        }
+        i += 1;
+    }
+    Tried::Found(many, tried)
+}
