@@ -1,4 +1,4 @@
-//! A page: records in, lines and tally sheet out (document 01, "The program"; F-1 of document 02).
+//! A page: records in, lines and tally sheet out (document 01, "The program"; F-1 and F-6 of document 02).
 use std::io::{self, Read, Write};
 
 /// What becomes of a record.
@@ -43,24 +43,41 @@ pub struct Lines {
     text: Vec<u8>,
     /// Whether covering numbers and candidates are told; a matcher without a tree has none.
     values: bool,
+    /// Whether the clauses removed are told.
+    back: bool,
     struck: u64,
     refused: u64,
-    /// The numbers kept, in the order of their records.
+    removed: u64,
+    /// The numbers kept, in the order of their records, those removed later among them.
     kept: Vec<u16>,
     /// The strikes of each number, and the candidates spent on them.
     tallies: Vec<[u64; 2]>,
 }
 
 impl Lines {
-    pub fn new(values: bool) -> Lines {
+    pub fn new(values: bool, back: bool) -> Lines {
         Lines {
             text: Vec::new(),
             values,
+            back,
             struck: 0,
             refused: 0,
+            removed: 0,
             kept: Vec::new(),
             tallies: vec![[0; 2]; 1 << 16],
         }
+    }
+
+    /// The lines of the clauses that a record removes, which come before its own.
+    pub fn put_removed(&mut self, removed: &[u16], by: u16) -> io::Result<()> {
+        for &number in removed {
+            self.removed += 1;
+            self.digits(u64::from(number));
+            self.text.extend_from_slice(b" removed ");
+            self.digits(u64::from(by));
+            self.end_line()?;
+        }
+        Ok(())
     }
 
     /// The line of a record.
@@ -89,12 +106,18 @@ impl Lines {
         self.end_line()
     }
 
-    /// The line of totals, and the sheet: the kept numbers by rising number, and how many records were read.
+    /// The line of totals, and the sheet: the numbers ever kept by rising number, and how many records were read.
     pub fn end(mut self, records: u64) -> io::Result<()> {
-        let (kept, struck, refused) = (self.kept.len(), self.struck, self.refused);
-        writeln!(self.text, "kept {kept} struck {struck} refused {refused}")?;
+        let (struck, refused, removed) = (self.struck, self.refused, self.removed);
+        let kept = self.kept.len() as u64 - removed;
+        write!(self.text, "kept {kept} struck {struck} refused {refused}")?;
+        if self.back {
+            write!(self.text, " removed {removed}")?;
+        }
+        self.end_line()?;
         let mut numbers = std::mem::take(&mut self.kept);
         numbers.sort_unstable();
+        numbers.dedup();
         for number in numbers {
             let [strikes, spent] = self.tallies[usize::from(number)];
             self.digits(u64::from(number));

@@ -1,5 +1,5 @@
 /* The header, from C and from C++: a trial row of document 01 with the counts of F-3, told words that are too few, a count with units, the ceilings,
-   a clause read back. */
+   a clause read back, kept clauses listed backwards. */
 #include "code_tree.h"
 
 #include <stdio.h>
@@ -85,6 +85,66 @@ static void expect_saved(void) {
     expect("read back without told", ct_read_back(tree, 24, 7, out, CT_CLAUSE_WORDS, NULL, 0), 0);
 }
 
+/* P(a) is kept as 9, P(c), Q as 4000000000, Q as 7 and P(b) as 3: P(x) lists 3, 9 and 4000000000, in 4 candidates; every refusal leaves the list. */
+static void expect_backward(void) {
+    const uint16_t clauses[] = {0x8801, 0x0001, 0x8801, 0x0003, 0x8002, 0x8002, 0x8801, 0x0002};
+    const uint16_t given[] = {0x8801, 0x4000};
+    const uint16_t nine[] = {0x8001, 0x8001, 0x8001, 0x8001, 0x8001, 0x8001, 0x8001, 0x8001, 0x8001};
+    const uint32_t numbers[] = {3, 9, 4000000000u};
+    uint64_t tree[24];
+    uint64_t told[3] = {9, 9, 9};
+    uint32_t list[5] = {1, 1, 1, 1, 1};
+    expect("fresh", ct_fresh(tree, 24), 0);
+    expect("backward, nothing kept", ct_backward(tree, 24, given, 2, 0, NULL, 0, told, 3), 0);
+    expect("no number", told[0], 0);
+    expect("no candidate", told[1], 0);
+    expect("told no further", told[2], 9);
+    expect("insert", ct_insert(tree, 24, clauses, 2, 9, NULL, 0), 0);
+    expect("insert of two literals", ct_insert(tree, 24, clauses + 2, 3, 4000000000u, NULL, 0), 0);
+    expect("insert of another predicate", ct_insert(tree, 24, clauses + 5, 1, 7, NULL, 0), 0);
+    expect("insert of a smaller number", ct_insert(tree, 24, clauses + 6, 2, 3, NULL, 0), 0);
+    told[0] = told[1] = 9;
+    expect("backward out of no slice", ct_backward(NULL, 0, NULL, 0, 0, NULL, 0, NULL, 0), CT_BAD_SLICE);
+    expect("backward for no clause", ct_backward(tree, 24, NULL, 0, 4, list, 5, told, 3), CT_BAD_LENGTH);
+    expect("backward to a list one short", ct_backward(tree, 24, given, 2, 4, list, 2, told, 3), CT_SHORT_LIST);
+    expect("backward to no list", ct_backward(tree, 24, given, 2, 1, NULL, 0, told, 3), CT_SHORT_LIST);
+    tree[23] = 1;
+    expect("backward out of a broken tree", ct_backward(tree, 24, given, 2, 4, list, 5, told, 3), CT_BROKEN);
+    tree[23] = 0;
+    /* a Check of 17 bits, after the one of Q */
+    tree[4] ^= (uint64_t)1 << (28 + 16);
+    expect("backward out of a tree of no clause", ct_backward(tree, 24, given, 2, 4, list, 5, told, 3), CT_NO_SUCH_TREE);
+    tree[4] ^= (uint64_t)1 << (28 + 16);
+    expect("nothing told", told[0], 9);
+    expect("backward, a budget one short", ct_backward(tree, 24, given, 2, 3, list, 5, told, 3), CT_SPENT);
+    expect("spent count", told[0], 3);
+    expect("backward before the list is short", ct_backward(tree, 24, given, 2, 0, NULL, 0, told, 3), CT_SPENT);
+    expect("spent count of none", told[0], 0);
+    expect("backward for a cut clause", ct_backward(tree, 24, given, 1, 4, list, 5, told, 3), CT_BAD_CLAUSE);
+    expect("position", told[0], 1);
+    expect("backward for nine literals", ct_backward(tree, 24, nine, 9, 4, list, 5, told, 3), CT_NINTH_LITERAL);
+    expect("position of the ninth", told[0], 8);
+    expect("told no further", told[1], 9);
+    for (size_t i = 0; i < 5; i++) {
+        expect("nothing listed", list[i], 1);
+    }
+    expect("backward", ct_backward(tree, 24, given, 2, 4, list, 5, told, 3), 0);
+    expect("numbers", told[0], 3);
+    expect("candidates", told[1], 4);
+    expect("told no further", told[2], 9);
+    for (size_t i = 0; i < 3; i++) {
+        expect("listed number", list[i], numbers[i]);
+    }
+    expect("word past the numbers", list[3], 1);
+    expect("the last word", list[4], 1);
+    expect("backward without told, to just enough", ct_backward(tree, 24, given, 2, 4, list + 1, 3, NULL, 0), 0);
+    for (size_t i = 0; i < 3; i++) {
+        expect("number listed again", list[i + 1], numbers[i]);
+    }
+    expect("word before the list", list[0], numbers[0]);
+    expect("word after the list", list[4], 1);
+}
+
 int main(void) {
     /* P(x), Q(x) is kept; P(a), P(b), Q(b) is asked for */
     const uint16_t kept[] = {0x8801, 0x4000, 0x8802, 0x4000};
@@ -134,6 +194,7 @@ int main(void) {
 
     expect_ceilings();
     expect_saved();
+    expect_backward();
     if (!failed) {
         printf("ok\n");
     }

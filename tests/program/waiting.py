@@ -1,5 +1,6 @@
 #!/usr/bin/env python3
-"""waiting.py interrupted|ceasing PAGE, waiting.py stalling PAGE COUNT: runs the program with a socket as its input or output, and ends with its status.
+"""waiting.py interrupted|ceasing PAGE [ARGUMENT].., waiting.py stalling PAGE COUNT [ARGUMENT]..: runs the program with these arguments and a socket as its
+input or output, and ends with its status.
 
 A read of a socket that has a time limit ends with EINTR when the process is stopped and continued, though it handles no signal (signal(7)),
 and with EAGAIN when the time is up; so does a write to one whose buffer is full.
@@ -31,9 +32,9 @@ def limited(option, seconds):
     return ours, theirs
 
 
-def interrupted(page):
+def interrupted(page, *arguments):
     ours, theirs = limited(socket.SO_RCVTIMEO, 60)
-    process = subprocess.Popen(["target/bin/subsume"], stdin=theirs)
+    process = subprocess.Popen(["target/bin/subsume", *arguments], stdin=theirs)
     theirs.close()
     interrupt(process)
     text = pathlib.Path(page).read_bytes()
@@ -44,19 +45,20 @@ def interrupted(page):
     return process.wait()
 
 
-def ceasing(page):
+def ceasing(page, *arguments):
     ours, theirs = limited(socket.SO_RCVTIMEO, 1)
-    process = subprocess.Popen(["./subsume"], stdin=theirs)
+    process = subprocess.Popen(["./subsume", *arguments], stdin=theirs)
     theirs.close()
     ours.sendall(pathlib.Path(page).read_bytes())
     return process.wait()
 
 
-def stalling(page, count):
+def stalling(page, count, *arguments):
     ours, theirs = limited(socket.SO_SNDTIMEO, 1)
     theirs.setsockopt(socket.SOL_SOCKET, socket.SO_SNDBUF, 0)
     with open(page, "rb") as given:
-        process = subprocess.Popen(["target/bin/subsume"], stdin=given, stdout=theirs, stderr=subprocess.PIPE)
+        command = ["target/bin/subsume", *arguments]
+        process = subprocess.Popen(command, stdin=given, stdout=theirs, stderr=subprocess.PIPE)
     theirs.close()
     text = ours.recv(int(count), socket.MSG_WAITALL)
     report = process.stderr.readline()

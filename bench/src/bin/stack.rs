@@ -1,7 +1,8 @@
 //! The stack that calls of the proved library take, by trial: the least thread stack on which a query of the deepest slices is answered, and the
-//! least that a thread needs to have left for a check or a reading back. An overflow kills, so each trial is a process of its own:
+//! least that a thread needs to have left for a check, a reading back or a listing. An overflow kills, so each trial is a process of its own:
 //! `stack CALL SHAPE WORDS KIB FRAMES`.
-use code_tree::{check, fresh, insert, query, read_back, Cover, OUTPUT_WORDS, WITNESS_WORDS};
+use code_tree::{backward, check, fresh, insert, query, read_back};
+use code_tree::{Cover, Listed, LIST_WORDS, OUTPUT_WORDS, WITNESS_WORDS};
 use std::cell::Cell;
 use std::hint::black_box;
 use std::process::{exit, Command, Stdio};
@@ -12,8 +13,8 @@ const MOST_WORDS: usize = 65_536;
 const FIRSTS: usize = 8;
 const PAGE_KIB: usize = 4;
 const MOST_KIB: usize = 1 << 16;
-/// The thread of a check or a reading back, well over the least that the system gives.
-const THREAD_KIB: usize = 128;
+/// The thread of a check, a reading back or a listing, well over the least that the system gives.
+const THREAD_KIB: usize = 512;
 /// A literal without arguments.
 const UNIT: u16 = 0x8001;
 /// Heads with seven arguments, from here on, and one that is none of the first eight.
@@ -150,6 +151,13 @@ fn read(Question { tree, clause }: &Question) -> bool {
     read_back(tree, 0, &mut out) == Ok(clause.len()) && out.starts_with(clause)
 }
 
+/// A listing finds the clause itself, and no other that it subsumes.
+fn listed(Question { tree, clause }: &Question) -> bool {
+    let mut list = vec![1; LIST_WORDS];
+    let answer = backward(tree, clause, u64::MAX, &mut list);
+    matches!(answer, Ok(Listed { many: 1, .. })) && list[0] == 0
+}
+
 /// Makes a call below so many frames of this function.
 #[inline(never)]
 fn below(frames: usize, call: &dyn Fn() -> bool) -> bool {
@@ -195,6 +203,7 @@ impl Trial<'_> {
             "none" => |_| true,
             "check" => |it| check(&it.tree).is_ok(),
             "read back" => read,
+            "backward" => listed,
             _ => asked,
         };
         let question = question(self.shape, self.words);
@@ -288,10 +297,10 @@ fn measure_queries() -> io::Result<()> {
     Ok(())
 }
 
-/// The same for a check and a reading back; what a thread takes without a call is taken off.
+/// The same for a check, a reading back and a listing; what a thread takes without a call is taken off.
 fn measure_saved() -> io::Result<()> {
     let none = least_left("none", "chain")?;
-    for call in ["check", "read back"] {
+    for call in ["check", "read back", "backward"] {
         for (shape, tree) in [("full", "1,024 clauses"), ("calls", "clauses of 64 words")] {
             let kib = (least_left(call, shape)? - none) as f64 / 1024.0;
             println!("{call}: {tree} made by calls\t-\t{kib:.1}\t-");

@@ -197,7 +197,8 @@ impl Kept {
 
 fn main() -> io::Result<()> {
     let page = page::input()?;
-    let (mut kept, mut clause, mut lines) = (Kept::default(), Clause::default(), Lines::new(false));
+    let (mut kept, mut clause, mut lines) =
+        (Kept::default(), Clause::default(), Lines::new(false, false));
     let mut records = 0;
     for (number, bytes) in page::records(&page) {
         records += 1;

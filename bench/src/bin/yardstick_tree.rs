@@ -1,6 +1,7 @@
 //! The program of documents 01 and 02 in plain safe Rust: the same tree words, walk, lines and sheet. It trusts its own tree: no test
-//! of foreign words on a step, no well-laid test on insertion, no witness.
-use std::io;
+//! of foreign words on a step, no well-laid test on insertion, no witness. With the argument `back` the kept clauses stand beside the tree, by
+//! rising number, and each is queried in a tree of the new one alone.
+use std::{env, io};
 use yardsticks::clause::Clause;
 use yardsticks::code::*;
 use yardsticks::page::{self, Lines, Verdict};
@@ -103,6 +104,24 @@ impl Walk<'_> {
     }
 }
 
+/// A walk over a tree from its top, some candidates having been tried before.
+fn walk(tree: &[u64], query: &Clause, candidates: u64) -> (Result<(), Stop>, u64) {
+    let mut walk = Walk {
+        tree,
+        query,
+        candidates,
+        free: query.all_literals(),
+        puts: [0; 64],
+        pushes: [0; 64],
+    };
+    let end = 1 + used(tree);
+    (walk.row(1, end, 0), walk.candidates)
+}
+
+fn used(tree: &[u64]) -> usize {
+    (tree[0] >> 32) as usize
+}
+
 /// The tree's words, and the numbers taken as a set of bits.
 struct Tree {
     words: Vec<u64>,
@@ -118,7 +137,7 @@ impl Tree {
     }
 
     fn used(&self) -> usize {
-        (self.words[0] >> 32) as usize
+        used(&self.words)
     }
 
     fn kept(&self) -> usize {
@@ -126,30 +145,24 @@ impl Tree {
     }
 
     fn query(&self, clause: &Clause) -> Option<Verdict> {
-        let mut walk = Walk {
-            tree: &self.words,
-            query: clause,
-            candidates: 0,
-            free: clause.all_literals(),
-            puts: [0; 64],
-            pushes: [0; 64],
-        };
-        match walk.row(1, 1 + self.used(), 0) {
+        let (end, candidates) = walk(&self.words, clause, 0);
+        match end {
             Ok(()) => None,
-            Err(Stop::Covered(by)) => Some(Verdict::Struck {
-                by,
-                candidates: walk.candidates,
-            }),
+            Err(Stop::Covered(by)) => Some(Verdict::Struck { by, candidates }),
             Err(Stop::Spent) => Some(Verdict::Refused { code: 12 }),
         }
     }
 
-    fn insert(&mut self, compiler: &mut Compiler, clause: &Clause, number: u16) -> Result<(), u64> {
-        let (cell, bit) = (usize::from(number >> 6), 1 << (number & 63));
-        if self.taken[cell] & bit != 0 {
-            return Err(7);
-        }
-        let sequence = compiler.sequence(clause);
+    fn is_taken(&self, number: u16) -> bool {
+        self.taken[usize::from(number >> 6)] >> (number & 63) & 1 == 1
+    }
+
+    fn turn_taken(&mut self, number: u16) {
+        self.taken[usize::from(number >> 6)] ^= 1 << (number & 63);
+    }
+
+    /// Keeps a sequence under a number that is not taken.
+    fn insert(&mut self, sequence: &[u64], number: u16) -> Result<(), u64> {
         let place = self.place(sequence);
         let rest = &sequence[place.above.len()..];
         if rest.is_empty() && place.success {
@@ -162,8 +175,25 @@ impl Tree {
             return Err(11);
         }
         self.open(&place, rest, number);
-        self.taken[cell] |= bit;
+        self.turn_taken(number);
         Ok(())
+    }
+
+    /// Takes out the words on no other path than that of a kept sequence, and closes up.
+    fn remove(&mut self, sequence: &[u64], number: u16) {
+        let Place { above, at, .. } = self.place(sequence);
+        // a word is on no other path if there are no more words below it than on this one
+        let alone = |&(below, &above): &(usize, &usize)| extent(self.words[above]) == below + 2;
+        let own = above.iter().rev().enumerate().take_while(alone).count();
+        let shared = above.len() - own;
+        let (from, end) = (at - own, 1 + self.used());
+        self.words.copy_within(at + 1..end, from);
+        self.words[end - own - 1..end].fill(0);
+        for &above in &above[..shared] {
+            self.words[above] -= 1 + own as u64;
+        }
+        self.words[0] -= (1 + own as u64) << 32 | 1;
+        self.turn_taken(number);
     }
 
     /// Follows a sequence as far as the tree has it.
@@ -217,27 +247,143 @@ struct Place {
     success: bool,
 }
 
-fn judge(tree: &mut Tree, compiler: &mut Compiler, clause: &Clause, number: u16) -> Verdict {
-    if let Some(verdict) = tree.query(clause) {
-        return verdict;
+/// The kept clauses by rising number, beside their tree.
+#[derive(Default)]
+struct Kept {
+    numbers: Vec<u16>,
+    clauses: Vec<Clause>,
+}
+
+impl Kept {
+    /// The places of those that a clause subsumes, of which the tree is this, or none if the candidates are spent.
+    fn listed(&self, lone: &[u64]) -> Option<Vec<usize>> {
+        let (mut listed, mut tried) = (Vec::new(), 0);
+        for (i, clause) in self.clauses.iter().enumerate() {
+            let (end, candidates) = walk(lone, clause, tried);
+            tried = candidates;
+            match end {
+                Ok(()) => {}
+                Err(Stop::Covered(_)) => listed.push(i),
+                Err(Stop::Spent) => return None,
+            }
+        }
+        Some(listed)
     }
-    match tree.insert(compiler, clause, number) {
-        Ok(()) => Verdict::Kept { used: tree.used() },
-        Err(code) => Verdict::Refused { code },
+
+    fn add(&mut self, clause: &Clause, number: u16) {
+        let at = self.numbers.partition_point(|&kept| kept < number);
+        self.numbers.insert(at, number);
+        self.clauses.insert(at, clause.clone());
+    }
+
+    /// Takes out those at rising places.
+    fn remove(&mut self, places: &[usize]) {
+        for &at in places.iter().rev() {
+            self.numbers.remove(at);
+            self.clauses.remove(at);
+        }
+    }
+}
+
+/// The words of a tree of one sequence alone.
+fn alone(sequence: &[u64]) -> Vec<u64> {
+    let used = sequence.len() + 1;
+    let keys = sequence.iter().chain([&0]).enumerate();
+    let words = keys.map(|(i, &key)| key << EXTENT_BITS | (used - i) as u64);
+    [(used as u64) << 32 | 1].into_iter().chain(words).collect()
+}
+
+/// The program between two records. The kept clauses are there only with `back`.
+struct Program {
+    tree: Tree,
+    compiler: Compiler,
+    back: bool,
+    kept: Kept,
+}
+
+impl Program {
+    fn new(back: bool) -> Program {
+        Program {
+            tree: Tree::new(),
+            compiler: Compiler::default(),
+            back,
+            kept: Kept::default(),
+        }
+    }
+
+    fn judge(&mut self, clause: &Clause, number: u16, removed: &mut Vec<u16>) -> Verdict {
+        if let Some(verdict) = self.tree.query(clause) {
+            return verdict;
+        }
+        let inserted = match self.back {
+            true => self.exchange(clause, number, removed),
+            false => self.insert(clause, number),
+        };
+        match inserted {
+            Ok(()) => Verdict::Kept {
+                used: self.tree.used(),
+            },
+            Err(code) => Verdict::Refused { code },
+        }
+    }
+
+    fn insert(&mut self, clause: &Clause, number: u16) -> Result<(), u64> {
+        if self.tree.is_taken(number) {
+            return Err(7);
+        }
+        self.tree.insert(self.compiler.sequence(clause), number)
+    }
+
+    /// Takes out what a clause subsumes, and the clause in. Numbers are judged before the removal, list and room after it.
+    fn exchange(
+        &mut self,
+        clause: &Clause,
+        number: u16,
+        removed: &mut Vec<u16>,
+    ) -> Result<(), u64> {
+        let Program {
+            tree,
+            compiler,
+            kept,
+            ..
+        } = self;
+        let sequence = compiler.sequence(clause).to_vec();
+        let listed = kept.listed(&alone(&sequence)).ok_or(12u64)?;
+        if tree.is_taken(number) {
+            return Err(7);
+        }
+        let before = (!listed.is_empty()).then(|| (tree.words.clone(), tree.taken.clone()));
+        for &at in &listed {
+            tree.remove(compiler.sequence(&kept.clauses[at]), kept.numbers[at]);
+        }
+        let inserted = tree.insert(&sequence, number);
+        match (inserted, before) {
+            (Ok(()), _) => {
+                removed.extend(listed.iter().map(|&at| kept.numbers[at]));
+                kept.remove(&listed);
+                kept.add(clause, number);
+            }
+            (Err(_), Some(before)) => (tree.words, tree.taken) = before,
+            (Err(_), None) => {}
+        }
+        inserted
     }
 }
 
 fn main() -> io::Result<()> {
+    let back = env::args_os().nth(1).is_some_and(|first| first == "back");
     let page = page::input()?;
-    let (mut tree, mut compiler) = (Tree::new(), Compiler::default());
-    let (mut clause, mut lines) = (Clause::default(), Lines::new(true));
+    let (mut program, mut removed) = (Program::new(back), Vec::new());
+    let (mut clause, mut lines) = (Clause::default(), Lines::new(true, back));
     let mut records = 0;
     for (number, bytes) in page::records(&page) {
         records += 1;
+        removed.clear();
         let verdict = match clause.read(bytes) {
-            Ok(()) => judge(&mut tree, &mut compiler, &clause, number),
+            Ok(()) => program.judge(&clause, number, &mut removed),
             Err(code) => Verdict::Refused { code },
         };
+        lines.put_removed(&removed, number)?;
         lines.put(number, &verdict)?;
     }
     lines.end(records)

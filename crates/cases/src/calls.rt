@@ -1,7 +1,9 @@
 // The calls.
 use crate::writing::BLANK;
+use crate::writing::BLANK_NUMBER;
 use crate::writing::UNTOLD;
 use crate::writing::write;
+use crate::writing::write_list;
 use crate::writing::write_number;
 use crate::writing::write_reply;
 use crate::writing::write_witness;
@@ -13,7 +15,7 @@ use machine::Sequence;
 use tree::CallAnswer;
 use tree::Refusal;
 
-// The most words of a witness or an output here.
+// The most words of a witness, an output or a list here.
 const WITNESS: usize = 80;
 
 // A number that nearly always is another one where a word is: the words are the digits of a number in base 2^16, and this is its remainder.
@@ -146,6 +148,24 @@ fn run_output(number: u64, clause: u64, tree: &[u64]) {
     run_read_back(tree, clause, &mut out[..length]);
 }
 
+// Lists the kept clauses that the clause subsumes into a list.
+fn run_backward(tree: &[u64], clause: &[u16], budget: u64, list: &mut [u32]) {
+    let mut told = [UNTOLD; 3];
+    let returned = codetree::ct_backward(tree, clause, budget, list, &mut told);
+    write_reply(returned, &told);
+    write_list(list);
+}
+
+// X: into a blank one of so many words.
+fn run_list(number: u64, budget: u64, tree: &[u64], clause: &[u16]) {
+    let mut list = [BLANK_NUMBER; WITNESS];
+    let length = number as usize;
+    if length > WITNESS {
+        return;
+    }
+    run_backward(tree, clause, budget, &mut list[..length]);
+}
+
 // H: checks the slice.
 fn run_check(tree: &[u64]) {
     let returned = codetree::ct_check(tree);
@@ -171,6 +191,7 @@ pub fn call(letter: u8, number: u64, budget: u64, tree: &mut [u64], clause: &[u1
         b'W' => run_blank(number, budget, tree, clause),
         b'N' => run_ceiling(tree),
         b'O' => run_output(number, budget, tree),
+        b'X' => run_list(number, budget, tree, clause),
         b'H' => run_check(tree),
         b'S' => write_words(tree, 0, 16),
         _ => run_change(letter, number, tree, clause),

@@ -7,9 +7,10 @@
 // L: the slice ends at this index, and its next word stands there; 0L begins one. T: its next word. M: so many times that. C: the next word of the clause.
 // B: the budget, or the number of a clause to read back.
 // F: fresh. K: keep the clause under a number. R: remove a number. W: put the clause as a query, with a blank witness of so many words.
-// O: read a clause back, into a blank output of so many words. H: check the slice. N: the ceiling of the slice's three words.
+// O: read a clause back, into a blank output of so many words. X: list the kept clauses that the clause subsumes, into a blank list of so many words.
+// H: check the slice. N: the ceiling of the slice's three words.
 // These are the calls of the C interface (include/code_tree.h), and write the number returned and the words told; F, K and R then `left` or `changed`,
-// for the slice, and its header; W and O the index and value of each word of the witness or the output that was written.
+// for the slice, and its header; W, O and X the index and value of each word of the witness, the output or the list that was written.
 // Y: keep so many literals without arguments, each under its symbol's number; written are those not kept, each with the number returned.
 // V: read the clause, and write `whole` with its literals, or the code and position. G: compile the clause, and write the instructions up to Success.
 // S: write the words of the slice that are not 0.

@@ -5,6 +5,9 @@ pub const UNTOLD: u64 = 0xffff_ffff_ffff_ffff;
 
 pub const BLANK: u16 = 0xffff;
 
+// The same for a word of a list: a number that no row gives a clause.
+pub const BLANK_NUMBER: u32 = 0xffff_fffe;
+
 // Writes some text.
 pub fn write(text: &[u8]) {
     io::write_all(1, text);
@@ -46,8 +49,13 @@ pub fn write_reply(returned: u64, told: &[u64]) {
 
 // Writes an index and the word there.
 fn write_entry(at: usize, word: u16) {
+    write_listed(at, word as u32);
+}
+
+// Writes an index and the number there.
+fn write_listed(at: usize, number: u32) {
     write_number(b" ", at as u64);
-    write_number(b":", word as u64);
+    write_number(b":", number as u64);
 }
 
 // Writes the words of a witness or an output that a call wrote.
@@ -57,6 +65,18 @@ pub fn write_witness(witness: &[u16]) {
         let word = witness[i];
         if word != BLANK {
             write_entry(i, word);
+        }
+        i += 1;
+    }
+}
+
+// Writes the words of a list that a call wrote.
+pub fn write_list(list: &[u32]) {
+    let mut i = 0;
+    while i < list.len() {
+        let number = list[i];
+        if number != BLANK_NUMBER {
+            write_listed(i, number);
         }
         i += 1;
     }

@@ -1,4 +1,4 @@
-//! The code tree's C interface (include/code_tree.h) for Rust: `raw` has the seven calls on slices as they are,
+//! The code tree's C interface (include/code_tree.h) for Rust: `raw` has the eight calls on slices as they are,
 //! the functions of this module have their answers as enums.
 
 /// The calls as C has them: a number returned, values told as far as `told` reaches.
@@ -35,6 +35,17 @@ pub mod raw {
                 number: u32,
                 out: *mut u16,
                 k: usize,
+                told: *mut u64,
+                t: usize,
+            ) -> u64;
+            pub fn ct_backward(
+                tree: *const u64,
+                n: usize,
+                clause: *const u16,
+                m: usize,
+                budget: u64,
+                list: *mut u32,
+                l: usize,
                 told: *mut u64,
                 t: usize,
             ) -> u64;
@@ -108,6 +119,28 @@ pub mod raw {
             )
         }
     }
+
+    pub fn backward(
+        tree: &[u64],
+        clause: &[u16],
+        budget: u64,
+        list: &mut [u32],
+        told: &mut [u64],
+    ) -> u64 {
+        unsafe {
+            sys::ct_backward(
+                tree.as_ptr(),
+                tree.len(),
+                clause.as_ptr(),
+                clause.len(),
+                budget,
+                list.as_mut_ptr(),
+                list.len(),
+                told.as_mut_ptr(),
+                told.len(),
+            )
+        }
+    }
 }
 
 /// The least length of a witness.
@@ -115,6 +148,9 @@ pub const WITNESS_WORDS: usize = 72;
 
 /// The least length of a slice to which a clause is read back.
 pub const OUTPUT_WORDS: usize = 64;
+
+/// The length of a list that is never too short.
+pub const LIST_WORDS: usize = 1024;
 
 /// What is returned on refusal, with its values.
 #[derive(Clone, Copy, Debug, PartialEq, Eq)]
@@ -134,6 +170,7 @@ pub enum Refusal {
     BadSize,
     NoSuchTree,
     ShortOutput,
+    ShortList,
 }
 
 /// The answer to an accepted query.
@@ -141,6 +178,13 @@ pub enum Refusal {
 pub enum Cover {
     Covered { number: u32, count: u64 },
     NotCovered { count: u64 },
+}
+
+/// The answer to an accepted listing: how many numbers, and the candidates tried in all.
+#[derive(Clone, Copy, Debug, PartialEq, Eq)]
+pub struct Listed {
+    pub many: usize,
+    pub candidates: u64,
 }
 
 fn refusal(code: u64, value: u64) -> Refusal {
@@ -162,6 +206,7 @@ fn refusal(code: u64, value: u64) -> Refusal {
         13 => Refusal::BadSize,
         14 => Refusal::NoSuchTree,
         15 => Refusal::ShortOutput,
+        16 => Refusal::ShortList,
         _ => unreachable!("code {code}"),
     }
 }
@@ -229,4 +274,18 @@ pub fn read_back(tree: &[u64], number: u32, out: &mut [u16]) -> Result<usize, Re
     let mut told = [0];
     let code = raw::read_back(tree, number, out, &mut told);
     answer(code, 0, told[0] as usize)
+}
+
+/// Lists the numbers of the kept clauses that a clause subsumes, rising, in the list's first words.
+pub fn backward(
+    tree: &[u64],
+    clause: &[u16],
+    budget: u64,
+    list: &mut [u32],
+) -> Result<Listed, Refusal> {
+    let mut told = [0; 2];
+    let code = raw::backward(tree, clause, budget, list, &mut told);
+    let [many, candidates] = told;
+    let many = many as usize;
+    answer(code, told[0], Listed { many, candidates })
 }

@@ -34,6 +34,9 @@ fn call_all(tree: &mut [u64], clause: &[u16], random: &mut Random, tally: &mut T
     let (number, out_words) = (random.below(4) as u32, OUTPUT_WORDS - 1 + random.below(4));
     let back = beside::read_back(tree, number, out_words);
     tally.answer("readings back", "made", back.answer);
+    let (budget, list_words) = (random.of(&[0, 1, 5, 5_000]), random.below(4));
+    let listing = beside::backward(tree, clause, budget, list_words);
+    tally.answer("listings", "made", listing.answer);
     let removal = beside::remove(tree, random.below(4) as u32);
     tally.answer("removals", "made", removal);
     let insertion = beside::insert(tree, clause, random.below(7) as u32);
@@ -93,12 +96,16 @@ fn spoilt_trees() {
         ("readings back made", 2_000),
         ("readings back refused 9", 2_000),
         ("readings back refused 14", 100),
+        ("listings made", 2_000),
+        ("listings refused 12", 1_000),
+        ("listings refused 14", 100),
+        ("listings refused 16", 50),
     ];
     tally.assert_least(&[&LEAST[..], &saved].concat());
 }
 
 // How often each answer has to occur on such trees.
-const LEAST: [(&str, u64); 15] = [
+const LEAST: [(&str, u64); 16] = [
     ("queries covered", 1_000),
     ("queries not covered", 1_000),
     ("queries refused 2", 1_000),
@@ -114,6 +121,7 @@ const LEAST: [(&str, u64); 15] = [
     ("checks refused 2", 1_000),
     ("readings back refused 2", 1_000),
     ("readings back refused 15", 1_000),
+    ("listings refused 2", 1_000),
 ];
 
 // What the words of a tree do, the commoner ones more than once.
@@ -219,6 +227,8 @@ fn trees_of_any_instructions() {
         ("checks passed", 50),
         ("checks refused 14", 10_000),
         ("readings back refused 14", 10_000),
+        ("listings made", 10),
+        ("listings refused 14", 10_000),
     ];
     tally.assert_least(&[&LEAST[..], &no_tree].concat());
 }
@@ -250,6 +260,7 @@ fn trees_of_firsts() {
         ("queries refused 12", 1_000),
         ("checks passed", 20),
         ("checks refused 14", 5_000),
+        ("listings refused 14", 5_000),
     ]);
 }
 
@@ -270,6 +281,8 @@ fn clauses_of_any_words() {
         tally.answer("insertions", "kept", answer);
         let asked = beside::query(&[0; 2], &clause, 0, WITNESS_WORDS);
         assert_eq!(asked.answer.err(), answer.err());
+        let listing = beside::backward(&[0; 2], &clause, 0, 0);
+        assert_eq!(listing.answer.err(), answer.err());
     }
     tally.assert_least(&[
         ("insertions kept", 10_000),
@@ -297,6 +310,10 @@ fn slices_of_any_length() {
                     let answer = beside::read_back(&tree, 1, out_words).answer;
                     tally.answer("readings back", "made", answer);
                 }
+                for (budget, list_words) in [(0, 0), (9, 0), (0, 9), (8, 1)] {
+                    let answer = beside::backward(&tree, &clause, budget, list_words).answer;
+                    tally.answer("listings", "made", answer);
+                }
                 tally.answer("removals", "made", beside::remove(&mut tree, 1));
                 tally.answer("freshes", "made", beside::fresh(&mut tree));
             }
@@ -321,6 +338,13 @@ fn slices_of_any_length() {
         ("readings back refused 2", 1),
         ("readings back refused 9", 1),
         ("readings back refused 15", 1),
+        ("listings made", 1),
+        ("listings refused 1", 1),
+        ("listings refused 2", 1),
+        ("listings refused 3", 1),
+        ("listings refused 5", 1),
+        ("listings refused 12", 1),
+        ("listings refused 16", 1),
         ("freshes made", 1),
         ("freshes refused 1", 1),
     ]);

@@ -1,6 +1,7 @@
-//! Document 01's trial rows with the counts of F-3, every refusal with its values, the ceilings, clauses read back, and told words that are too few.
-use code_tree::{ceiling, check, fresh, insert, query, raw, read_back, remove};
-use code_tree::{Cover, Refusal, OUTPUT_WORDS, WITNESS_WORDS};
+//! Document 01's trial rows with the counts of F-3, every refusal with its values, the ceilings, clauses read back, kept clauses listed backwards, and
+//! told words that are too few.
+use code_tree::{backward, ceiling, check, fresh, insert, query, raw, read_back, remove};
+use code_tree::{Cover, Listed, Refusal, LIST_WORDS, OUTPUT_WORDS, WITNESS_WORDS};
 use model::limits::{KEPT, LITERALS};
 
 const P3: u16 = 0x9801;
@@ -363,6 +364,67 @@ fn refusals_of_saved_slices() {
     assert_eq!(back(&words, 1), Ok(PXAX.to_vec()));
 }
 
+// The numbers listed and the candidates; what a list held before is 9, and the words after the numbers still hold it.
+fn list(
+    tree: &[u64],
+    clause: &[u16],
+    budget: u64,
+    length: usize,
+) -> Result<(Vec<u32>, u64), Refusal> {
+    let mut list = vec![9; length];
+    let answer = backward(tree, clause, budget, &mut list);
+    let (numbers, rest) = list.split_at(answer.map_or(0, |listed| listed.many));
+    assert!(rest.iter().all(|word| *word == 9));
+    answer.map(|Listed { candidates, .. }| (numbers.to_vec(), candidates))
+}
+
+#[test]
+fn clauses_listed() {
+    let clauses: [&[u16]; 5] = [PXAX, PXXB, PXQX, &[P1, A, P1, B, Q1, B], &[P1, A, Q1, B]];
+    let words = tree(90, &clauses);
+    assert_eq!(list(&words, &[P3, X, Y, Z], 10, 2), Ok((vec![1, 2], 9)));
+    // 1, 1, 2, 6 and 3 candidates
+    assert_eq!(list(&words, PXQX, 13, 2), Ok((vec![3, 4], 13)));
+    assert_eq!(list(&words, PXQX, 12, 2), Err(Refusal::Spent { count: 12 }));
+    assert_eq!(list(&words, PXQX, 13, 1), Err(Refusal::ShortList));
+    assert_eq!(list(&words, PXQX, 10, 1), Err(Refusal::ShortList));
+    assert_eq!(list(&words, PXQX, 9, 1), Err(Refusal::Spent { count: 9 }));
+    assert_eq!(list(&words, PXQX, 13, 3), Ok((vec![3, 4], 13)));
+    assert_eq!(list(&words, &[P0], 9, 0), Ok((vec![], 9)));
+    assert_eq!(list(&words, PXAX, 99, 9), Ok((vec![1], 9)));
+    assert_eq!(list(&[0; 2], PXAX, 0, 0), Ok((vec![], 0)));
+    assert_eq!(LIST_WORDS, KEPT);
+}
+
+#[test]
+fn refusals_of_listings() {
+    for n in [0, 1, 65537] {
+        assert_eq!(list(&vec![0; n], &[X], 0, 0), Err(Refusal::BadSlice));
+    }
+    for n in [2, 65536] {
+        assert_eq!(list(&vec![0; n], PXAX, 0, 0), Ok((vec![], 0)));
+        assert_eq!(list(&vec![7; n], &[], 0, 0), Err(Refusal::BadLength));
+        let bad = Err(Refusal::BadClause { position: 0 });
+        assert_eq!(list(&vec![7; n], &[X], 0, 0), bad);
+        let ninth = Err(Refusal::NinthLiteral { position: 8 });
+        assert_eq!(list(&vec![7; n], &[P0; 9], 0, 0), ninth);
+        assert_eq!(list(&vec![7; n], PXAX, 0, 0), Err(Refusal::Broken));
+    }
+    let mut words = tree(24, &[PXAX, PXXB]);
+    assert_eq!(
+        list(&words, &[P3, X, X, X], 1, 9),
+        Err(Refusal::Spent { count: 1 })
+    );
+    // the second clause's number made the first one's
+    let second = words.iter().position(|&word| word == 2 << 28 | 1);
+    words[second.expect("a Success")] = 1 << 28 | 1;
+    assert_eq!(list(&words, PXAX, 0, 0), Err(Refusal::NoSuchTree));
+    assert_eq!(
+        list(&[1 << 32 | 1, 1 << 28 | 1], PXAX, 0, 0),
+        Err(Refusal::NoSuchTree)
+    );
+}
+
 #[test]
 fn ceilings() {
     assert_eq!(ceiling(0, 1, 1), Ok(0));
@@ -474,6 +536,32 @@ fn told_by_readings_back() {
     }
 }
 
+#[test]
+fn told_by_listings() {
+    let both = tree(24, &[PXQX, PXAX]);
+    let (no_tree, broken) = (vec![1 << 32 | 1, 1 << 28 | 1], vec![9 << 32, 0]);
+    let rows: [(&[u64], &[u16], u64, usize, u64, &[u64]); 10] = [
+        (&both, PXQX, 3, 1, 0, &[1, 3]),
+        (&both, &[P1, X], 3, 2, 0, &[1, 2]),
+        (&both, &[P0], 3, 0, 0, &[0, 3]),
+        (&both, PXQX, 2, 1, 12, &[2]),
+        (&both, PXQX, 3, 0, 16, &[]),
+        (&both, &[P2, A], 3, 0, 4, &[2]),
+        (&both, &[P0; 9], 3, 0, 5, &[8]),
+        (&both, &[], 3, 0, 3, &[]),
+        (&no_tree, PXQX, 3, 1, 14, &[]),
+        (&broken, PXQX, 3, 1, 2, &[]),
+    ];
+    for (tree, clause, budget, length, code, values) in rows {
+        for t in 0..6 {
+            let backward = |words: &mut [u64]| {
+                raw::backward(tree, clause, budget, &mut vec![0; length], words)
+            };
+            assert_eq!(told(t, backward), so_far(t, code, values));
+        }
+    }
+}
+
 // Nested words, each with so many siblings after it that cannot be taken: a First, Puts, and a Check that fails.
 fn nested(levels: usize, siblings: usize) -> Vec<u64> {
     let each = 1 + siblings;
@@ -506,6 +594,7 @@ fn deepest_trees() {
         assert_eq!(insert(&mut words, &[0x8001], 1), Err(Refusal::NoRoom));
         assert_eq!(check(&words), Err(Refusal::NoSuchTree));
         assert_eq!(back(&words, 5), Err(Refusal::NoSuchTree));
+        assert_eq!(list(&words, &[P0], 9, 9), Err(Refusal::NoSuchTree));
         assert_eq!(remove(&mut words, 1), Err(Refusal::NoSuchNumber));
         assert_eq!(remove(&mut words, 5), Ok(()));
         assert_eq!(words, [0; 65536]);

@@ -1,148 +1,25 @@
-//! The built program on whole pages: every byte that it prints is the model's. SUBSUME_BIN names it, or it is target/bin/subsume.
+//! The built program on whole pages: every byte that it prints is the model's. With `back` it is run by program_back.rs.
 mod drawn;
+mod running;
 mod sheet;
 
+use drawn::pages::{any_page, fill, full_page};
 use drawn::repeated::repeating_page;
 use drawn::tally::Tally;
 use drawn::units::unit_page;
-use drawn::{Random, STYLES};
+use drawn::Random;
 use model::pages::{pages, record, record_counting};
-use model::program::{output, records, Outcome, Record, Ruling};
+use model::program::{records, Outcome, Record, Ruling, Setting};
+use running::{expect_same, expect_written, repository, BLOCKS, PLAIN};
 use sheet::strikes::expect_strikes;
 use sheet::units::expect_units;
 use sheet::{expect_sheet, Report};
-use std::fs::{read, read_dir, read_to_string, remove_file, write, File};
-use std::io::Write;
-use std::os::fd::AsRawFd;
-use std::path::{Path, PathBuf};
-use std::process::{ChildStdin, Command, Stdio};
-use std::thread::{scope, yield_now};
-use std::time::{Duration, Instant};
-
-// The sizes of the blocks that the program reads, or may read one day.
-const BLOCKS: [usize; 2] = [65_536, 16_384];
-
-fn repository() -> PathBuf {
-    Path::new(env!("CARGO_MANIFEST_DIR")).join("../..")
-}
-
-fn program() -> Command {
-    let built = || repository().join("target/bin/subsume").into_os_string();
-    Command::new(std::env::var_os("SUBSUME_BIN").unwrap_or_else(built))
-}
-
-extern "C" {
-    fn ioctl(file: i32, request: u64, count: *mut i32) -> i32;
-}
-
-// Waits until the program has read all that was written to its pipe, so that the next piece is a read of its own.
-// One that reads no more is waited for some seconds.
-fn wait_until_read(pipe: &ChildStdin) {
-    const FIONREAD: u64 = 0x541B;
-    let since = Instant::now();
-    let mut left = 1;
-    while left > 0 && since.elapsed() < Duration::from_secs(5) {
-        yield_now();
-        // the file is open and the count is lent for the call
-        let code = unsafe { ioctl(pipe.as_raw_fd(), FIONREAD, &mut left) };
-        assert_eq!(code, 0, "the pipe cannot be asked");
-    }
-}
-
-// What the program prints of pieces, each written when the one before it has been read.
-fn printed<'a>(pieces: impl Iterator<Item = &'a [u8]> + Send) -> String {
-    let mut program = program();
-    let started = program.stdin(Stdio::piped()).stdout(Stdio::piped()).spawn();
-    let mut child = started.unwrap_or_else(|error| panic!("{program:?}: {error}"));
-    let mut pipe = child.stdin.take().expect("a pipe");
-    let output = scope(|threads| {
-        threads.spawn(move || {
-            for piece in pieces {
-                // a program that stopped early is found by what it printed
-                if pipe.write_all(piece).is_err() {
-                    return;
-                }
-                wait_until_read(&pipe);
-            }
-        });
-        child.wait_with_output().expect("the program's output")
-    });
-    assert!(output.status.success());
-    String::from_utf8(output.stdout).expect("text")
-}
-
-// Where two texts differ first, in few words.
-fn expect_same(printed: &str, expected: &str, what: &str) {
-    if printed != expected {
-        let lines = printed.lines().zip(expected.lines());
-        let same = lines.take_while(|(a, b)| a == b).count();
-        let line = |text: &str| text.lines().nth(same).map(str::to_string);
-        let (got, wanted) = (line(printed), line(expected));
-        panic!("{what}: line {same} is {got:?}, not {wanted:?}");
-    }
-}
-
-// Compares what the program prints of a page in pieces of some size.
-fn expect_page(page: &[u8], piece: usize, what: &str) {
-    expect_same(&printed(page.chunks(piece)), &output(page), what);
-}
-
-// Compares what the program prints of a file, which it reads in blocks of its own size.
-fn expect_file(path: &Path, expected: &str, what: &str) {
-    let file = File::open(path).expect("a page");
-    let run = program().stdin(file).output();
-    let output = run.unwrap_or_else(|error| panic!("{:?}: {error}", program()));
-    assert!(output.status.success());
-    expect_same(
-        &String::from_utf8(output.stdout).expect("text"),
-        expected,
-        what,
-    );
-}
-
-// Compares what the program prints of a page as a file, and as pieces of some sizes through a pipe.
-fn expect_both(page: &[u8], pieces: &[usize], what: &str) {
-    let expected = output(page);
-    let name = what.replace(' ', "-");
-    let path = Path::new(env!("CARGO_TARGET_TMPDIR"))
-        .join(name)
-        .with_extension("page");
-    write(&path, page).expect("a page written");
-    expect_file(&path, &expected, what);
-    remove_file(&path).expect("the page removed");
-    for &piece in pieces {
-        let what = format!("{what}, in pieces of {piece}");
-        expect_same(&printed(page.chunks(piece)), &expected, &what);
-    }
-}
 
 #[test]
 fn stored_pages() {
-    let folder = repository().join("tests/pages");
-    for (name, page) in pages() {
-        let path = folder.join(name);
-        assert!(
-            read(path.with_extension("page")).unwrap() == page,
-            "{name}.page"
-        );
-        let expected = read_to_string(path.with_extension("out")).unwrap();
-        expect_same(&output(&page), &expected, name);
-    }
-    let mut stored = 0;
-    for folder in [folder, repository().join("samples")] {
-        for entry in read_dir(folder).unwrap() {
-            let path = entry.unwrap().path();
-            if path
-                .extension()
-                .is_some_and(|extension| extension == "page")
-            {
-                let expected = read_to_string(path.with_extension("out")).unwrap();
-                expect_same(&output(&read(&path).unwrap()), &expected, "the model");
-                expect_file(&path, &expected, &path.display().to_string());
-                stored += 1;
-            }
-        }
-    }
+    let [folder, samples] = ["tests/pages", "samples"].map(|name| repository().join(name));
+    expect_written(&folder, &pages());
+    let stored = PLAIN.expect_folder(&folder, "out") + PLAIN.expect_folder(&samples, "out");
     assert!(
         stored > pages().len(),
         "{stored} pages, the sample among them"
@@ -173,8 +50,8 @@ fn every_kind() -> Vec<u8> {
 fn documents_example() {
     let lines = "1 kept 10\n2 struck 1 1\n3 kept 15\nkept 2 struck 1 refused 0\n";
     let expected = format!("{lines}1 1 1\n3 0 0\n3\n");
-    assert_eq!(output(&example()), expected);
-    expect_page(&example(), 65_536, "document 01's example");
+    assert_eq!(PLAIN.output(&example()), expected);
+    PLAIN.expect_page(&example(), 65_536, "document 01's example");
     // P-1 to P-3: cut overlong, cut count, taken number of a covered clause
     let rows: [(&[u8], &str); 4] = [
         (&[0, 1, 0, 0x41, 0, 0], "kept 0 struck 0 refused 0\n0\n"),
@@ -186,8 +63,8 @@ fn documents_example() {
         ),
     ];
     for (page, expected) in rows {
-        assert_eq!(output(page), expected);
-        expect_page(page, 65_536, expected);
+        assert_eq!(PLAIN.output(page), expected);
+        PLAIN.expect_page(page, 65_536, expected);
     }
 }
 
@@ -195,10 +72,10 @@ fn documents_example() {
 #[test]
 fn two_pieces() {
     let page = every_kind();
-    let expected = output(&page);
+    let expected = PLAIN.output(&page);
     for at in 1..page.len() {
         let (first, second) = page.split_at(at);
-        let text = printed([first, second].into_iter());
+        let text = PLAIN.printed([first, second].into_iter());
         expect_same(&text, &expected, &format!("cut at {at}"));
     }
 }
@@ -208,35 +85,8 @@ fn small_pieces() {
     let mut random = Random(11);
     for piece in [1, 2, 3, 5, 7, 11, 64, 4_095, 4_097, 16_383, 65_535] {
         let page = any_page(&mut random, 40 * piece.min(100) + 3 * piece);
-        expect_page(&page, piece, &format!("pieces of {piece}"));
+        PLAIN.expect_page(&page, piece, &format!("pieces of {piece}"));
     }
-}
-
-// A record of a clause made from earlier ones, a spoilt one among them, or one that is too long.
-fn any_record(random: &mut Random, style: usize, clauses: &mut Vec<Vec<u16>>) -> Vec<u8> {
-    let number = random.below(65_536) as u16;
-    if random.one_in(300) {
-        return record(number, &vec![0x8001; 65 + random.below(400)]);
-    }
-    let from: Vec<&[u16]> = clauses.iter().rev().take(40).map(|c| &c[..]).collect();
-    let clause = random.any_clause(STYLES[style], &from);
-    if random.one_in(3) {
-        clauses.push(clause.clone());
-    }
-    record(number, &clause)
-}
-
-// A page of so many bytes or more of any records; the last one is cut now and then.
-fn any_page(random: &mut Random, bytes: usize) -> Vec<u8> {
-    let style = random.below(STYLES.len());
-    let (mut page, mut clauses) = (Vec::new(), Vec::new());
-    while page.len() < bytes {
-        page.extend(any_record(random, style, &mut clauses));
-    }
-    if random.one_in(2) {
-        page.truncate(page.len() - random.below(9).min(page.len()));
-    }
-    page
 }
 
 #[test]
@@ -245,28 +95,8 @@ fn random_pages() {
     for i in 0..300 {
         let bytes = random.below(3_000);
         let page = any_page(&mut random, bytes);
-        expect_page(&page, 65_536, &format!("random page {i}"));
+        PLAIN.expect_page(&page, 65_536, &format!("random page {i}"));
     }
-}
-
-// Clauses of so many words that nothing else covers: P(c, d), with as many literals Q(c) as it takes.
-fn new_clause(i: u16, words: usize) -> Vec<u16> {
-    let mut clause = vec![0x9001, 16 + i % 1500, 16 + i / 1500];
-    while clause.len() + 2 <= words {
-        clause.extend([0x8802, 16 + i % 1500]);
-    }
-    clause
-}
-
-// A page whose records fill the list (short clauses) or the tree (long ones), with further ones behind.
-fn full_page(random: &mut Random, words: usize) -> Vec<u8> {
-    let new = (0..1_100).flat_map(|i| record(i, &new_clause(i, words)));
-    let mut page: Vec<u8> = new.collect();
-    for _ in 0..9_000 {
-        let clause = new_clause(random.below(2_000) as u16, 3 + 2 * random.below(4));
-        page.extend(record(random.below(2_000) as u16, &clause));
-    }
-    page
 }
 
 #[test]
@@ -276,33 +106,17 @@ fn pages_of_several_blocks() {
         let bytes = 66_000 + random.below(80_000);
         let page = any_page(&mut random, bytes);
         let piece = 1_000 + random.below(9_000);
-        expect_both(&page, &[piece], &format!("page {i} of several blocks"));
+        PLAIN.expect_both(&page, &[piece], &format!("page {i} of several blocks"));
     }
     for (words, code) in [(3, 10), (15, 11), (5, 10), (9, 11)] {
         let page = full_page(&mut random, words);
-        let expected = output(&page);
+        let expected = PLAIN.output(&page);
         assert!(page.len() > 65_536 && expected.len() > 65_536);
         assert!(
             expected.contains(&format!(" refused {code}\n")),
             "code {code}"
         );
-        expect_both(&page, &[70_001], &format!("full page {words}"));
-    }
-}
-
-// Adds records of so many bytes in all, an even number and 6 or more, that are struck, refused or kept.
-fn fill(page: &mut Vec<u8>, end: usize, random: &mut Random) {
-    while page.len() < end {
-        let room = end - page.len();
-        let words = (room - 4) / 2;
-        let count = if words <= 40 {
-            words
-        } else {
-            1 + random.below(30)
-        };
-        let mut clause = new_clause(random.below(400) as u16, count);
-        clause.resize(count, 0x8003);
-        page.extend(record(random.below(60_000) as u16, &clause));
+        PLAIN.expect_both(&page, &[70_001], &format!("full page {words}"));
     }
 }
 
@@ -320,7 +134,7 @@ fn records_across_blocks() {
             }
             fill(&mut page, 3 * block + 2_000, &mut random);
             let what = format!("record begun {cut} before the end of {block}");
-            expect_both(&page, &[block, block - 1], &what);
+            PLAIN.expect_both(&page, &[block, block - 1], &what);
         }
     }
 }
@@ -331,16 +145,16 @@ fn overlong_records_across_blocks() {
     for count in [65, 8_190, 8_191, 32_766, 32_767, 65_535] {
         let long = record_counting(2, count, &vec![0x8001; count as usize]);
         let page = [record(1, &[0x8001]), long.clone(), record(3, &[0x8002])].concat();
-        expect_both(&page, &[4_095], &format!("count of {count}"));
-        expect_page(&long[..long.len() - 1], long.len(), "a cut overlong record");
+        PLAIN.expect_both(&page, &[4_095], &format!("count of {count}"));
+        PLAIN.expect_page(&long[..long.len() - 1], long.len(), "a cut overlong record");
     }
 }
 
 // What is claimed of the sheet, by the printed text and the records of the input alone: the model's tally has no part in it. Then every byte.
 fn expect_claims(page: &[u8], what: &str) {
-    let text = printed([page].into_iter());
-    expect_sheet(&text, records(page).len(), what);
-    expect_same(&text, &output(page), what);
+    let text = PLAIN.printed([page].into_iter());
+    expect_sheet(&text, records(page).len(), Setting::Plain, what);
+    expect_same(&text, &PLAIN.output(page), what);
 }
 
 #[test]
@@ -366,10 +180,10 @@ fn expect_lines(
     claim: impl Fn(&[Ruling], &[Record], &str),
     what: &str,
 ) -> Vec<Ruling> {
-    let text = printed([page].into_iter());
+    let text = PLAIN.printed([page].into_iter());
     let rulings = Report::of(&text).rulings;
     claim(&rulings, &records(page), what);
-    expect_same(&text, &output(page), what);
+    expect_same(&text, &PLAIN.output(page), what);
     rulings
 }
 
@@ -467,9 +281,9 @@ fn very_many_strikes() {
     let clause = |i: u32| [vec![0x8001; i as usize % 5], vec![0x8802, 0x0003]].concat();
     let mut page = record(9, &[0x8802, 0x4000]);
     page.extend((0..strikes).flat_map(|i| record(i as u16, &clause(i))));
-    let expected = output(&page);
+    let expected = PLAIN.output(&page);
     assert!(expected.ends_with("\n9 66000 198000\n66001\n"));
-    expect_both(&page, &[page.len()], "very many strikes");
+    PLAIN.expect_both(&page, &[page.len()], "very many strikes");
 }
 
 // Many short lines: more bytes out than in, and both over a block.
@@ -477,7 +291,7 @@ fn very_many_strikes() {
 fn more_out_than_in() {
     let short = |i: u32| record(i as u16, &[0x8000 + i as u16 % 700]);
     let page: Vec<u8> = (0..30_000).flat_map(short).collect();
-    let expected = output(&page);
+    let expected = PLAIN.output(&page);
     assert!(page.len() > 2 * 65_536 && expected.len() > 4 * 65_536);
-    expect_both(&page, &[page.len()], "many lines");
+    PLAIN.expect_both(&page, &[page.len()], "many lines");
 }

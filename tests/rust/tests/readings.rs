@@ -2,7 +2,7 @@
 mod beside;
 
 use beside::{Asked, UNWRITTEN};
-use model::calls::Cover;
+use model::calls::{Cover, Listed};
 use model::instruction::{header, Instruction, Operation};
 use model::limits::{OUTPUT_WORDS, WITNESS_WORDS};
 use model::notation::{clause, path, tree, NAMES};
@@ -427,6 +427,78 @@ fn output_words() {
         assert_eq!(out[..2], clause("P1 x"));
         assert_eq!(out[2..], vec![UNWRITTEN; out_words - 2]);
     }
+}
+
+fn listed(tree: &[u64], given: &str, budget: u64, list_words: usize) -> String {
+    let listing = beside::backward(tree, &clause(given), budget, list_words);
+    let numbers = |it: Listed| format!("{:?} {}", listing.numbers(), it.candidates);
+    listing.answer.map_or_else(said_refusal, numbers)
+}
+
+// A slice with clauses kept under their numbers.
+fn keeping(clauses: &[(u32, &str)]) -> Vec<u64> {
+    let mut words = vec![0; 90];
+    for (number, text) in clauses {
+        assert_eq!(inserted(&mut words, text, *number), "kept", "{text}");
+    }
+    words
+}
+
+#[test]
+fn listing_backwards() {
+    // F6-1, F6-2
+    let words = keeping(&[(1, "P0"), (2, "P0 Q0")]);
+    assert_eq!(listed(&words, "P0", 1, 0), "refused 16");
+    assert_eq!(listed(&words, "P0", 0, 0), "refused 12 0");
+    assert_eq!(listed(&words, "P0", 1, 1), "refused 12 1");
+    assert_eq!(listed(&words, "P0", 2, 1), "refused 16");
+    assert_eq!(listed(&words, "P0", 2, 2), "[1, 2] 2");
+    // F6-3
+    let words = keeping(&[(1, "P1 x")]);
+    assert_eq!(listed(&words, "P1 y", 9, 9), "[1] 1");
+    assert_eq!(listed(&words, "P1 a", 9, 9), "[] 1");
+    // F6-5, by the call: 12 comes where the number would be taken, too
+    let words = keeping(&[(1, "P1 a")]);
+    assert_eq!(listed(&words, "P1 x", 0, 9), "refused 12 0");
+    assert_eq!(inserted(&mut words.clone(), "P1 x", 1), "refused 7");
+    // F6-10
+    let words = keeping(&[(0, "P2 y x"), (1, "P2 f 47FF 47FF"), (2, "P1 z")]);
+    assert_eq!(listed(&words, "P2 x y", 9, 9), "[0, 1] 3");
+    assert_eq!(listed(&words, "P2 f y y", 9, 9), "[1] 3");
+    assert_eq!(listed(&words, "P2 z z", 9, 9), "[] 3");
+    // F6-11
+    let words = keeping(&[
+        (0x8000_0000, "P1 a"),
+        (u32::MAX, "P1 f a"),
+        (0x1_0000, "P1 b"),
+        (0x7FFF_FFFF, "P1 f b"),
+        (2, "P1 f f x"),
+        (10, "P0 P1 a"),
+    ]);
+    let rising = "[2, 10, 65536, 2147483647, 2147483648, 4294967295] 7";
+    assert_eq!(listed(&words, "P1 x", 9, 9), rising);
+    // each literal of the given clause falls on one of its own
+    let words = keeping(&[(1, "P1 a"), (2, "P1 a P1 a"), (3, "Q0 P1 b P1 a")]);
+    assert_eq!(listed(&words, "P1 x P1 y", 9, 9), "[2, 3] 7");
+    assert_eq!(listed(&words, "P1 x P1 x", 99, 9), "[2] 10");
+}
+
+// F6-10: what a tree has under other numbers or names lists the same; an empty tree lists nothing, for no candidate and to no word.
+#[test]
+fn listing_little() {
+    assert_eq!(listed(&[0; 2], "P1 x", 0, 0), "[] 0");
+    let words = keeping(&[(5, "Q0")]);
+    assert_eq!(listed(&words, "P1 x", 1, 0), "[] 1");
+    assert_eq!(listed(&words, "P1 x", 0, 0), "refused 12 0");
+    // a given clause of more literals than there are runs out of them
+    assert_eq!(listed(&words, "Q0 Q0 Q0", 1, 0), "[] 1");
+    // the order 1, 3 to 5, 2, 14
+    assert_eq!(listed(&[9 << 32], "x", 0, 0), "refused 1");
+    assert_eq!(listed(&[9 << 32, 0], "x", 0, 0), "refused 4 0");
+    assert_eq!(listed(&[9 << 32, 0], "P0", 0, 0), "refused 2");
+    assert_eq!(listed(&tree("Success 5/1"), "P0", 0, 0), "refused 14");
+    let twice = tree("First 0/5, Check P0/2, Success 1/1, Check Q0/2, Success 1/1");
+    assert_eq!(listed(&twice, "P0", 9, 9), "refused 14");
 }
 
 // A chain of a First and Puts down to a last word: the deepest tree of all.

@@ -1,4 +1,5 @@
-//! The seven calls on lent words, with their refusals in the order of documents 01 and 02.
+//! The eight calls on lent words, with their refusals in the order of documents 01 and 02.
+use crate::backward::listed;
 use crate::compiler::sequence;
 use crate::instruction::used;
 use crate::laid::well_laid;
@@ -22,6 +23,13 @@ impl Cover {
             Cover::Covered { count, .. } | Cover::NotCovered { count } => count,
         }
     }
+}
+
+/// The answer to an accepted listing: how many numbers, and the candidates tried in all.
+#[derive(Clone, Copy, Debug, PartialEq, Eq)]
+pub struct Listed {
+    pub many: usize,
+    pub candidates: u64,
 }
 
 fn refuse_if(refused: bool, refusal: Refusal) -> Result<(), Refusal> {
@@ -110,4 +118,22 @@ pub fn read_back(tree: &[u64], number: u32, out: &mut [u16]) -> Result<usize, Re
     let clause = renumbered(&numbered.ok_or(Refusal::NoSuchNumber)?.words);
     out[..clause.len()].copy_from_slice(&clause);
     Ok(clause.len())
+}
+
+/// Lists the numbers of the kept clauses that a clause subsumes, rising, in the list's first words.
+pub fn backward(
+    tree: &[u64],
+    clause: &[u16],
+    budget: u64,
+    list: &mut [u32],
+) -> Result<Listed, Refusal> {
+    length(tree)?;
+    let literals = read(clause)?;
+    refuse_if(!well_laid(tree), Refusal::Broken)?;
+    let kept = saved(tree).ok_or(Refusal::NoSuchTree)?.pairs;
+    let listing = listed(&literals, &kept, budget, list.len())?;
+    let many = listing.numbers.len();
+    list[..many].copy_from_slice(&listing.numbers);
+    let candidates = listing.candidates;
+    Ok(Listed { many, candidates })
 }

@@ -1,14 +1,20 @@
 //! The rows of crates/cases/stdin run on the model. The commands are told at the top of crates/cases/src/main.rt.
-use crate::calls::{ceiling, check, fresh, insert, query, read_back, remove, Cover};
+use crate::calls::{
+    backward, ceiling, check, fresh, insert, query, read_back, remove, Cover, Listed,
+};
 use crate::compiler::sequence;
 use crate::instruction::Instruction;
 use crate::limits::TREE_MOST;
 use crate::reader::{read, Term};
 use crate::refusal::Refusal;
 use crate::words::{word, POSITIVE};
+use std::fmt::Display;
 
 // What a word of a witness or an output holds before a call: no literal and no position, and no word of a clause that a row reads back.
 const BLANK: u16 = u16::MAX;
+
+// The same for a word of a list: a number that no row gives a clause.
+const BLANK_NUMBER: u32 = u32::MAX - 1;
 
 /// The lines of rows.
 pub fn output(rows: &str) -> String {
@@ -89,6 +95,7 @@ impl Cases {
             "G" => written(read(clause), |literals| compiled(&literals)),
             "W" => self.ask(clause, number as usize),
             "O" => self.read_back(number as usize),
+            "X" => self.backward(clause, number as usize),
             "H" => written(check(self.slice()), |()| numbers(&[0])),
             "N" => self.ceiling(),
             "S" => return self.laid(),
@@ -122,14 +129,22 @@ impl Cases {
     fn ask(&mut self, clause: &[u16], length: usize) -> String {
         let (budget, mut witness) = (self.budget, vec![BLANK; length]);
         let answer = query(self.slice(), clause, budget, &mut witness);
-        written(answer, covered) + &entries(&witness)
+        written(answer, covered) + &entries(&witness, BLANK)
     }
 
     // The answer to reading a clause back and the words that it wrote.
     fn read_back(&mut self, length: usize) -> String {
         let (number, mut out) = (self.budget as u32, vec![BLANK; length]);
         let answer = read_back(self.slice(), number, &mut out);
-        written(answer, |length| numbers(&[0, length as u64])) + &entries(&out)
+        written(answer, |length| numbers(&[0, length as u64])) + &entries(&out, BLANK)
+    }
+
+    // The answer to listing backwards and the words that it wrote.
+    fn backward(&mut self, clause: &[u16], length: usize) -> String {
+        let (budget, mut list) = (self.budget, vec![BLANK_NUMBER; length]);
+        let answer = backward(self.slice(), clause, budget, &mut list);
+        let listed = |it: Listed| numbers(&[0, it.many as u64, it.candidates]);
+        written(answer, listed) + &entries(&list, BLANK_NUMBER)
     }
 
     fn ceiling(&self) -> String {
@@ -162,10 +177,10 @@ fn written<T>(answer: Result<T, Refusal>, write: impl FnOnce(T) -> String) -> St
     answer.map_or_else(refused, write)
 }
 
-// The words that were written, each with its index.
-fn entries(words: &[u16]) -> String {
+// The words that were written over blank ones, each with its index.
+fn entries<T: PartialEq + Display>(words: &[T], blank: T) -> String {
     let words = words.iter().enumerate();
-    let words = words.filter(|(_, &value)| value != BLANK);
+    let words = words.filter(|(_, value)| **value != blank);
     words.map(|(i, value)| format!(" {i}:{value}")).collect()
 }
 

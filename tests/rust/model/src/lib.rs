@@ -1,7 +1,9 @@
-//! Document 01 with the changes F-1 to F-5 of document 02 in plain Rust, written from their words and with nothing of the proved code.
+//! Document 01 with the changes F-1 to F-6 of document 02 in plain Rust, written from their words and with nothing of the proved code.
 //! The tests hold the proved calls and the program against it, and it makes the expected lines of tests/pages and crates/cases.
 //! A change of documents 01 and 02 is made here first.
 
+pub mod back_pages;
+pub mod backward;
 pub mod book;
 pub mod by_hand;
 pub mod calls;

@@ -28,6 +28,7 @@ pub const FULL_BUDGET: u64 = 19_634_135_040;
 /// A smaller budget that is enough on every tree made by calls, since no literal is used twice on a path (F-3).
 pub const ENOUGH_BUDGET: u64 = 112_230_400;
 
-/// The program's tree slice and budget.
+/// The program's tree slice, its budget for a query and for a listing, and its list.
 pub const PROGRAM_TREE: usize = 8_192;
 pub const PROGRAM_BUDGET: u64 = 1_000_000_000;
+pub const PROGRAM_LIST: usize = 1_024;

@@ -1,28 +1,28 @@
-//! The stored pages of tests/pages: which records they have.
+//! The stored pages of tests/pages: which records they have. Those that are run with `back` are in back_pages.rs.
 use crate::words::{word, FUNCTION, NEGATIVE, POSITIVE, VARIABLE};
 
 /// A page's name and bytes.
 pub type Page = (&'static str, Vec<u8>);
 
-const X: u16 = word(VARIABLE, 0, 0);
-const Y: u16 = word(VARIABLE, 0, 1);
-const Z: u16 = word(VARIABLE, 0, 2);
-const A: u16 = word(FUNCTION, 0, 1);
-const B: u16 = word(FUNCTION, 0, 2);
-const F: u16 = word(FUNCTION, 1, 3);
-const G: u16 = word(FUNCTION, 2, 4);
+pub(crate) const X: u16 = word(VARIABLE, 0, 0);
+pub(crate) const Y: u16 = word(VARIABLE, 0, 1);
+pub(crate) const Z: u16 = word(VARIABLE, 0, 2);
+pub(crate) const A: u16 = word(FUNCTION, 0, 1);
+pub(crate) const B: u16 = word(FUNCTION, 0, 2);
+pub(crate) const F: u16 = word(FUNCTION, 1, 3);
+pub(crate) const G: u16 = word(FUNCTION, 2, 4);
 
 // The predicate of a number, positive.
-const fn p(arity: u16, number: u16) -> u16 {
+pub(crate) const fn p(arity: u16, number: u16) -> u16 {
     word(POSITIVE, arity, number)
 }
 
-const P0: u16 = p(0, 1);
-const P1: u16 = p(1, 1);
-const P2: u16 = p(2, 1);
-const N2: u16 = word(NEGATIVE, 2, 1);
+pub(crate) const P0: u16 = p(0, 1);
+pub(crate) const P1: u16 = p(1, 1);
+pub(crate) const P2: u16 = p(2, 1);
+pub(crate) const N2: u16 = word(NEGATIVE, 2, 1);
 
-fn constant(i: u16) -> u16 {
+pub(crate) fn constant(i: u16) -> u16 {
     word(FUNCTION, 0, 16 + i)
 }
 

@@ -21,6 +21,7 @@ pub enum Refusal {
     BadSize,
     NoSuchTree,
     ShortOutput,
+    ShortList,
 }
 
 impl Refusal {
@@ -41,6 +42,7 @@ impl Refusal {
             Refusal::BadSize => 13,
             Refusal::NoSuchTree => 14,
             Refusal::ShortOutput => 15,
+            Refusal::ShortList => 16,
         }
     }
 

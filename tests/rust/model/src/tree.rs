@@ -49,6 +49,11 @@ impl Tree {
         tree
     }
 
+    /// The tree of one sequence, in as many words as it takes. Its Success has number 0.
+    pub fn alone(sequence: &[Instruction]) -> Tree {
+        Tree::of_paths(&[path(sequence, 0)], 0)
+    }
+
     /// The tree of well-laid words.
     pub fn of(words: &[u64]) -> Tree {
         let mut tree = Tree::new(words.len());

@@ -1,13 +1,20 @@
 //! Each call is put to the library and to the model; answer, told words and every lent word have to be the same.
 #![allow(dead_code)]
 use code_tree::raw;
-use model::calls::{self, Cover};
+use model::calls::{self, Cover, Listed};
 use model::refusal::Refusal;
 
 const UNTOLD: u64 = 0xDEAD;
 
 /// What a word of a witness or an output holds before a call.
 pub const UNWRITTEN: u16 = 0xBEEF;
+
+/// What a word of a list holds before a call.
+pub const UNLISTED: u32 = 0xBEEF_CAFE;
+
+// What stands before and after a list, so many times.
+const GUARD: u32 = 0x600D_600D;
+const GUARDS: usize = 3;
 
 // The number returned and the told words of an answer with its values.
 fn told(answer: Result<Vec<u64>, Refusal>) -> (u64, [u64; 4]) {
@@ -167,5 +174,62 @@ pub fn read_back(tree: &[u64], number: u32, out_words: usize) -> ReadBack {
     let answer = calls::read_back(tree, number, &mut out);
     let expected = ReadBack { answer, out };
     expect_read_back(tree, number, &expected);
+    expected
+}
+
+/// The answer to a listing and the list afterwards.
+#[derive(Debug, PartialEq)]
+pub struct Listing {
+    pub answer: Result<Listed, Refusal>,
+    pub list: Vec<u32>,
+}
+
+impl Listing {
+    /// The listing of numbers, to so many words.
+    pub fn of(numbers: &[u32], candidates: u64, list_words: usize) -> Listing {
+        let many = numbers.len();
+        let mut list = vec![UNLISTED; list_words];
+        list[..many].copy_from_slice(numbers);
+        let answer = Ok(Listed { many, candidates });
+        Listing { answer, list }
+    }
+
+    /// A refused one.
+    pub fn refused(refusal: Refusal, list_words: usize) -> Listing {
+        let (answer, list) = (Err(refusal), vec![UNLISTED; list_words]);
+        Listing { answer, list }
+    }
+
+    /// The numbers that were listed.
+    pub fn numbers(&self) -> &[u32] {
+        let many = self.answer.map_or(0, |listed| listed.many);
+        &self.list[..many]
+    }
+}
+
+/// Lists, where the answer and the list afterwards have to be these. The words around the list, and those of the tree and the clause, stay.
+pub fn expect_backward(tree: &[u64], clause: &[u16], budget: u64, expected: &Listing) {
+    let (before, given) = (tree.to_vec(), clause.to_vec());
+    let length = expected.list.len();
+    let mut around = vec![GUARD; GUARDS + length + GUARDS];
+    let list = &mut around[GUARDS..GUARDS + length];
+    list.fill(UNLISTED);
+    let mut words = [UNTOLD; 4];
+    let code = raw::backward(tree, clause, budget, list, &mut words);
+    let values = |listed: Listed| vec![listed.many as u64, listed.candidates];
+    let what = format!("backward {clause:04x?} for {budget} to {length}");
+    assert_eq!((code, words), told(expected.answer.map(values)), "{what}");
+    assert_eq!(*list, expected.list, "list of {what}");
+    let guards = [&around[..GUARDS], &around[GUARDS + length..]].concat();
+    assert_eq!(guards, [GUARD; 2 * GUARDS], "words around {what}");
+    assert!(tree == before && clause == given, "words after {what}");
+}
+
+/// Lists to so many words.
+pub fn backward(tree: &[u64], clause: &[u16], budget: u64, list_words: usize) -> Listing {
+    let mut list = vec![UNLISTED; list_words];
+    let answer = calls::backward(tree, clause, budget, &mut list);
+    let expected = Listing { answer, list };
+    expect_backward(tree, clause, budget, &expected);
     expected
 }

@@ -1,5 +1,8 @@
 //! Random clauses: few symbols and variables, new ones and such as are made from another clause.
 #![allow(dead_code)]
+pub mod back;
+pub mod general;
+pub mod pages;
 pub mod paths;
 pub mod repeated;
 pub mod tally;
@@ -217,8 +220,8 @@ impl Random {
     }
 }
 
-// The clause with each variable's number raised.
-fn renamed(c: &[u16], by: u16) -> Vec<u16> {
+/// The clause with each variable's number raised.
+pub fn renamed(c: &[u16], by: u16) -> Vec<u16> {
     let raise = |&w: &u16| {
         if is_variable(w) {
             word(VARIABLE, 0, (w + by) % 2048)
