@@ -1,5 +1,6 @@
 -- The turns of the loop over the cards: each clause is queried in the tree of the given one alone.
 use mathlib.Core.Path.{_≡_, refl, sym, ap, _∙_}
+use mathlib.Core.Bool.{true}
 use mathlib.Core.List.{List, [], _∷_, _++_, map}
 use Prim.Native.Nat.{ℕ, suc, _+_, _-_, _*_, _≤_, _<_}
 use native.Mathlib.Omega.{arith}
@@ -12,8 +13,9 @@ use Rattle.clause.specs.Clause.{maxWords, Accepted}
 use Rattle.clause.proofs.Apart.{apart}
 use Rattle.clause.proofs.Lists.{all-get}
 use Rattle.machine.specs.Machine.{State}
-use Rattle.tree.specs.Forest.{layout}
-use Rattle.tree.specs.Laid.{maxKept}
+use Rattle.tree.specs.Forest.{size, layout}
+use Rattle.tree.specs.Laid.{maxKept, sized, wellLaid}
+use Rattle.tree.proofs.Words.{length-layout, laid-layout}
 use Rattle.tree.specs.Calls.{Called, insertion}
 use Rattle.tree.specs.declared.Refusal.{Refusal}
 use Rattle.tree.specs.declared.CallAnswer.{CallAnswer}
@@ -23,7 +25,7 @@ use Rattle.walk.specs.Query.{witnessWords, Asked, answerBy, query}
 use Rattle.walk.specs.declared.QueryAnswer.{QueryAnswer}
 use Rattle.walk.specs.declared.QueryAnswer.the-variants.{Unanswered, NotCovered, Covered}
 use Rattle.backward.specs.Listing.{lone, tried, Listing, listed, overfull, spent, withNumber, found, goesOn, listFrom}
-use Rattle.backward.proofs.Lone.{Tries, subsuming, other, beyond, lone-size, lone-insertion, lone-query, lone-tries}
+use Rattle.backward.proofs.Lone.{Tries, subsuming, other, beyond, lone-mirrors, lone-leaves, lone-size, lone-insertion, lone-query, lone-tries}
 use Rattle.listing.specs.inner.Shelf.{numberOf, slotOf, clauseIn, pairAt, shelfOf, Slots, NamesSlot, AcceptedPair, CameTo}
 use Rattle.listing.specs.declared.Tried.the-variants.{Found, Overfull, Spent}
 
@@ -160,6 +162,17 @@ module _ {c : List ℕ} {b : ℕ} {cards ls R T : List ℕ} {room len : ℕ} {ns
     -- the words that are lent to the query
     abbrev row : List ℕ
     row = take (slot * maxWords + getD ls slot 0 - slot * maxWords) (drop (slot * maxWords) R)
+
+    -- the tree is well laid, and they are accepted
+    pub trying-ready : (sized T ≡ true) × (wellLaid T ≡ true) × Accepted row
+    trying-ready =
+        let a = g .asking in
+        let room : size (lone c) < 322 = omega (arith, lone-size c (a .accepts) (a .words)) in
+        let e : slot * maxWords + getD ls slot 0 - slot * maxWords ≡ getD ls slot 0 = omega arith in (
+          rw (a .tree, length-layout 322 (lone c) room),
+          rw (a .tree) (laid-layout 322 (lone c) room (omega arith) (lone-mirrors c (a .accepts) (a .words) .formed) (omega (arith, lone-leaves c (a .accepts) (a .words)))),
+          rw e clause-accepted,
+        )
 
     module _ {r : QueryAnswer} (q : r ≡ query T row (b - k) (replicate witnessWords 0) .answer) where
       answered : r ≡ answerBy (b - k) (replicate witnessWords 0) outcome .answer

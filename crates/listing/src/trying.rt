@@ -4,26 +4,14 @@ use crate::Lone;
 use crate::Tried;
 use clause::Clause;
 use insertion::insert;
-use query::query;
+use query::decide;
 use walk::QueryAnswer;
-use walk::Witness;
-ghost use mathlib.Core.Path.{_≡_};
 ghost use Prim.Native.Nat.{_≤_};
-ghost use lib.ListN.{length, replicate};
+ghost use lib.ListN.{length};
 ghost use Rattle.clause.specs.Clause.{Accepted};
 ghost use Rattle.clause.specs.Lists.{All};
 ghost use Rattle.backward.specs.Listing.{listFrom};
 ghost use Rattle.listing.specs.inner.Shelf.{Slots, NamesSlot, AcceptedPair, shelfOf, CameTo};
-ghost use Rattle.walk.specs.Query as q;
-ghost use Rattle.walk.specs.Query.{witnessWords};
-
-// Queries a clause in a tree, with a witness that is not looked at.
-fn ask(tree: &[u64], words: &[u16], budget: u64) -> QueryAnswer
-    ensures { λ r. ⌜ r ≡ q.query (now (tree .entry)) (now (words .entry)) budget (replicate witnessWords 0) .answer ⌝ }
-{
-    let mut witness = [0u16; Witness::WORDS];
-    query(tree, words, budget, &mut witness)
-}
 
 // Queries the clauses of so many cards, until the budget is spent or one number too many is found; those found are noted.
 pub(crate) fn try_all(
@@ -51,7 +39,7 @@ pub(crate) fn try_all(
         let start = slot * Clause::WORDS;
         let end = start + lengths[slot];
         let left = budget - tried;
-        let answer = ask(&lone, &rows[start..end], left);
+        let answer = decide(&lone, &rows[start..end], left);
         match answer {
             QueryAnswer::Unanswered(_) => {
                 return Tried::Spent;

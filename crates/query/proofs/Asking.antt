@@ -1,11 +1,11 @@
 -- The query by the tests of the code, and its walk from the state before the first candidate.
 use Prim.Native.Nat.{ℕ, _+_, _-_, _≤_, _<_}
-use mathlib.Core.Path.{_≡_, refl, sym, _∙_}
+use mathlib.Core.Path.{_≡_, refl, sym, ap, _∙_}
 use mathlib.Core.Bool.{Bool, true, false}
 use mathlib.Core.List.{List, [], _∷_}
 use native.Mathlib.Omega.{arith}
 use lib.Dec.{T, leb→le}
-use lib.ListN.{length, getD, take, drop, set, replicate}
+use lib.ListN.{length, getD, take, drop, set, replicate, length-replicate}
 use borrow.Author.Tests.{lt-ltb, le-ltb}
 use Rattle.clause.specs.Clause.{Accepted, shape}
 use Rattle.clause.proofs.Tests.{and-l, and-r}
@@ -16,12 +16,14 @@ use Rattle.machine.specs.Machine.{State, initial, unfilled}
 use Rattle.machine.proofs.Safe.{initial-safe}
 use Rattle.tree.specs.declared.Refusal.{Refusal}
 use Rattle.tree.specs.declared.Refusal.the-variants.{BadSlice, Broken, ShortWitness}
-use Rattle.tree.specs.Laid.{usedOf, region, sized}
+use Rattle.tree.specs.Laid.{usedOf, region, sized, wellLaid}
+use Rattle.tree.proofs.Grow.{sized-low, laid-room}
+use Rattle.walk.specs.declared.QueryAnswer.{QueryAnswer}
 use Rattle.walk.specs.Walk.{Answer, covered, notCovered, spent, broken, upTo}
 use Rattle.walk.specs.Words.{walkWords}
-use Rattle.walk.specs.Query.{witnessWords, machine, unanswered, answerBy, walkSlice, queryAs, query}
+use Rattle.walk.specs.Query.{witnessWords, machine, Asked, unanswered, answerBy, walkSlice, queryAs, query}
 use Rattle.cells.specs.inner.Cells.{countAt, cellCount, noPosition, positionIn, placed, stateOf, Tables, Walkable}
-use Rattle.walking.specs.inner.Findings.{seen}
+use Rattle.walking.specs.inner.Findings.{Out, seen}
 use Rattle.query.specs.inner.Telling.{toldOut, refusalOf}
 
 -- the cells before the first candidate
@@ -80,3 +82,15 @@ module _ (S d : List ℕ) (b : ℕ) (W : List ℕ) where
 
         pub query-walk : {u : ℕ} → u ≡ usedOf (getD S 0 0) → u ≤ length S - 1 → answerBy b W (walkSlice S d b) ≡ query S d b W
         query-walk e h = rw (query-sized, whole, le-ltb (length W) witnessWords room, le-ltb (length S - 1) (usedOf (getD S 0 0)) (omega arith))
+
+-- an accepted clause on a well-laid slice passes all tests
+pub decided : (T d : List ℕ) (b : ℕ) → sized T ≡ true → wellLaid T ≡ true → Accepted d → {e : ℕ} → e ≡ usedOf (getD T 0 0) + 1
+    → {o : Out} → o ≡ seen (walkWords (machine d) (upTo b) (take (e - 1) (drop 1 T)) (stateOf noPosition fresh) 0)
+    → {r : QueryAnswer} → r ≡ toldOut b (replicate witnessWords 0) o .answer → r ≡ query T d b (replicate witnessWords 0) .answer
+decided T d b s l A e f g =
+    let W : List ℕ = replicate witnessWords 0 in
+    let low = sized-low T s in
+    let long : witnessWords ≤ length W = rw (length-replicate {A = ℕ} witnessWords 0) (omega arith) in
+    g ∙ ap (λ (x : Out). toldOut b W x .answer) f
+    ∙ ap (λ (x : Asked). x .answer)
+    (searched T d b W (omega arith) e ∙ query-walk T d b W (sym s) refl (A .1) long refl (omega (arith, laid-room T l)))

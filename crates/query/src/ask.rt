@@ -11,12 +11,13 @@ use walking::End;
 use walking::Finding;
 use walking::walk_top;
 ghost use mathlib.Core.Path.{_≡_};
-ghost use mathlib.Core.Bool.{cond};
+ghost use mathlib.Core.Bool.{cond, true};
+ghost use mathlib.Core.List.{List};
 ghost use mathlib.Core.Option.{none, some};
-ghost use Prim.Native.Nat.{_+_, _-_, _≤_, _<_};
-ghost use lib.ListN.{length, getD};
+ghost use Prim.Native.Nat.{ℕ, _+_, _-_, _≤_, _<_};
+ghost use lib.ListN.{length, getD, replicate};
 ghost use Rattle.clause.specs.Clause.{Accepted};
-ghost use Rattle.tree.specs.Laid.{usedOf};
+ghost use Rattle.tree.specs.Laid.{usedOf, sized, wellLaid};
 ghost use Rattle.cells.specs.inner.Cells.{cellCount, noPosition, stateOf};
 ghost use Rattle.walking.specs.inner.Findings.{outBy};
 ghost use Rattle.query.specs.inner.Telling.{refusalOf, toldOut};
@@ -105,6 +106,34 @@ fn search(tree: &[u64], words: &[u16], budget: u64, witness: &mut [u16]) -> Quer
     let end = header.used + 1;
     let finding = walk_top(&tree[1..end], words, &tables, &mut cells, budget);
     answer(finding, budget, &cells, witness)
+}
+
+// The answer that a finding comes to, without a witness.
+fn told(finding: Finding, budget: u64) -> QueryAnswer
+    ensures { λ r. ⌜ ((W cells : List ℕ) → r ≡ toldOut budget W (outBy (finding .end) (finding .count) cells) .answer) ⌝ }
+{
+    let end = finding.end;
+    let count = finding.count;
+    match end {
+        End::Missed => QueryAnswer::NotCovered(count),
+        End::Found(number) => QueryAnswer::Covered(number, count),
+        End::Broken => QueryAnswer::Unanswered(Refusal::Broken),
+        End::Spent => QueryAnswer::Unanswered(Refusal::Spent(budget)),
+    }
+}
+
+// What a query of an accepted clause answers, without a witness: the caller has read it, and holds the slice well laid.
+pub fn decide(tree: &[u64], words: &[u16], budget: u64) -> QueryAnswer
+    requires { ⌜ (sized (now tree) ≡ true) × (wellLaid (now tree) ≡ true) × Accepted (now words) ⌝ }
+    ensures { λ r. ⌜ r ≡ q.query (now (tree .entry)) (now (words .entry)) budget (replicate witnessWords 0) .answer ⌝ }
+{
+    let clause = Clause::of(words);
+    let tables = clause.tables;
+    let mut cells = [Path::NONE as u8; Path::CELLS];
+    cells[Path::CHOSEN] = 0;
+    let end = Tree::used(tree[0]) + 1;
+    let finding = walk_top(&tree[1..end], words, &tables, &mut cells, budget);
+    told(finding, budget)
 }
 
 // Whether a kept clause covers the words: the clause's number and the count, with the witness, or the count, or a refusal.

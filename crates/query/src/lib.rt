@@ -1,4 +1,5 @@
 // The query: what is asked of a tree, and the answer (docs/REFERENCE.md, "Calls").
 mod ask;
 
+pub use ask::decide;
 pub use ask::query;

@@ -5,7 +5,7 @@ use native.Mathlib.Omega.{arith}
 use lib.ListN.{length}
 use borrow.Author.Needs.{needs}
 use Rattle.clause.proofs.Lists.{all-below}
-use Rattle.listing.proofs.Turns.{Trying, lone-made, trying-first, trying-end, trying-slot, trying-row, trying-spent}
+use Rattle.listing.proofs.Turns.{Trying, lone-made, trying-first, trying-end, trying-slot, trying-row, trying-ready, trying-spent}
 use Rattle.listing.proofs.Turns.{other-few, trying-other, found-few, trying-full, trying-found}
 use Rattle.listing.proofs.trying.try_all.Statement.{statement}
 use Rattle.listing.proofs.trying.try_all.Tie as tie
@@ -55,23 +55,23 @@ add-end c = let h = trying-row (c .before .before .before .loop .inv) (c .before
 sub-left : tie.Need-sub-left Inv-loop μ-loop
 sub-left c = omega (arith, c .before .before .before .loop .inv .left)
 
-slice-aggregate-ask : tie.Need-slice-aggregate-ask Inv-loop μ-loop
-slice-aggregate-ask c = search needs
+slice-aggregate-decide : tie.Need-slice-aggregate-decide Inv-loop μ-loop
+slice-aggregate-decide c = search needs
 
-mul-ask : tie.Need-mul-ask Inv-loop μ-loop
-mul-ask c = search needs
+mul-decide : tie.Need-mul-decide Inv-loop μ-loop
+mul-decide c = search needs
 
-sub-ask : tie.Need-sub-ask Inv-loop μ-loop
-sub-ask c = omega arith
+sub-decide : tie.Need-sub-decide Inv-loop μ-loop
+sub-decide c = omega arith
 
-part-ask-start : tie.Need-part-ask-start Inv-loop μ-loop
-part-ask-start c = omega arith
+part-decide-start : tie.Need-part-decide-start Inv-loop μ-loop
+part-decide-start c = omega arith
 
-part-ask-end : tie.Need-part-ask-end Inv-loop μ-loop
-part-ask-end c = trying-row (c .before .before .before .before .loop .inv) (c .before .before .before .loop-test .taken)
+part-decide-end : tie.Need-part-decide-end Inv-loop μ-loop
+part-decide-end c = trying-row (c .before .before .before .before .loop .inv) (c .before .before .before .loop-test .taken)
 
-ask-requires : tie.Need-ask-requires Inv-loop μ-loop
-ask-requires c κs = search needs
+decide-requires : tie.Need-decide-requires Inv-loop μ-loop
+decide-requires c κs = trying-ready (c .before .before .before .before .before .loop .inv) (c .before .before .before .before .loop-test .taken)
 
 enum-told : tie.Need-enum-told Inv-loop μ-loop
 enum-told c = search needs
@@ -83,7 +83,7 @@ returns : tie.Need-returns Inv-loop μ-loop
 returns c =
     let a = c .before .before in
     let l = a .before .before .before .before .before .before in
-    trying-spent (l .loop .inv) (a .before .before .before .before .before .loop-test .taken) (a .ask .ensures) (c .enum-told .given .1)
+    trying-spent (l .loop .inv) (a .before .before .before .before .before .loop-test .taken) (a .decide .ensures) (c .enum-told .given .1)
 
 enum-known-answer : tie.Need-enum-known-answer Inv-loop μ-loop
 enum-known-answer c = search needs
@@ -92,7 +92,7 @@ add-tried : tie.Need-add-tried Inv-loop μ-loop
 add-tried c =
     let a = c .before .before .before in
     let l = a .before .before .before .before .before .before in
-    let h = other-few (l .loop .inv) (a .before .before .before .before .before .loop-test .taken) (a .ask .ensures) (c .before .answer .given .1) in
+    let h = other-few (l .loop .inv) (a .before .before .before .before .before .loop-test .taken) (a .decide .ensures) (c .before .answer .given .1) in
     search (needs, h)
 
 enum-known-answer-2 : tie.Need-enum-known-answer-2 Inv-loop μ-loop
@@ -102,7 +102,7 @@ add-tried-2 : tie.Need-add-tried-2 Inv-loop μ-loop
 add-tried-2 c =
     let a = c .before .before .before in
     let l = a .before .before .before .before .before .before in
-    let h = found-few (l .loop .inv) (a .before .before .before .before .before .loop-test .taken) (a .ask .ensures) (c .before .answer2 .given .1) in
+    let h = found-few (l .loop .inv) (a .before .before .before .before .before .loop-test .taken) (a .decide .ensures) (c .before .answer2 .given .1) in
     search (needs, h)
 
 same-length-2 : tie.Need-same-length-2 Inv-loop μ-loop
@@ -112,7 +112,7 @@ returns-2 : tie.Need-returns-2 Inv-loop μ-loop
 returns-2 c =
     let a = c .before .before .before .before in
     let l = a .before .before .before .before .before .before in
-    trying-full (l .loop .inv) (a .before .before .before .before .before .loop-test .taken) (a .ask .ensures) (c .before .before .answer2 .given .1) (omega arith)
+    trying-full (l .loop .inv) (a .before .before .before .before .before .loop-test .taken) (a .decide .ensures) (c .before .before .answer2 .given .1) (omega arith)
 
 cast-numbers : tie.Need-cast-numbers Inv-loop μ-loop
 cast-numbers c =
@@ -142,8 +142,8 @@ loop-again c =
     let g = a .before .before .before .before .before .before .loop .inv in
     let h = a .before .before .before .before .before .loop-test .taken in
     ⊎-elim
-    (λ w. rw (w .3, w .4, w .5) (trying-other g h (a .ask .ensures) (w .1 .given .1)))
-    (λ w. rw (w .4, w .5, w .6) (trying-found g h (a .ask .ensures) (w .1 .given .1) (omega (arith, w .3 .left))))
+    (λ w. rw (w .3, w .4, w .5) (trying-other g h (a .decide .ensures) (w .1 .given .1)))
+    (λ w. rw (w .4, w .5, w .6) (trying-found g h (a .decide .ensures) (w .1 .given .1) (omega (arith, w .3 .left))))
     (c .match .came)
 
 same-length-3 : tie.Need-same-length-3 Inv-loop μ-loop
@@ -168,12 +168,12 @@ try-all-spec =
     shared-slice-read-end
     add-end
     sub-left
-    slice-aggregate-ask
-    mul-ask
-    sub-ask
-    part-ask-start
-    part-ask-end
-    ask-requires
+    slice-aggregate-decide
+    mul-decide
+    sub-decide
+    part-decide-start
+    part-decide-end
+    decide-requires
     enum-told
     same-length
     returns
