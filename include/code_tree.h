@@ -14,7 +14,7 @@
  *
  * Stack: a query of a tree made by these calls takes less than 72 KiB: a path has at most 321 instructions
  * (proved), so at most 320 calls nest, of 224 bytes each (measured), and the query itself takes 0.6 KiB. Tree
- * words from elsewhere nest up to 32,772 calls: 7,176 KiB. ct_backward takes less than 300 KiB, ct_check and
+ * words from elsewhere nest up to 32,772 calls: 7,176 KiB. ct_backward takes less than 170 KiB, ct_check and
  * ct_read_back less than 20 KiB, the other functions less than 8 KiB (measured).
  *
  * Each function returns 0, or the code of the first refusal that applies; a refusal changes no word of a tree,

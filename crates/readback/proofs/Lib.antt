@@ -6,3 +6,4 @@ pub mod Normal
 pub mod Listed
 pub mod Saved
 pub mod Laws
+pub mod Overwriting

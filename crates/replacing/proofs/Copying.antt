@@ -1,13 +1,11 @@
--- Words copied, numbers removed and marks freed, one after another.
+-- Numbers removed and marks freed, one after another; a record inserted after removals.
 use mathlib.Core.Path.{_≡_, refl, sym, ap, _∙_}
-use mathlib.Core.List.{List, [], _∷_, _++_, map, append-nil}
-use Prim.Native.Nat.{ℕ, zero, suc, _+_, _-_, _≤_, _<_}
+use mathlib.Core.List.{List, [], _∷_, _++_}
+use Prim.Native.Nat.{ℕ, zero, suc, _+_, _≤_, _<_}
 use native.Mathlib.Omega.{arith}
 use native.Mathlib.Numerals.{add-one}
 use lib.ListN.{length, getD, take, drop, set, length-set, drop-of-length-le}
-use lib.Seq.{take-suc, drop-cons, append-snoc, length-take-le, take-all, set-at, set-getD}
-use Rattle.clause.specs.Lists.{All, none, also}
-use Rattle.clause.proofs.Lists.{all-get}
+use lib.Seq.{take-suc, drop-cons, take-all, set-getD}
 use Rattle.book.specs.Book.{Call, remove, call as callOn, after}
 use Rattle.tree.specs.Laid.{usedOf}
 use Rattle.tree.specs.Refusal.{codeOf}
@@ -19,35 +17,6 @@ use Rattle.record.specs.Answer.{Record, removals, enteredAs, entered}
 use Rattle.record.specs.declared.Outcome.the-variants.{Kept, Refused}
 use Rattle.record.specs.Marks.{numberCount, freed, freeing}
 use Rattle.record.proofs.Entering.{after-append}
-
--- ---- words
-
--- the first words are copied
-pub record Copying (from old to : List ℕ) (i : ℕ) : Type 0 where
-  pub inside : i ≤ length from
-  pub many : length to ≡ length from
-  pub same : length old ≡ length from
-  pub is : to ≡ take i from ++ drop i old
-
-pub copying-none : (from old : List ℕ) → length old ≡ length from → Copying from old old 0
-copying-none from old h = record { inside = omega arith; many = h; same = h; is = refl }
-
-module _ {from old to : List ℕ} {i : ℕ} (g : Copying from old to i) where
-  pub copying-more : i < length from → Copying from old (set to i (getD from i 0)) (i + 1)
-  copying-more h =
-      record {
-        inside = omega arith;
-        many = length-set to i (getD from i 0) ∙ g .many;
-        same = g .same;
-        is = ap (λ m. set m i (getD from i 0)) (g .is ∙ ap (take i from ++_) (drop-cons old i 0 (omega (arith, g .same))))
-            ∙ set-at (take i from) (getD old i 0) (drop (suc i) old) (getD from i 0) i (length-take-le i from (omega arith))
-            ∙ sym (append-snoc (take i from) (getD from i 0) (drop (suc i) old))
-            ∙ simp add-one (ap (λ l. l ++ drop (suc i) old) (sym (take-suc from i 0 h)));
-      }
-
-  pub copying-done : length from ≤ i → to ≡ from
-  copying-done h =
-      g .is ∙ ap (λ l. l ++ drop i old) (take-all i from h) ∙ ap (from ++_) (drop-of-length-le old {i = i} (omega (arith, g .same))) ∙ append-nil from
 
 -- ---- numbers
 

@@ -3,7 +3,7 @@ use Prim.Native.Nat.{_-_}
 use native.Mathlib.Omega.{arith}
 use lib.ListN.{length}
 use borrow.Author.Needs.{needs}
-use Rattle.listing.proofs.Cards.{Overwriting, overwriting-first, overwriting-next, overwriting-end}
+use Rattle.readback.proofs.Overwriting.{Overwriting, overwriting-first, overwriting-next, overwriting-end}
 use Rattle.listing.proofs.write_numbers.Statement.{statement}
 use Rattle.listing.proofs.write_numbers.Tie as tie
 

@@ -1,20 +1,21 @@
 -- `copy` meets its contract: the first words are copied.
+use mathlib.Core.Path.{_∙_}
 use Prim.Native.Nat.{_-_}
 use native.Mathlib.Omega.{arith}
 use lib.ListN.{length}
 use borrow.Author.Needs.{needs}
-use Rattle.replacing.proofs.Copying.{Copying, copying-none, copying-more, copying-done}
+use Rattle.readback.proofs.Overwriting.{Overwriting, overwriting-first, overwriting-next, overwriting-end, over-all}
 use Rattle.replacing.proofs.copy.Statement.{statement}
 use Rattle.replacing.proofs.copy.Tie as tie
 
 abbrev Inv-loop : tie.InvT-loop
-Inv-loop from to₀ i₀ to i = Copying from to₀ to i
+Inv-loop from to₀ i₀ to i = Overwriting from to₀ to i
 
 abbrev μ-loop : tie.MeasureT-loop
 μ-loop from to₀ i₀ to i = length from - i
 
 loop-holds : tie.Need-loop-holds Inv-loop μ-loop
-loop-holds c = copying-none _ _ (c .pre)
+loop-holds c = overwriting-first _ _ (omega (arith, c .pre))
 
 mul-to : tie.Need-mul-to Inv-loop μ-loop
 mul-to c = search needs
@@ -26,7 +27,7 @@ mul-to-2 : tie.Need-mul-to-2 Inv-loop μ-loop
 mul-to-2 c = search needs
 
 slice-write-to : tie.Need-slice-write-to Inv-loop μ-loop
-slice-write-to c = omega (arith, c .before .before .loop .inv .many)
+slice-write-to c = let g = c .before .before .loop .inv in omega (arith, g .room, g .many)
 
 add-i : tie.Need-add-i Inv-loop μ-loop
 add-i c = search needs
@@ -35,13 +36,15 @@ loop-less : tie.Need-loop-less Inv-loop μ-loop
 loop-less c = omega arith
 
 loop-again : tie.Need-loop-again Inv-loop μ-loop
-loop-again c = copying-more (c .before .before .loop .inv) (omega arith)
+loop-again c = overwriting-next (c .before .before .loop .inv) (omega arith)
 
 same-length : tie.Need-same-length Inv-loop μ-loop
 same-length c = search needs
 
 returns : tie.Need-returns Inv-loop μ-loop
-returns c = copying-done (c .before .loop .inv) (omega arith)
+returns c =
+    let a = c .before .before .args in
+    overwriting-end (c .before .loop .inv) (omega arith) ∙ over-all (a .from .now) (a .to .now) (c .before .before .pre)
 
 pub copy-spec : {M : Type 1} → statement M
 copy-spec =
