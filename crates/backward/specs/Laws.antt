@@ -22,6 +22,10 @@ use Rattle.backward.specs.declared.BackAnswer.the-variants.{Listed}
 abbrev pub asRead : Pair → Pair
 asRead p = record { number = p .number; clause = normal (p .clause) }
 
+-- the kept clauses in the order in which they are queried: as they are read back, by rising number
+abbrev pub queried : List Pair → List Pair
+queried K = rising (map asRead K)
+
 -- the candidates of all queries of some clauses in the tree of c alone, without a budget
 abbrev pub triesOf : (c : List ℕ) (pairs : List Pair) → ℕ
 triesOf c [] = 0
@@ -67,16 +71,16 @@ pub record ListsKept (T : List ℕ) (K : List Pair) (c : List ℕ) (b : ℕ) (L 
   pub few : length numbers ≤ length K
   -- they are listed, with the candidates in all, exactly if list and budget are enough; the list's further words stay
   pub answered : (n k : ℕ) → (backward T c b L .answer ≡ Listed n k)
-      ↔ ((length numbers ≤ length L) × (triesOf c (rising (map asRead K)) ≤ b) × (n ≡ length numbers) × (k ≡ triesOf c (rising (map asRead K))))
+      ↔ ((length numbers ≤ length L) × (triesOf c (queried K) ≤ b) × (n ≡ length numbers) × (k ≡ triesOf c (queried K)))
   pub list : (n k : ℕ) → backward T c b L .answer ≡ Listed n k → backward T c b L .list ≡ over numbers L
   -- 12 and 16 come exactly where they are met, going by rising number, and leave every word
-  pub spent : (backward T c b L ≡ unlisted (Spent b) L) ↔ SpentAt c b L (rising (map asRead K))
-  pub full : (backward T c b L ≡ unlisted ShortList L) ↔ FullAt c b L (rising (map asRead K))
+  pub spent : (backward T c b L ≡ unlisted (Spent b) L) ↔ SpentAt c b L (queried K)
+  pub full : (backward T c b L ≡ unlisted ShortList L) ↔ FullAt c b L (queried K)
   -- and nothing else comes
   pub kinds : ((n : ℕ) × (k : ℕ) × (backward T c b L .answer ≡ Listed n k))
       ⊎ ((backward T c b L ≡ unlisted (Spent b) L) ⊎ (backward T c b L ≡ unlisted ShortList L))
   -- a budget that is enough for every query is enough for the listing
-  pub enough : triesOf c (rising (map asRead K)) ≤ enoughBudget
+  pub enough : triesOf c (queried K) ≤ enoughBudget
 
 -- the claim: for the tree of any clauses, and every accepted clause, budget and list
 abbrev pub BackwardLaws : Type 0

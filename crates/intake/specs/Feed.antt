@@ -27,7 +27,7 @@ use Rattle.intake.specs.declared.Session.{Session}
 use Rattle.intake.specs.declared.Next.{Next}
 use Rattle.intake.specs.declared.Next.the-variants.{Reads, Ends}
 
--- the lent words: those of the record that is being read, the tree's slice, a byte for each number, 1 if it is taken, and two counters for each
+-- the lent words: those of the record that is being read, the tree's slice, a mark and two counters for each number
 pub record Store : Type 0 where
   pub words : List ℕ
   pub slice : List ℕ

@@ -15,7 +15,7 @@ use Rattle.readback.specs.declared.CheckAnswer.{CheckAnswer}
 use Rattle.readback.specs.declared.CheckAnswer.the-variants.{Failed, Passed}
 use Rattle.readback.specs.declared.ReadAnswer.{ReadAnswer}
 use Rattle.backward.specs.Calls.{Backed, unlisted, backward}
-use Rattle.backward.specs.Laws.{SpentAt, FullAt, ListsKept, triesOf}
+use Rattle.backward.specs.Laws.{SpentAt, FullAt, ListsKept, queried, triesOf}
 use Rattle.backward.specs.declared.BackAnswer.{BackAnswer}
 use Rattle.backward.specs.declared.BackAnswer.the-variants.{Listed}
 use Rattle.walk.specs.Ceiling.{fullBudget, enoughBudget}
@@ -38,7 +38,7 @@ use Rattle.interface.specs.Told.{numberOf, shownAs, replied}
 use Rattle.interface.specs.Calls.{Handed, handed, ctFresh, ctInsert, ctRemove, ctQuery, ctReadBack, ctCheck, ctBackward}
 use Rattle.interface.specs.Claims.{Made, ctCall, ctAfter, ctTree, callsMade, CtRun, CtReach}
 use Rattle.interface.specs.Claims.{Says, SaysCovered, SaysNot, SaysSpent, needed, CtAnswers, CtDemand2, CtSame, CtCovered, CtDemand3, CtExact, CtExactCount}
-use Rattle.interface.specs.Claims.{CtChecked, CtReadsBook, CtSavedIsMade, Lists, ListsSpent, ListsFull, queried, CtLists, CtListsBook}
+use Rattle.interface.specs.Claims.{CtChecked, CtReadsBook, CtSavedIsMade, Lists, ListsSpent, ListsFull, CtLists, CtListsBook}
 use Rattle.interface.proofs.Differ.{Freshened, ready, bad-slice, Inserted, kept, refusal, Taken, removed, broken, no-such}
 use Rattle.interface.proofs.Differ.{fresh-answers, insert-answers, remove-answers, code-some, query-apart}
 

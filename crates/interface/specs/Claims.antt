@@ -16,9 +16,8 @@ use Rattle.tree.specs.Calls.{fresh, insertion, removal}
 use Rattle.readback.specs.Readback.{normal}
 use Rattle.readback.specs.Saved.{IsTreeOf, IsSaved}
 use Rattle.readback.specs.Calls.{check, over, readBack}
-use Rattle.backward.specs.Listing.{rising}
 use Rattle.backward.specs.Calls.{backward}
-use Rattle.backward.specs.Laws.{asRead, triesOf, SpentAt, FullAt}
+use Rattle.backward.specs.Laws.{queried, triesOf, SpentAt, FullAt}
 use Rattle.walk.specs.Ceiling.{ceiling, arrangements, fullBudget, enoughBudget, ceilingCall}
 use Rattle.walk.specs.Query.{witnessWords, withShown, query}
 use Rattle.walk.specs.Covering.{most, Units, Subsumed, Shows, Untouched, candidates}
@@ -214,10 +213,6 @@ ListsSpent r L ts b = r ≡ record { number = 12; words = L; told = toldBy (b �
 
 abbrev pub ListsFull : Handed → (list told : List ℕ) → Type 0
 ListsFull r L ts = r ≡ record { number = 16; words = L; told = ts }
-
--- the kept clauses as they are read back, by rising number
-abbrev pub queried : List Pair → List Pair
-queried K = rising (map asRead K)
 
 -- what ct_backward hands over for the clause c, the budget b, the list L and the told words ts, where the pairs K are kept
 pub record CtLists (K : List Pair) (c : List ℕ) (b : ℕ) (L ts : List ℕ) (r : Handed) : Type 0 where

@@ -10,7 +10,7 @@ use lib.ListN.{length, take, drop, getD, length-append, drop-of-length-le, set}
 use lib.Seq.{sets, sets-eq, set-comm, length-sets, take-suc, take-at, drop-cons, length-take-le}
 use borrow.Author.Tests.{lt-ltb, le-ltb}
 use Rattle.record.specs.Text.{digitsFor, decimal, Written, putAt}
-use Rattle.record.specs.Line.{named, saysRemoved, removalLine, removalLines, saysTaken}
+use Rattle.record.specs.Line.{named, saysRemoved, removalLine, removalLines, removedTotal}
 use Rattle.record.specs.declared.Setting.{Setting}
 use Rattle.record.specs.declared.Setting.the-variants.{Plain, Back}
 
@@ -141,9 +141,9 @@ pub named-put : (t : List ℕ) (k n : ℕ) → n < 10 ^ suc k → (o : List ℕ)
 named-put t k n h o at e = let q = placed (named t n) o at e in (omega (arith, length-append t (decimal n), decimal-length k n h, q .0), q .1)
 
 -- how many were removed, at the end of the line of totals, takes at most 29 bytes
-pub taken-length : (s : Setting) (n : ℕ) → n < 10 ^ 20 → length (saysTaken s n) ≤ 29
-taken-length Plain n h = omega arith
-taken-length Back n h = omega (arith, length-append saysRemoved (decimal n), decimal-length 19 n h)
+pub removed-total-length : (s : Setting) (n : ℕ) → n < 10 ^ 20 → length (removedTotal s n) ≤ 29
+removed-total-length Plain n h = omega arith
+removed-total-length Back n h = omega (arith, length-append saysRemoved (decimal n), decimal-length 19 n h)
 
 -- ---- the lines of removals, one after another
 

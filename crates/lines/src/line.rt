@@ -9,7 +9,7 @@ ghost use mathlib.Core.Path.{_≡_};
 ghost use Prim.Native.Nat.{_+_, _≤_};
 ghost use lib.ListN.{length};
 ghost use Rattle.record.specs.Text.{putAt};
-ghost use Rattle.record.specs.Line.{longestSaying, longestLine, longestTotals, saying, lineOf, saysTaken, totalsLine};
+ghost use Rattle.record.specs.Line.{longestSaying, longestLine, longestTotals, saying, lineOf, removedTotal, totalsLine};
 
 // Puts what became of a record at a place of the output, and gives the place after it. It takes at most `longestSaying` bytes.
 fn put_outcome(output: &mut [u8], at: usize, outcome: Outcome) -> usize
@@ -39,9 +39,9 @@ pub fn put_line(output: &mut [u8], at: usize, number: u16, outcome: Outcome) -> 
 }
 
 // Puts how many were removed at a place of the output, only with backward striking, and gives the place after it.
-fn put_taken(output: &mut [u8], at: usize, setting: Setting, removed: u64) -> usize
-    requires { ⌜ at + length (saysTaken setting removed) ≤ length (now output) ⌝ }
-    ensures { λ r. ⌜ record { next = r; output = now (output .exit) } ≡ putAt (saysTaken setting removed) (now (output .entry)) at ⌝ }
+fn put_removed_total(output: &mut [u8], at: usize, setting: Setting, removed: u64) -> usize
+    requires { ⌜ at + length (removedTotal setting removed) ≤ length (now output) ⌝ }
+    ensures { λ r. ⌜ record { next = r; output = now (output .exit) } ≡ putAt (removedTotal setting removed) (now (output .entry)) at ⌝ }
 {
     match setting {
         Setting::Plain => at,
@@ -58,6 +58,6 @@ pub fn put_totals(output: &mut [u8], at: usize, setting: Setting, totals: Totals
     let struck = put_named(output, at, b"kept ", totals.kept);
     let refused = put_named(output, struck, b" struck ", totals.struck);
     let removed = put_named(output, refused, b" refused ", totals.refused);
-    let end = put_taken(output, removed, setting, totals.removed);
+    let end = put_removed_total(output, removed, setting, totals.removed);
     put_text(output, end, b"\n")
 }

@@ -67,6 +67,20 @@ fn refusal(shape: Shape) -> Refusal
     }
 }
 
+// The answer that a finding comes to, without a witness.
+fn told(finding: Finding, budget: u64) -> QueryAnswer
+    ensures { λ r. ⌜ ((W cells : List ℕ) → r ≡ toldOut budget W (outBy (finding .end) (finding .count) cells) .answer) ⌝ }
+{
+    let end = finding.end;
+    let count = finding.count;
+    match end {
+        End::Missed => QueryAnswer::NotCovered(count),
+        End::Found(number) => QueryAnswer::Covered(number, count),
+        End::Broken => QueryAnswer::Unanswered(Refusal::Broken),
+        End::Spent => QueryAnswer::Unanswered(Refusal::Spent(budget)),
+    }
+}
+
 // The answer that a finding comes to; the witness is written where the tree covers the query.
 fn answer(
     finding: Finding,
@@ -79,16 +93,11 @@ fn answer(
         ≡ toldOut budget (now (witness .entry)) (outBy (finding .end) (finding .count) (now (cells .entry))) ⌝ }
 {
     let end = finding.end;
-    let count = finding.count;
-    match end {
-        End::Missed => QueryAnswer::NotCovered(count),
-        End::Found(number) => {
-            show(cells, witness);
-            QueryAnswer::Covered(number, count)
-        }
-        End::Broken => QueryAnswer::Unanswered(Refusal::Broken),
-        End::Spent => QueryAnswer::Unanswered(Refusal::Spent(budget)),
-    }
+    let End::Found(_) = end else {
+        return told(finding, budget);
+    };
+    show(cells, witness);
+    told(finding, budget)
 }
 
 // Walks the used words of a slice from the state before the first candidate, and answers.
@@ -106,20 +115,6 @@ fn search(tree: &[u64], words: &[u16], budget: u64, witness: &mut [u16]) -> Quer
     let end = header.used + 1;
     let finding = walk_top(&tree[1..end], words, &tables, &mut cells, budget);
     answer(finding, budget, &cells, witness)
-}
-
-// The answer that a finding comes to, without a witness.
-fn told(finding: Finding, budget: u64) -> QueryAnswer
-    ensures { λ r. ⌜ ((W cells : List ℕ) → r ≡ toldOut budget W (outBy (finding .end) (finding .count) cells) .answer) ⌝ }
-{
-    let end = finding.end;
-    let count = finding.count;
-    match end {
-        End::Missed => QueryAnswer::NotCovered(count),
-        End::Found(number) => QueryAnswer::Covered(number, count),
-        End::Broken => QueryAnswer::Unanswered(Refusal::Broken),
-        End::Spent => QueryAnswer::Unanswered(Refusal::Spent(budget)),
-    }
 }
 
 // What a query of an accepted clause answers, without a witness: the caller has read it, and holds the slice well laid.

@@ -88,14 +88,14 @@ unfoldable pub linesFor : (number : ℕ) (removed : List ℕ) → Outcome → Li
 linesFor n ns o = removalLines n ns ++ lineOf n o
 
 -- how many are removed, at the end of the line of totals; only with backward striking
-abbrev pub saysTaken : Setting → (removed : ℕ) → List ℕ
-saysTaken Plain m = []
-saysTaken Back m = named saysRemoved m
+abbrev pub removedTotal : Setting → (removed : ℕ) → List ℕ
+removedTotal Plain m = []
+removedTotal Back m = named saysRemoved m
 
 -- the line of totals: how many are kept, were struck and refused, and are removed
 unfoldable pub totalsLine : Setting → Totals → List ℕ
 totalsLine s t =
-    named saysFirst (t .kept) ++ (named saysStruck (t .struck) ++ (named saysRefused (t .refused) ++ (saysTaken s (t .removed) ++ lineEnd)))
+    named saysFirst (t .kept) ++ (named saysStruck (t .struck) ++ (named saysRefused (t .refused) ++ (removedTotal s (t .removed) ++ lineEnd)))
 
 -- a row of the tally sheet: a number, the strikes of its clause, and their candidates
 unfoldable pub tallyLine : (number strikes candidates : ℕ) → List ℕ

@@ -1,8 +1,8 @@
 -- The totals, one after another, and the end of the line.
 use native.Mathlib.Omega.{arith}
 use mathlib.Core.List.{_++_}
-use Rattle.record.specs.Line.{lineEnd, named, saysFirst, saysStruck, saysRefused, saysTaken, totalsLine}
-use Rattle.lines.proofs.Writing.{placed, joined, decimal-length, named-put, taken-length}
+use Rattle.record.specs.Line.{lineEnd, named, saysFirst, saysStruck, saysRefused, removedTotal, totalsLine}
+use Rattle.lines.proofs.Writing.{placed, joined, decimal-length, named-put, removed-total-length}
 use borrow.Author.Needs.{needs}
 use Rattle.lines.proofs.line.put_totals.Statement.{statement}
 use Rattle.lines.proofs.line.put_totals.Tie as tie
@@ -42,8 +42,8 @@ put-named-requires-3 c κs =
     let l = named-put saysStruck 19 (t .struck) (omega (arith, s .good)) (p .last .0) (p .result) (c4 .put-named2 .ensures) in
     omega (arith, s .pre, k, l, decimal-length 19 (t .refused) (omega (arith, s .good)))
 
-put-taken-requires : tie.Need-put-taken-requires
-put-taken-requires c κs =
+put-removed-total-requires : tie.Need-put-removed-total-requires
+put-removed-total-requires c κs =
     let c3 = c .before .before .before in
     let c8 = c3 .before .before .before .before .before in
     let c13 = c8 .before .before .before .before .before in
@@ -55,7 +55,7 @@ put-taken-requires c κs =
     let k = named-put saysFirst 19 (t .kept) (omega (arith, s .good)) o (s .args .at) (p .ensures) in
     let l = named-put saysStruck 19 (t .struck) (omega (arith, s .good)) (p .last .0) (p .result) (q .ensures) in
     let m = named-put saysRefused 19 (t .refused) (omega (arith, s .good)) (q .last .0) (q .result) (c3 .put-named3 .ensures) in
-    omega (arith, s .pre, k, l, m, taken-length (s .args .setting) (t .removed) (omega (arith, s .good)))
+    omega (arith, s .pre, k, l, m, removed-total-length (s .args .setting) (t .removed) (omega (arith, s .good)))
 
 slice-aggregate-put-text : tie.Need-slice-aggregate-put-text
 slice-aggregate-put-text c = search needs
@@ -75,8 +75,8 @@ put-text-requires c κs =
     let k = named-put saysFirst 19 (t .kept) (omega (arith, s .good)) o (s .args .at) (p .ensures) in
     let l = named-put saysStruck 19 (t .struck) (omega (arith, s .good)) (p .last .0) (p .result) (q .ensures) in
     let m = named-put saysRefused 19 (t .refused) (omega (arith, s .good)) (q .last .0) (q .result) (r .ensures) in
-    let n = taken-length (s .args .setting) (t .removed) (omega (arith, s .good)) in
-    omega (arith, s .pre, k, l, m, n, placed (saysTaken (s .args .setting) (t .removed)) (r .last .0) (r .result) (c4 .put-taken .ensures))
+    let n = removed-total-length (s .args .setting) (t .removed) (omega (arith, s .good)) in
+    omega (arith, s .pre, k, l, m, n, placed (removedTotal (s .args .setting) (t .removed)) (r .last .0) (r .result) (c4 .put-removed-total .ensures))
 
 same-length : tie.Need-same-length
 same-length c = search needs
@@ -95,14 +95,14 @@ returns c =
     let p = c21 .put-named in
     let q = c16 .put-named2 in
     let r = c11 .put-named3 in
-    let u = c7 .put-taken in
+    let u = c7 .put-removed-total in
     let e = c2 .put-text .ensures in
-    let taken = saysTaken (s .args .setting) (t .removed) in
+    let taken = removedTotal (s .args .setting) (t .removed) in
     let third = named saysRefused (t .refused) ++ (taken ++ lineEnd) in
     let k = named-put saysFirst 19 (t .kept) (omega (arith, s .good)) o (s .args .at) (p .ensures) in
     let l = named-put saysStruck 19 (t .struck) (omega (arith, s .good)) (p .last .0) (p .result) (q .ensures) in
     let m = named-put saysRefused 19 (t .refused) (omega (arith, s .good)) (q .last .0) (q .result) (r .ensures) in
-    let n = taken-length (s .args .setting) (t .removed) (omega (arith, s .good)) in (
+    let n = removed-total-length (s .args .setting) (t .removed) (omega (arith, s .good)) in (
       joined (named saysFirst (t .kept)) (named saysStruck (t .struck) ++ third) o (s .args .at) (p .ensures)
           (joined (named saysStruck (t .struck)) third (p .last .0) (p .result) (q .ensures)
           (joined (named saysRefused (t .refused)) (taken ++ lineEnd) (q .last .0) (q .result) (r .ensures)
@@ -120,7 +120,7 @@ put-totals-spec =
     put-named-requires-2
     slice-aggregate-put-named-3
     put-named-requires-3
-    put-taken-requires
+    put-removed-total-requires
     slice-aggregate-put-text
     put-text-requires
     same-length

@@ -2,8 +2,8 @@
 use mathlib.Core.Path.{sym}
 use Rattle.lines.proofs.Writing.{put-none}
 use borrow.Author.Needs.{needs}
-use Rattle.lines.proofs.line.put_taken.Statement.{statement}
-use Rattle.lines.proofs.line.put_taken.Tie as tie
+use Rattle.lines.proofs.line.put_removed_total.Statement.{statement}
+use Rattle.lines.proofs.line.put_removed_total.Tie as tie
 
 enum-told : tie.Need-enum-told
 enum-told c = search needs
@@ -31,8 +31,8 @@ returns-2 : tie.Need-returns-2
 returns-2 c =
     rw (c .before .before .before .before .before .enum-told2 .given .1) (c .before .before .put-named .ensures)
 
-pub put-taken-spec : {M : Type 1} → statement M
-put-taken-spec =
+pub put-removed-total-spec : {M : Type 1} → statement M
+put-removed-total-spec =
     tie.close
     (tie.spec
     enum-told
