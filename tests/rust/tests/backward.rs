@@ -7,15 +7,14 @@ mod set;
 
 use beside::Listing;
 use drawn::back::{clearing_page, clearing_units};
+use drawn::spoilt::each_change;
 use drawn::tally::Tally;
 use drawn::{renamed, Random, Style, STYLES};
 use listed::Queries;
 use model::back_pages::back_pages;
-use model::book::Book;
-use model::by_hand::{self, chain, going_on};
+use model::by_hand::{self, with_much_stack};
 use model::calls::Listed;
-use model::compiler::sequence;
-use model::instruction::{used, Instruction, Operation};
+use model::instruction::used;
 use model::limits::{ENOUGH_BUDGET, FULL_BUDGET, KEPT, TREE_MOST};
 use model::limits::{PROGRAM_BUDGET, PROGRAM_LIST, PROGRAM_TREE, WITNESS_WORDS};
 use model::matcher::subsumes;
@@ -23,8 +22,8 @@ use model::notation::{clause, tree};
 use model::program::{output, records, Setting};
 use model::reader::read;
 use model::refusal::Refusal;
-use model::tree::{Path, Tree};
 use model::words::{is_variable, word, FUNCTION, POSITIVE, VARIABLE};
+use set::full::Full;
 use set::Set;
 
 // What a clause has to do with the kept ones.
@@ -207,22 +206,14 @@ fn lists_of_calls() {
     tally.assert_least(&LEAST);
 }
 
-// A slice of the greatest length with its book.
-struct Full {
-    tree: Vec<u64>,
-    book: Book,
-}
-
 impl Full {
     // As many clauses as can be kept, under any numbers.
     fn of(random: &mut Random, clause: impl Fn(u16, &mut Random) -> Vec<u16>) -> Full {
-        let (tree, book) = (vec![0; TREE_MOST], Book::new(TREE_MOST));
-        let mut full = Full { tree, book };
+        let mut full = Full::new();
         while full.book.pairs.len() < KEPT {
             let (i, number) = (full.book.pairs.len() as u16, random.next() as u32);
             let clause = clause(i, random);
-            let inserted = code_tree::insert(&mut full.tree, &clause, number);
-            assert_eq!(full.book.insert(&clause, number).is_ok(), inserted.is_ok());
+            let _ = full.keep(&clause, number);
         }
         full
     }
@@ -290,8 +281,7 @@ fn most_candidates() {
 #[test]
 fn numbers_a_bit_apart() {
     let mut random = Random(74);
-    let numbers = [0, u32::MAX].map(|n| (0..32).map(move |bit| n ^ 1 << bit).chain([n]));
-    let mut numbers: Vec<u32> = numbers.into_iter().flatten().collect();
+    let mut numbers = by_hand::numbers_a_bit_apart();
     for _ in 0..20 {
         random.shuffle(&mut numbers);
         let mut tree = [0; 200];
@@ -315,19 +305,6 @@ fn list_any(tree: &[u64], clause: &[u16], random: &mut Random, tally: &mut Tally
     tally.count_if("listings of some", !listing.numbers().is_empty());
 }
 
-// A tree of few clauses, under numbers from 0; and a clause more general than one of them.
-fn small_tree(style: Style, random: &mut Random) -> (Vec<u64>, Vec<u16>) {
-    let mut tree = vec![0; 12 + random.below(24)];
-    let mut general = vec![0x8801, 0x4000];
-    for number in 0..4 {
-        let clause = random.clause(style);
-        if model::calls::insert(&mut tree, &clause, number).is_ok() {
-            general = random.general(&clause);
-        }
-    }
-    (tree, general)
-}
-
 // How often each answer has to occur on spoilt slices.
 const LEAST_OF_SPOILT: [(&str, u64); 6] = [
     ("listings made", 1_000),
@@ -338,32 +315,19 @@ const LEAST_OF_SPOILT: [(&str, u64); 6] = [
     ("listings refused 16", 500),
 ];
 
-// In small trees each bit changed, each two words exchanged, and each field one more and one less.
+// In small trees each bit changed, each two words exchanged, and each field one more and one less; given is a clause more general than a kept one.
 #[test]
 fn each_word_changed() {
     let mut random = Random(75);
     let mut tally = Tally::default();
     for i in 0..48 {
-        let (tree, general) = small_tree(STYLES[i % STYLES.len()], &mut random);
-        let mut call = |changes: &[(usize, u64)]| {
-            let mut changed = tree.clone();
-            for (at, word) in changes {
-                changed[*at] = *word;
-            }
-            list_any(&changed, &general, &mut random, &mut tally);
-        };
-        for at in 0..tree.len() {
-            for bit in 0..64 {
-                call(&[(at, tree[at] ^ 1 << bit)]);
-            }
-            for other in 0..at {
-                call(&[(at, tree[other]), (other, tree[at])]);
-            }
-            for by in [1, 1 << 28, 1 << 32] {
-                call(&[(at, tree[at].wrapping_add(by))]);
-                call(&[(at, tree[at].wrapping_sub(by))]);
-            }
-        }
+        let mut general = vec![0x8801, 0x4000];
+        let tree = random.small_tree(STYLES[i % STYLES.len()], |random, kept| {
+            general = random.general(kept);
+        });
+        each_change(&tree, |changed| {
+            list_any(changed, &general, &mut random, &mut tally)
+        });
     }
     tally.assert_least(&LEAST_OF_SPOILT);
 }
@@ -375,39 +339,18 @@ fn paths_near_clauses() {
     let mut tally = Tally::default();
     for i in 0..16_000 {
         let style = STYLES[i % 6];
-        let clauses = [(); 4].map(|()| random.clause(style));
-        let accepted = clauses.iter().filter(|clause| read(clause).is_ok());
-        let accepted: Vec<&Vec<u16>> = accepted.collect();
-        let Some(first) = accepted.first() else {
+        let (clauses, sequences) = random.sequences(style);
+        let Some(first) = clauses.first() else {
             continue;
         };
         let general = random.general(first);
-        let sequences: Vec<Path> = accepted
-            .iter()
-            .map(|clause| sequence(&read(clause).unwrap()))
-            .collect();
         let changed = random.of(&[0, 0, 1, 2]);
-        let mut paths = Vec::new();
-        for (i, mut path) in sequences.iter().cloned().enumerate() {
-            if i >= sequences.len().saturating_sub(changed) {
-                path = random.near(&path, &sequences[0]);
-            }
-            let number = if random.one_in(20) { 0 } else { i as u32 };
-            path.push(Instruction::new(Operation::Success, number));
-            paths.push(path);
-        }
-        paths.sort();
-        paths.dedup();
-        let tree = Tree::of_paths(&paths, 1 + random.below(9)).words();
+        let tree = random.laid(&sequences, |_, i| {
+            (i + changed >= sequences.len()).then_some(0)
+        });
         list_any(&tree, &general, &mut random, &mut tally);
     }
     tally.assert_least(&LEAST_OF_SPOILT);
-}
-
-// The model needs much stack for deep slices.
-fn with_much_stack(calls: impl FnOnce() + Send + 'static) {
-    let thread = std::thread::Builder::new().stack_size(512 << 20);
-    thread.spawn(calls).unwrap().join().unwrap();
 }
 
 // Slices made by hand: one that passes a check lists its clause, read back, under its number, and no number that is not there; another one has the check's code.
@@ -440,10 +383,7 @@ fn slices_made_by_hand() {
 fn deep_paths() {
     with_much_stack(|| {
         for depth in [319, 320, 321, 322, 30_000, 65_534] {
-            for over in ["Compare 0.0", "Put 1", "Check f, Down", "First, Check P0"] {
-                let mut path = going_on("First, Check P1, Down, Put 0", over, depth);
-                path.push(Instruction::new(Operation::Success, 9));
-                let mut tree = chain(&path);
+            for mut tree in by_hand::deep(depth) {
                 tree.resize((tree.len() + 9).min(TREE_MOST), 0);
                 let _ = code_tree::insert(&mut tree, &clause("Q1 x"), 7);
                 let refused = Listing::refused(Refusal::NoSuchTree, 3);
@@ -471,17 +411,15 @@ fn order_of_refusals() {
     for (words, slice) in slices {
         for (given, fault) in clauses.into_iter().chain([("P0", 0)]) {
             for (budget, list_words) in [(0, 0), (0, 1), (1, 0), (1, 1), (2, 2)] {
-                let applies = [
+                let refusals = [
                     (slice == 1, 1),
                     (fault > 0, fault),
                     (slice > 1, slice),
                     (budget < 1, 12),
                     (list_words < 1, 16),
                 ];
-                let first = applies.into_iter().find(|(applies, _)| *applies);
                 let listing = beside::backward(words, &clause(given), budget, list_words);
-                let said = listing.answer.err().map_or(0, Refusal::code);
-                assert_eq!(said, first.map_or(0, |(_, code)| code));
+                beside::expect_first(listing.answer, &refusals);
             }
         }
     }
@@ -509,19 +447,9 @@ fn limits_of_clauses() {
 #[test]
 fn slices_of_each_length() {
     let mut tally = Tally::default();
-    for length in [0, 1, 2, 3, 4, 5, TREE_MOST - 1, TREE_MOST, TREE_MOST + 1] {
-        let slices = [0, 1, 1 << 32, 1 << 32 | 1, u64::MAX].map(|word| vec![word; length]);
-        let texts = [
-            "First 0/3, Check P0/2, Success 1/1",
-            "First 0/2, Success 1/1",
-            "Success 1/1",
-        ];
-        let texts = texts.map(|text| {
-            let mut words = tree(text);
-            words.resize(length, 0);
-            words
-        });
-        for words in slices.iter().chain(&texts) {
+    for length in by_hand::LENGTHS {
+        let (of_one_word, resized) = by_hand::of_length(length);
+        for words in of_one_word.iter().chain(&resized) {
             for (budget, list_words) in [(1, 1), (0, 1), (1, 0)] {
                 let listing = beside::backward(words, &[0x8001], budget, list_words);
                 tally.answer("listings", "made", listing.answer);

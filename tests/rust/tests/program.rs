@@ -10,20 +10,14 @@ use drawn::units::unit_page;
 use drawn::Random;
 use model::pages::{pages, record, record_counting};
 use model::program::{records, Outcome, Record, Ruling, Setting};
-use running::{expect_same, expect_written, repository, BLOCKS, PLAIN};
+use running::{expect_same, BLOCKS, PLAIN};
 use sheet::strikes::expect_strikes;
 use sheet::units::expect_units;
 use sheet::{expect_sheet, Report};
 
 #[test]
 fn stored_pages() {
-    let [folder, samples] = ["tests/pages", "samples"].map(|name| repository().join(name));
-    expect_written(&folder, &pages());
-    let stored = PLAIN.expect_folder(&folder, "out") + PLAIN.expect_folder(&samples, "out");
-    assert!(
-        stored > pages().len(),
-        "{stored} pages, the sample among them"
-    );
+    PLAIN.expect_stored("tests/pages", &pages(), "out");
 }
 
 // Document 01's example, and a page with each kind of line and an overlong record.
@@ -68,16 +62,10 @@ fn documents_example() {
     }
 }
 
-// A page cut at each byte in two pieces, which are two reads: in and between number, count and words.
+// Cut in and between number, count and words.
 #[test]
 fn two_pieces() {
-    let page = every_kind();
-    let expected = PLAIN.output(&page);
-    for at in 1..page.len() {
-        let (first, second) = page.split_at(at);
-        let text = PLAIN.printed([first, second].into_iter());
-        expect_same(&text, &expected, &format!("cut at {at}"));
-    }
+    PLAIN.expect_two_pieces(&every_kind());
 }
 
 #[test]

@@ -12,19 +12,13 @@ use drawn::Random;
 use model::back_pages::{back_pages, room_page};
 use model::pages::{pages, record, record_counting};
 use model::program::{records, Setting};
-use running::{expect_same, expect_written, repository, Run, BACK, BLOCKS, PLAIN};
+use running::{expect_same, Run, BACK, BLOCKS, PLAIN};
 use sheet::removals::expect_removals;
 use sheet::{expect_sheet, Report};
 
 #[test]
 fn stored_pages() {
-    let [folder, samples] = ["tests/pages/back", "samples"].map(|name| repository().join(name));
-    expect_written(&folder, &back_pages());
-    let stored = BACK.expect_folder(&folder, "out") + BACK.expect_folder(&samples, "back.out");
-    assert!(
-        stored > back_pages().len(),
-        "{stored} pages, the sample among them"
-    );
+    BACK.expect_stored("tests/pages/back", &back_pages(), "back.out");
 }
 
 // A stored page by its name.
@@ -161,16 +155,9 @@ fn room_after_removal() {
     }
 }
 
-// A page cut at each byte in two pieces, which are two reads.
 #[test]
 fn two_pieces() {
-    let page = stored("lines");
-    let expected = BACK.output(&page);
-    for at in 1..page.len() {
-        let (first, second) = page.split_at(at);
-        let text = BACK.printed([first, second].into_iter());
-        expect_same(&text, &expected, &format!("cut at {at} with back"));
-    }
+    BACK.expect_two_pieces(&stored("lines"));
 }
 
 #[test]

@@ -2,6 +2,7 @@
 mod beside;
 
 use beside::{Asked, UNWRITTEN};
+use model::by_hand::with_much_stack;
 use model::calls::{Cover, Listed};
 use model::instruction::{header, Instruction, Operation};
 use model::limits::{OUTPUT_WORDS, WITNESS_WORDS};
@@ -504,7 +505,7 @@ fn listing_little() {
 // A chain of a First and Puts down to a last word: the deepest tree of all.
 #[test]
 fn deepest_tree() {
-    let calls = || {
+    with_much_stack(|| {
         let levels = 65_535;
         let mut words = vec![header(levels, 1)];
         words.push(Instruction::new(Operation::First, 0).pack(levels));
@@ -513,7 +514,5 @@ fn deepest_tree() {
         words.push(Instruction::new(Operation::Success, 5).pack(1));
         assert_eq!(ask(&words, "P1 a", 1), "covered 5 1");
         assert_eq!(ask(&words, "P1 a", 0), "refused 12 0");
-    };
-    let thread = std::thread::Builder::new().stack_size(512 << 20);
-    thread.spawn(calls).unwrap().join().unwrap();
+    });
 }

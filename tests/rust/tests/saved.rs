@@ -4,10 +4,11 @@ mod drawn;
 mod set;
 
 use beside::ReadBack;
+use drawn::spoilt::each_change;
 use drawn::tally::Tally;
 use drawn::{Random, Style, STYLES};
 use model::book::Book;
-use model::by_hand::{self, chain, going_on, Example};
+use model::by_hand::{self, chain, with_much_stack, Example};
 use model::compiler::sequence;
 use model::instruction::{used, Instruction, Operation};
 use model::laid::well_laid;
@@ -16,8 +17,9 @@ use model::notation::{clause, path, tree};
 use model::reader::read;
 use model::refusal::Refusal;
 use model::saved::renumbered;
-use model::tree::{Path, Tree};
+use model::tree::Path;
 use model::words::{word, NEGATIVE};
+use set::full::Full;
 use set::Set;
 
 // Lengths of an output.
@@ -143,24 +145,10 @@ fn lists_of_calls() {
     ]);
 }
 
-// A slice of the greatest length with its book.
-struct Full {
-    tree: Vec<u64>,
-    book: Book,
-}
-
 impl Full {
-    fn keep(&mut self, clause: &[u16], number: u32) -> Result<(), Refusal> {
-        let answer = self.book.insert(clause, number);
-        let inserted = code_tree::insert(&mut self.tree, clause, number);
-        assert_eq!(inserted.is_ok(), answer.is_ok());
-        answer
-    }
-
     // Random clauses up to the most, or until little room is left: none takes more than 321 words.
     fn of(style: Style, random: &mut Random) -> Full {
-        let (tree, book) = (vec![0; TREE_MOST], Book::new(TREE_MOST));
-        let mut full = Full { tree, book };
+        let mut full = Full::new();
         while full.book.pairs.len() < KEPT && full.book.tree.used() < TREE_MOST - 400 {
             let (clause, number) = (random.clause(style), random.next() as u32);
             let _ = full.keep(&clause, number);
@@ -258,41 +246,14 @@ const LEAST: [(&str, u64); 9] = [
     ("made again", 100),
 ];
 
-// A tree of few clauses, under numbers from 0.
-fn small_tree(style: Style, random: &mut Random) -> Vec<u64> {
-    let mut tree = vec![0; 12 + random.below(24)];
-    for number in 0..4 {
-        let _ = model::calls::insert(&mut tree, &random.clause(style), number);
-    }
-    tree
-}
-
 // In small trees each bit changed, each two words exchanged, and each field one more and one less.
 #[test]
 fn each_word_changed() {
     let mut random = Random(53);
     let mut tally = Tally::default();
     for i in 0..48 {
-        let tree = small_tree(STYLES[i % STYLES.len()], &mut random);
-        let mut call = |changes: &[(usize, u64)]| {
-            let mut changed = tree.clone();
-            for (at, word) in changes {
-                changed[*at] = *word;
-            }
-            call_both(&changed, &mut random, &mut tally);
-        };
-        for at in 0..tree.len() {
-            for bit in 0..64 {
-                call(&[(at, tree[at] ^ 1 << bit)]);
-            }
-            for other in 0..at {
-                call(&[(at, tree[other]), (other, tree[at])]);
-            }
-            for by in [1, 1 << 28, 1 << 32] {
-                call(&[(at, tree[at].wrapping_add(by))]);
-                call(&[(at, tree[at].wrapping_sub(by))]);
-            }
-        }
+        let tree = random.small_tree(STYLES[i % STYLES.len()], |_, _| ());
+        each_change(&tree, |changed| call_both(changed, &mut random, &mut tally));
     }
     tally.assert_least(&LEAST);
 }
@@ -305,28 +266,17 @@ fn paths_near_clauses() {
     for i in 0..24_000 {
         let large = i % 32 == 0;
         let style = STYLES[if large { 6 + random.below(2) } else { i % 6 }];
-        let clauses = [(); 4].map(|()| random.clause(style));
-        let accepted = clauses.iter().filter_map(|clause| read(clause).ok());
-        let sequences: Vec<Path> = accepted.map(|literals| sequence(&literals)).collect();
+        let (_, sequences) = random.sequences(style);
         let changed = random.of(&[0, 1, 1, 2]);
-        let mut paths = Vec::new();
-        for (i, mut path) in sequences.iter().cloned().enumerate() {
-            if i < changed {
-                let other = random.below(sequences.len());
-                path = random.near(&path, &sequences[other]);
-            }
-            let number = if random.one_in(20) { 0 } else { i as u32 };
-            path.push(Instruction::new(Operation::Success, number));
-            paths.push(path);
-        }
-        paths.sort();
-        paths.dedup();
-        let tree = Tree::of_paths(&paths, 1 + random.below(9)).words();
+        let tree = random.laid(&sequences, |random, i| {
+            (i < changed).then(|| random.below(sequences.len()))
+        });
         call_both(&tree, &mut random, &mut tally);
         let mut apart = numbers(&tree);
+        let paths = apart.len();
         apart.sort();
         apart.dedup();
-        let twice = changed == 0 && apart.len() < paths.len();
+        let twice = changed == 0 && apart.len() < paths;
         tally.count_if("a number twice, no path changed", twice);
     }
     let more = [
@@ -340,8 +290,7 @@ fn paths_near_clauses() {
 // Numbers that differ in a bit are different, and each has its own clause.
 #[test]
 fn numbers_a_bit_apart() {
-    let numbers = [0, u32::MAX].map(|n| (0..32).map(move |bit| n ^ 1 << bit).chain([n]));
-    let numbers: Vec<u32> = numbers.into_iter().flatten().collect();
+    let numbers = by_hand::numbers_a_bit_apart();
     let mut tree = [0; 200];
     let clause = |i: usize| [word(NEGATIVE, 0, i as u16)];
     for (i, number) in numbers.iter().enumerate() {
@@ -378,12 +327,6 @@ fn judge_examples(examples: Vec<Example>) {
     });
 }
 
-// The model needs much stack for deep slices.
-fn with_much_stack(calls: impl FnOnce() + Send + 'static) {
-    let thread = std::thread::Builder::new().stack_size(512 << 20);
-    thread.spawn(calls).unwrap().join().unwrap();
-}
-
 #[test]
 fn slices_made_by_hand() {
     judge_examples(by_hand::examples());
@@ -393,13 +336,8 @@ fn slices_made_by_hand() {
 #[test]
 fn deep_paths() {
     with_much_stack(|| {
-        let literal = "First, Check P1, Down, Put 0";
-        let over = ["Compare 0.0", "Put 1", "Check f, Down", "First, Check P0"];
         for depth in [317, 318, 319, 320, 321, 322, 323, 400, 30_000, 65_534] {
-            for over in over {
-                let mut path = going_on(literal, over, depth);
-                path.push(Instruction::new(Operation::Success, 9));
-                let tree = chain(&path);
+            for tree in by_hand::deep(depth) {
                 assert_eq!(beside::check(&tree), Err(Refusal::NoSuchTree));
                 let back = beside::read_back(&tree, 9, OUTPUT_WORDS);
                 assert_eq!(back.answer, Err(Refusal::NoSuchTree));
@@ -456,17 +394,15 @@ fn order_of_refusals() {
         let checked = beside::check(words);
         assert_eq!(checked.err().map_or(0, Refusal::code), code);
         for (out_words, number) in [(0, 1), (63, 1), (63, 9), (64, 1), (64, 9), (65, 9)] {
-            let applies = [
+            let refusals = [
                 (code == 1, 1),
                 (out_words < 64, 15),
                 (code == 2, 2),
                 (code == 14, 14),
                 (number != 1, 9),
             ];
-            let first = applies.into_iter().find(|(applies, _)| *applies);
             let back = beside::read_back(words, number, out_words);
-            let said = back.answer.err().map_or(0, Refusal::code);
-            assert_eq!(said, first.map_or(0, |(_, code)| code));
+            beside::expect_first(back.answer, &refusals);
         }
     }
 }
@@ -476,17 +412,12 @@ fn order_of_refusals() {
 fn slices_of_each_length() {
     let mut random = Random(55);
     let mut tally = Tally::default();
-    for length in [0, 1, 2, 3, 4, 5, TREE_MOST - 1, TREE_MOST, TREE_MOST + 1] {
-        for word in [0, 1, 1 << 32, 1 << 32 | 1, u64::MAX] {
-            call_both(&vec![word; length], &mut random, &mut tally);
+    for length in by_hand::LENGTHS {
+        let (of_one_word, resized) = by_hand::of_length(length);
+        for words in of_one_word {
+            call_both(&words, &mut random, &mut tally);
         }
-        for text in [
-            "First 0/3, Check P0/2, Success 1/1",
-            "First 0/2, Success 1/1",
-            "Success 1/1",
-        ] {
-            let mut words = tree(text);
-            words.resize(length, 0);
+        for words in resized {
             for number in [1, 2] {
                 let back = beside::read_back(&words, number, OUTPUT_WORDS);
                 tally.answer("readings back", "made", back.answer);

@@ -2,7 +2,7 @@
 use crate::calls::insert;
 use crate::instruction::{header, Instruction, Operation};
 use crate::limits::{CLAUSE_WORDS, TREE_MOST};
-use crate::notation::{clause, path};
+use crate::notation::{clause, path, tree};
 use crate::refusal::Refusal;
 use crate::saved::renumbered;
 use crate::tree::{Path, Tree};
@@ -298,11 +298,52 @@ fn of_many_variables() -> Vec<Example> {
     examples.collect()
 }
 
-/// So many instructions: these, then others over and over.
-pub fn going_on(first: &str, over: &str, count: usize) -> Path {
+// So many instructions: these, then others over and over.
+fn going_on(first: &str, over: &str, count: usize) -> Path {
     let (first, over) = (path(first), path(over));
     let going_on = first.into_iter().chain(over.into_iter().cycle());
     going_on.take(count).collect()
+}
+
+/// Slices of a path to 9 of so many instructions, a literal's and others over and over.
+pub fn deep(depth: usize) -> [Vec<u64>; 4] {
+    let over = ["Compare 0.0", "Put 1", "Check f, Down", "First, Check P0"];
+    over.map(|over| {
+        let mut path = going_on("First, Check P1, Down, Put 0", over, depth);
+        path.push(Instruction::new(Success, 9));
+        chain(&path)
+    })
+}
+
+/// The model needs much stack for deep slices.
+pub fn with_much_stack(calls: impl FnOnce() + Send + 'static) {
+    let thread = std::thread::Builder::new().stack_size(512 << 20);
+    thread.spawn(calls).unwrap().join().unwrap();
+}
+
+/// Lengths of slices at the bounds.
+pub const LENGTHS: [usize; 9] = [0, 1, 2, 3, 4, 5, TREE_MOST - 1, TREE_MOST, TREE_MOST + 1];
+
+/// Slices of a length: those of one word over and over, then those with a clause, with a path that is none, and with a Success alone.
+pub fn of_length(length: usize) -> ([Vec<u64>; 5], [Vec<u64>; 3]) {
+    let texts = [
+        "First 0/3, Check P0/2, Success 1/1",
+        "First 0/2, Success 1/1",
+        "Success 1/1",
+    ];
+    let resized = |text| {
+        let mut words = tree(text);
+        words.resize(length, 0);
+        words
+    };
+    let over = [0, 1, 1 << 32, 1 << 32 | 1, u64::MAX];
+    (over.map(|word| vec![word; length]), texts.map(resized))
+}
+
+/// 0, the largest number, and those that differ from one of them in a bit.
+pub fn numbers_a_bit_apart() -> Vec<u32> {
+    let numbers = [0, u32::MAX].map(|n| (0..32).map(move |bit| n ^ 1 << bit).chain([n]));
+    numbers.into_iter().flatten().collect()
 }
 
 // Chains of Puts and of functions, of a few words up to one too many for a slice: none is a clause's.

@@ -1,5 +1,5 @@
 //! Saved trees in the model: both sides of each limit, and the paths around those of all short clauses.
-use model::by_hand::{self, laid, Example};
+use model::by_hand::{self, laid, with_much_stack, Example};
 use model::calls::{check, fresh, insert, read_back};
 use model::compiler::sequence;
 use model::instruction::{Instruction, Operation};
@@ -43,18 +43,16 @@ fn clause_back(words: &[u64], number: u32) -> Result<Vec<u16>, Refusal> {
     answer.map(|length| out[..length].to_vec())
 }
 
-// Each example is answered as it says; the model needs much stack for the deepest.
+// Each example is answered as it says.
 fn judge_examples(examples: Vec<Example>) {
-    let calls = move || {
+    with_much_stack(move || {
         for example in examples {
             let back = clause_back(&example.words, example.number);
             assert_eq!(back, example.back, "{}", example.name);
             let checked = check(&example.words);
             assert_eq!(checked, example.checked(), "{}", example.name);
         }
-    };
-    let thread = std::thread::Builder::new().stack_size(512 << 20);
-    thread.spawn(calls).unwrap().join().unwrap();
+    });
 }
 
 #[test]

@@ -27,6 +27,13 @@ fn told(answer: Result<Vec<u64>, Refusal>) -> (u64, [u64; 4]) {
     (code, told)
 }
 
+/// An answer has the code of the first of these refusals that applies; if none does, it is none.
+pub fn expect_first<T>(answer: Result<T, Refusal>, refusals: &[(bool, u64)]) {
+    let first = refusals.iter().find(|(applies, _)| *applies);
+    let said = answer.err().map_or(0, Refusal::code);
+    assert_eq!(said, first.map_or(0, |(_, code)| *code));
+}
+
 /// Makes a tree empty.
 pub fn fresh(tree: &mut [u64]) -> Result<(), Refusal> {
     let mut after = tree.to_vec();

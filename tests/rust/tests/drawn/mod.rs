@@ -5,6 +5,7 @@ pub mod general;
 pub mod pages;
 pub mod paths;
 pub mod repeated;
+pub mod spoilt;
 pub mod tally;
 pub mod units;
 

@@ -1,9 +1,43 @@
 //! Sequences of instructions that are nearly those of clauses: most are no clause's, and all can be laid out in a tree.
-use super::Random;
+use super::{Random, Style};
+use model::compiler::sequence;
 use model::instruction::{Instruction, Operation};
+use model::reader::read;
+use model::tree::{Path, Tree};
 use model::words::{word, POSITIVE};
 
 impl Random {
+    /// Clauses, four but for those that are not accepted, and their sequences.
+    pub fn sequences(&mut self, style: Style) -> (Vec<Vec<u16>>, Vec<Path>) {
+        let clauses = [(); 4].map(|()| self.clause(style));
+        let accepted = |clause: Vec<u16>| {
+            let literals = read(&clause).ok()?;
+            Some((clause, sequence(&literals)))
+        };
+        clauses.into_iter().filter_map(accepted).unzip()
+    }
+
+    /// Sequences, each under a number that is mostly its own, laid out as a tree's paths are. One for which another's place is given is changed.
+    pub fn laid(
+        &mut self,
+        sequences: &[Path],
+        other: impl Fn(&mut Random, usize) -> Option<usize>,
+    ) -> Vec<u64> {
+        let mut paths = Vec::new();
+        for (i, sequence) in sequences.iter().enumerate() {
+            let mut path = match other(self, i) {
+                Some(other) => self.near(sequence, &sequences[other]),
+                None => sequence.clone(),
+            };
+            let number = if self.one_in(20) { 0 } else { i as u32 };
+            path.push(Instruction::new(Operation::Success, number));
+            paths.push(path);
+        }
+        paths.sort();
+        paths.dedup();
+        Tree::of_paths(&paths, 1 + self.below(9)).words()
+    }
+
     /// A sequence with up to two changes.
     pub fn near(&mut self, sequence: &[Instruction], other: &[Instruction]) -> Vec<Instruction> {
         let mut near = sequence.to_vec();

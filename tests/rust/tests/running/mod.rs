@@ -24,8 +24,8 @@ pub const PLAIN: Run = Run(&[]);
 /// Striking backwards.
 pub const BACK: Run = Run(&["back"]);
 
-/// The top of the repository.
-pub fn repository() -> PathBuf {
+// The top of the repository.
+fn repository() -> PathBuf {
     Path::new(env!("CARGO_MANIFEST_DIR")).join("../..")
 }
 
@@ -47,8 +47,8 @@ fn wait_until_read(pipe: &ChildStdin) {
     }
 }
 
-/// The pages are stored in a folder as the model makes them.
-pub fn expect_written(folder: &Path, pages: &[Page]) {
+// The pages are stored in a folder as the model makes them.
+fn expect_written(folder: &Path, pages: &[Page]) {
     for (name, page) in pages {
         let stored = read(folder.join(name).with_extension("page"));
         assert!(stored.unwrap() == *page, "{name}.page");
@@ -119,9 +119,9 @@ impl Run<'_> {
         );
     }
 
-    /// Compares what model and program print of each page in a folder with the lines that stand beside it under another extension; gives how many
-    /// pages there are.
-    pub fn expect_folder(self, folder: &Path, lines: &str) -> usize {
+    // Compares what model and program print of each page in a folder with the lines that stand beside it under another extension; gives how many
+    // pages there are.
+    fn expect_folder(self, folder: &Path, lines: &str) -> usize {
         let mut pages = 0;
         for entry in read_dir(folder).unwrap() {
             let path = entry.unwrap().path();
@@ -134,6 +134,28 @@ impl Run<'_> {
             }
         }
         pages
+    }
+
+    /// Compares a folder's pages with the model's, and what is printed of them and of the samples with the lines beside them, a sample's under an
+    /// extension.
+    pub fn expect_stored(self, folder: &str, pages: &[Page], lines: &str) {
+        let [folder, samples] = [folder, "samples"].map(|name| repository().join(name));
+        expect_written(&folder, pages);
+        let stored = self.expect_folder(&folder, "out") + self.expect_folder(&samples, lines);
+        assert!(
+            stored > pages.len(),
+            "{stored} pages, the sample among them"
+        );
+    }
+
+    /// Compares what the program prints of a page cut at each byte in two pieces, which are two reads.
+    pub fn expect_two_pieces(self, page: &[u8]) {
+        let expected = self.output(page);
+        for at in 1..page.len() {
+            let (first, second) = page.split_at(at);
+            let text = self.printed([first, second].into_iter());
+            expect_same(&text, &expected, &format!("cut at {at}"));
+        }
     }
 
     /// Compares what the program prints of a page as a file, and as pieces of some sizes through a pipe.
