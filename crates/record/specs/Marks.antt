@@ -13,13 +13,13 @@ numberCount = 65_536
 abbrev pub taken : ℕ
 taken = 1
 
-abbrev pub takenOnce : ℕ
-takenOnce = 2
+abbrev pub wasTaken : ℕ
+wasTaken = 2
 
 -- a mark after a removal: that a number was kept stays
 abbrev pub freed : (mark : ℕ) → ℕ
 freed zero = 0
-freed (suc k) = takenOnce
+freed (suc k) = wasTaken
 
 -- the marks after the removal of some numbers
 abbrev pub freeing : (numbers marks : List ℕ) → List ℕ

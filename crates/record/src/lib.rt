@@ -45,5 +45,5 @@ impl Mark {
     // It is taken.
     pub const TAKEN: u8 = 1;
     // It was taken, and its clause is removed.
-    pub const TAKEN_ONCE: u8 = 2;
+    pub const WAS_TAKEN: u8 = 2;
 }

@@ -38,7 +38,7 @@ fn remove_all(tree: &mut [u64], numbers: &[u32])
     }
 }
 
-// Marks some numbers as taken once, of those that are marked.
+// Marks some numbers, of those that are marked, as taken no more.
 fn free(marks: &mut [u8], numbers: &[u32])
     requires { ⌜ (length (now marks) ≡ numberCount) × All (λ n. n < numberCount) (now numbers) ⌝ }
     ensures { λ _. ⌜ now (marks .exit) ≡ freeing (now (numbers .entry)) (now (marks .entry)) ⌝ }
@@ -47,7 +47,7 @@ fn free(marks: &mut [u8], numbers: &[u32])
     while i < numbers.len() {
         let at = numbers[i] as usize;
         if marks[at] > 0 {
-            marks[at] = Mark::TAKEN_ONCE;
+            marks[at] = Mark::WAS_TAKEN;
         }
         i += 1;
     }
