@@ -26,6 +26,7 @@ use Rattle.intake.specs.Feed.{Store, storeOf, Fed, finishing, recordEnde
 use Rattle.record.proofs.Rows.{slice-more}
 use Rattle.record.proofs.Counting.{marksWith, countersWith}
 use Rattle.record.proofs.Sheets.{slice-from, sheets, no-strike-is-wrong}
+use Rattle.record.proofs.Shuffled.{all-covered, pages-shuffled, same-clauses-kept}
 use Rattle.record.proofs.Tallies.{shown-input, read-records, tallies}
 use Rattle.intake.proofs.Bytes.{storing, at-count, at-empty, at-word, feed-append}
 use Rattle.intake.proofs.Whole.{feedFields, even-after, filling, collect}
@@ -223,6 +224,9 @@ whole-input =
       leaves = λ v input. ap (λ (p : Prints). p .slice) (whole v input) ∙ sym (slice-from (rowCalls (rowsOf v input)));
       sheets = sheets;
       strikes = no-strike-is-wrong;
+      covered = all-covered;
+      shuffled = pages-shuffled;
+      clauses = same-clauses-kept;
       tallies = tallies;
       shows = shown;
       records = read;

@@ -15,6 +15,7 @@ use Rattle.record.specs.Output as output
 use Rattle.record.specs.Tally.{tallyFrom, tallySheetOf, outputOf}
 use Rattle.record.specs.Counters.{counterWords, countersAfter, shownFrom, shownSheet}
 use Rattle.record.specs.Sheet.{Bytes, Sheets, NoStrikeIsWrong}
+use Rattle.record.specs.Shuffled.{AllCovered, PagesShuffled, SameClausesKept}
 use Rattle.record.specs.Tallies.{mostBytes, Tallies}
 use Rattle.record.specs.declared.Setting.{Setting}
 use Rattle.record.specs.declared.Outcome.the-variants.{Refused}
@@ -127,6 +128,11 @@ pub record WholeInput : Type 0 where
   -- what becomes of each record, by the clauses that are kept before it; and in one sentence
   pub sheets : Sheets
   pub strikes : NoStrikeIsWrong
+  -- where no record is refused: all that was read is covered, and with backward striking its order makes no difference to what is kept at the end, nor
+  -- do numbers and repeated clauses, but for clauses that subsume each other
+  pub covered : AllCovered
+  pub shuffled : PagesShuffled
+  pub clauses : SameClausesKept
   -- the tally of every input; of one under `mostBytes` marks and counters show it, number by number, and with the records they show its tally sheet
   pub tallies : Tallies
   pub shows : (v : Setting) (input : List ℕ) → Bytes input → length input < mostBytes → (n c : ℕ) → n + c ≤ numberCount

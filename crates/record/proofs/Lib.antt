@@ -6,5 +6,7 @@ pub mod Rows
 pub mod Passing
 pub mod Striking
 pub mod Counting
+pub mod Antichain
 pub mod Sheets
 pub mod Tallies
+pub mod Shuffled

@@ -18,7 +18,8 @@ use Rattle.book.specs.Book.{Call, insert, AllFit, after, bookFrom, treeOf}
 use Rattle.record.specs.Answer.{treeWords, Record, removals, answerTo, callsOn, callsFor}
 use Rattle.record.specs.Output.{Row, rowOn, rowsFrom, rowCalls, counted, totalsWith}
 use Rattle.record.specs.Ruled.{pairOf, Numbered, IsKept, IsStruck, withoutAll, Clears, nothing, subsumed}
-use Rattle.record.specs.Sheet.{keptOn, takenOut, keptPairs, Antichain}
+use Rattle.record.specs.Antichain.{Antichain}
+use Rattle.record.specs.Sheet.{keptOn, takenOut, keptPairs, Over}
 use Rattle.record.specs.declared.Setting.{Setting}
 use Rattle.record.specs.declared.Setting.the-variants.{Plain, Back}
 use Rattle.record.specs.declared.Outcome.{Outcome}
@@ -166,7 +167,7 @@ fate-book {K = K} {x = x} t = go (t .course)
     go (keeps k) = refl
 
 -- with backward striking no clause of it subsumes another one, where it was so before
-fate-apart : {K M : List Pair} {x : Record} {o : Outcome} {ms : List ℕ} → Fate Back K x o ms M → Antichain K → Antichain M
+fate-apart : {K M : List Pair} {x : Record} {o : Outcome} {ms : List ℕ} → Fate Back K x o ms M → Antichain Over K → Antichain Over M
 fate-apart {K} {x = x} t a = go (t .course)
   where
     beside : {ns : List ℕ} → ((p : Pair) → List·Memᴰ p K → Subsumes (p .clause) (x .words) → ⊥) → Clears Back K x ns → (p : Pair) → List·Memᴰ p (withoutAll ns K)
@@ -175,7 +176,7 @@ fate-apart {K} {x = x} t a = go (t .course)
         let (i, j) = clear-mem ns K m in
         (λ u. j (e (p .number) .1 (p, i, refl, u)), free p i)
 
-    go : {o : Outcome} {ms : List ℕ} {M : List Pair} → Course K (withoutAll (t .cleared) K) x (t .cleared) o ms M → Antichain M
+    go : {o : Outcome} {ms : List ℕ} {M : List Pair} → Course K (withoutAll (t .cleared) K) x (t .cleared) o ms M → Antichain Over M
     go (refuses r) = a
     go (strikes s) = a
     go (keeps k) =
@@ -356,7 +357,7 @@ module _ {v : Setting} where
   rows-covered {K} (fated-more {r = q} {rs = rs} h e f) r (List·Memᴰ·tail m) o = rw (book-append K (q .calls) (rowCalls rs)) (rows-covered f r m o)
 
 -- with backward striking it stays an antichain
-pub rows-apart : {K : List Pair} {rs : List Row} → Fated Back K rs → Antichain K → Antichain (bookFrom treeWords K (rowCalls rs))
+pub rows-apart : {K : List Pair} {rs : List Row} → Fated Back K rs → Antichain Over K → Antichain Over (bookFrom treeWords K (rowCalls rs))
 rows-apart fated-none a = a
 rows-apart {K} (fated-more {r = r} {rs = rs} h e f) a = rw (book-append K (r .calls) (rowCalls rs)) (rows-apart f (fate-apart e a))
 

@@ -7,5 +7,7 @@ pub mod Output
 pub mod Tally
 pub mod Counters
 pub mod Ruled
+pub mod Antichain
 pub mod Sheet
 pub mod Tallies
+pub mod Shuffled

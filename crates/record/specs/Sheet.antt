@@ -13,6 +13,7 @@ use Rattle.book.specs.Book.{sliceOf, bookOf}
 use Rattle.book.specs.Claims.{Run}
 use Rattle.record.specs.Answer.{treeWords, Record}
 use Rattle.record.specs.Output.{fields, recordsOf, Row, rowOn, freshSlice, rowsOf, rowCalls, totalsWith, none}
+use Rattle.record.specs.Antichain.{Antichain}
 use Rattle.record.specs.Ruled.{pairOf, IsKept, IsStruck, withoutAll, Ruled, RuledByUnits}
 use Rattle.record.specs.declared.Setting.{Setting}
 use Rattle.record.specs.declared.Setting.the-variants.{Plain, Back}
@@ -100,9 +101,9 @@ pub record Complete (xs : List Record) (fs : List ℕ) : Type 0 where
   pub whole : fs ≡ allFields xs ++ rest
   pub cut : (x : Record) (ys : List ℕ) → rest ≡ fieldsOf x ++ ys → ⊥
 
--- no clause of a book subsumes another one of it
-abbrev pub Antichain : List Pair → Type 0
-Antichain K = Each (λ p q. (Subsumes (p .clause) (q .clause) → ⊥) × (Subsumes (q .clause) (p .clause) → ⊥)) K
+-- the clause of a pair subsumes that of another
+abbrev pub Over : Pair → Pair → Type 0
+Over p q = Subsumes (p .clause) (q .clause)
 
 -- the last book covers what was kept or struck, and it is what the `kept` and `removed` lines say
 pub record Covers (s : Setting) (input : List ℕ) : Type 0 where
@@ -113,7 +114,7 @@ pub record Covers (s : Setting) (input : List ℕ) : Type 0 where
   pub named : s ≡ Plain → (r : Row) → List·Memᴰ r (rowsOf s input) → (n k : ℕ) → r .outcome ≡ Struck n k
       → (p : Pair) × List·Memᴰ p (bookAfter (rowsOf s input)) × (p .number ≡ n) × Subsumes (p .clause) (r .of .words)
   -- with it no clause of the last book subsumes another one of it
-  pub apart : s ≡ Back → Antichain (bookAfter (rowsOf s input))
+  pub apart : s ≡ Back → Antichain Over (bookAfter (rowsOf s input))
   -- the pairs of the last book are exactly the records with a `kept` line that no later `removed` line takes out, as many as the totals say
   pub pairs : bookAfter (rowsOf s input) ≡ keptPairs (rowsOf s input)
   pub many : totalsWith none (rowsOf s input) .kept ≡ length (bookAfter (rowsOf s input))
