@@ -30,8 +30,8 @@ fn literal(theme: usize, terms: &[u16]) -> Vec<u16> {
 }
 
 impl Random {
-    // An accepted clause of a theme.
-    fn theme_clause(&mut self, style: Style, theme: usize) -> Vec<u16> {
+    /// An accepted clause of a theme.
+    pub fn theme_clause(&mut self, style: Style, theme: usize) -> Vec<u16> {
         loop {
             let clause = themed(&self.clause(style), theme);
             if read(&clause).is_ok() {
@@ -40,8 +40,8 @@ impl Random {
         }
     }
 
-    // A clause that has to do with a general one: it, a variant, what is more general still, or, mostly, an instance, alone or with other literals.
-    fn about(&mut self, style: Style, general: &[u16]) -> Vec<u16> {
+    /// A clause that has to do with a general one: it, a variant, what is more general still, or, mostly, an instance, alone or with other literals.
+    pub fn about(&mut self, style: Style, general: &[u16]) -> Vec<u16> {
         match self.below(16) {
             0 => general.to_vec(),
             1 => renamed(general, 5),

@@ -2,6 +2,7 @@
 #![allow(dead_code)]
 pub mod back;
 pub mod general;
+pub mod orders;
 pub mod pages;
 pub mod paths;
 pub mod repeated;
