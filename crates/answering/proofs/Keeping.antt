@@ -2,11 +2,11 @@
 use mathlib.Core.Path.{_≡_, refl, sym, ap, ap₂, _∙_}
 use mathlib.Core.Logic.{_≢_}
 use mathlib.Core.Bool.{Bool, true, false, cond}
-use mathlib.Core.Option.{Option, none, some}
-use mathlib.Core.List.{List, [], _∷_, _++_, map, List·Memᴰ}
+use mathlib.Core.Option.{none, some}
+use mathlib.Core.List.{List, [], _∷_, List·Memᴰ}
 use Prim.Native.Nat.{ℕ, _^_, _≤_, _<_}
 use native.Mathlib.Omega.{arith}
-use lib.ListN.{length, getD, take, drop, set, replicate, length-replicate}
+use lib.ListN.{length, getD, take, drop, replicate, length-replicate}
 use lib.Seq.{take-take, take-at, length-take-le}
 use Rattle.clause.specs.Lists.{All}
 use Rattle.clause.specs.Word.{Words}
@@ -21,10 +21,10 @@ use Rattle.machine.proofs.Codes.{sequence-plain}
 use Rattle.tree.specs.Forest.{find}
 use Rattle.tree.specs.Laid.{usedOf, sized, wellLaid, decode, region}
 use Rattle.tree.specs.inner.Cut.{locate}
-use Rattle.tree.specs.Entries.{Pair, entry}
+use Rattle.tree.specs.Entries.{entry}
 use Rattle.tree.specs.Changes.{Change, refuse, change, insertInto}
 use Rattle.tree.specs.Refusal.{codeOf}
-use Rattle.tree.specs.Calls.{Called, refused, changed, insertion}
+use Rattle.tree.specs.Calls.{Called, changed, insertion}
 use Rattle.tree.specs.inner.ByWords.{insertByWords}
 use Rattle.tree.specs.declared.Refusal.{Refusal}
 use Rattle.tree.specs.declared.Refusal.the-variants.{BadSlice, Broken, NoSuchTree, NumberTaken}
@@ -38,7 +38,6 @@ use Rattle.merging.proofs.UsedWords.{number-free}
 use Rattle.walk.specs.Query.{witnessWords, Asked, unanswered, queryAs, query}
 use Rattle.walk.specs.declared.QueryAnswer.{QueryAnswer}
 use Rattle.walk.specs.declared.QueryAnswer.the-variants.{Unanswered, Covered, NotCovered}
-use Rattle.readback.specs.Calls.{over}
 use Rattle.readback.specs.Saved.{ofClauses, pairsOf}
 use Rattle.readback.proofs.Lists.{all-elements}
 use Rattle.backward.specs.Listing.{Listing, listed, overfull, spent, broken, rising, listFrom}
@@ -48,7 +47,7 @@ use Rattle.backward.specs.declared.BackAnswer.{BackAnswer}
 use Rattle.backward.specs.declared.BackAnswer.the-variants.{Unlisted, Listed}
 use Rattle.backward.proofs.Laws.{backward-laws}
 use Rattle.book.specs.Book.{insert, Fit}
-use Rattle.record.specs.Answer.{budget, listWords, Record, Answered, left, enteredAs, entered, unlessTaken, replacedAs, replaced, goesIn, answerTo}
+use Rattle.record.specs.Answer.{budget, listWords, Record, Answered, entered, unlessTaken, replacedAs, replaced, goesIn, answerTo}
 use Rattle.record.specs.Marks.{numberCount, taken, marked}
 use Rattle.record.specs.declared.Setting.{Setting}
 use Rattle.record.specs.declared.Setting.the-variants.{Plain, Back}

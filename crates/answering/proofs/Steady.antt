@@ -3,7 +3,7 @@ use mathlib.Core.Path.{_≡_, refl, sym, ap, _∙_}
 use mathlib.Core.Logic.{_↔_, _≢_}
 use mathlib.Core.Bool.{true}
 use mathlib.Core.Option.{Option, none as nobody, some}
-use mathlib.Core.List.{List, [], _∷_, _++_, List·Memᴰ, List·Memᴰ·head, List·Memᴰ·tail}
+use mathlib.Core.List.{List, [], _∷_, List·Memᴰ, List·Memᴰ·head, List·Memᴰ·tail}
 use Prim.Native.Nat.{ℕ, zero, suc, _≤_, _<_}
 use native.Mathlib.Omega.{arith}
 use native.Mathlib.Decide.{ℕ-discrete}
@@ -22,18 +22,18 @@ use Rattle.readback.specs.Calls.{check}
 use Rattle.readback.specs.declared.CheckAnswer.the-variants.{Passed}
 use Rattle.readback.proofs.Saved.{right-size, laid as saved-laid}
 use Rattle.readback.proofs.Lists.{all-elements}
-use Rattle.book.specs.Book.{insert, Fit, AllFit, after, bookFrom, treeOf}
+use Rattle.book.specs.Book.{insert, Fit, AllFit, bookFrom, treeOf}
 use Rattle.book.proofs.Holds.{Holds, holds-empty, holds-tree, holds-leaves, holds-decode, fresh-layout}
 use Rattle.book.proofs.Reach.{laid}
 use Rattle.book.proofs.Saved.{saved-is-made, passed-saved}
-use Rattle.record.specs.Answer.{treeWords, Record, Answered, left, answerTo, callsOn, callsFor}
+use Rattle.record.specs.Answer.{treeWords, Record, Answered, left, answerTo, callsFor}
 use Rattle.record.specs.Marks.{numberCount, taken, freed, freeing, marked}
 use Rattle.record.specs.Ruled.{pairOf, Numbered, withoutAll}
 use Rattle.record.specs.declared.Setting.{Setting}
 use Rattle.record.specs.declared.Outcome.{Outcome}
 use Rattle.record.specs.declared.Outcome.the-variants.{Refused}
 use Rattle.record.proofs.Reading.{Narrow}
-use Rattle.record.proofs.Clearing.{clear-mem, mem-clear, among}
+use Rattle.record.proofs.Clearing.{clear-mem, mem-clear}
 use Rattle.record.proofs.Ruling.{Course, refuses, strikes, keeps, Fate, find-numbered, find-new}
 use Rattle.record.proofs.Entering.{Standing, standing-after, standing-saved, fate, slice-after}
 use Rattle.record.proofs.Counting.{length-freeing, length-marked}

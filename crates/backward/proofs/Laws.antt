@@ -2,9 +2,8 @@
 use mathlib.Core.Path.{_≡_, sym}
 use mathlib.Core.Logic.{_↔_}
 use mathlib.Core.List.{List, map, List·Memᴰ, Memᴰ·cast}
-use Prim.Native.Nat.{ℕ, _≤_}
+use Prim.Native.Nat.{ℕ}
 use native.Mathlib.Omega.{arith}
-use lib.ListN.{length}
 use Rattle.clause.specs.Word.{Words}
 use Rattle.clause.specs.Clause.{Accepted, Subsumes}
 use Rattle.tree.specs.Entries.{Pair}

@@ -1,8 +1,8 @@
 -- The pairs read off a slice are those that are kept, as they are read back.
-use mathlib.Core.Path.{_≡_, refl, sym, ap, _∙_}
+use mathlib.Core.Path.{_≡_, sym, ap, _∙_}
 use mathlib.Core.Logic.{_↔_}
 use mathlib.Core.Bool.{true, and-eq-true-iff}
-use mathlib.Core.List.{List, [], _∷_, map, List·Memᴰ, List·Memᴰ·head, List·Memᴰ·tail, Memᴰ·cast}
+use mathlib.Core.List.{List, [], _∷_, map, List·Memᴰ, Memᴰ·cast, Memᴰ·map, Memᴰ·of-map}
 use Prim.Native.Nat.{ℕ, _≤_}
 use lib.ListN.{length, length-map}
 use Rattle.clause.specs.Lists.{All, none, also, Each, nobody, besides}
@@ -23,16 +23,7 @@ use Rattle.backward.specs.Listing.{rising}
 use Rattle.backward.specs.Laws.{asRead}
 use Rattle.backward.proofs.Rising.{Differ, Below, Same, rising-all, rising-same, rising-length, rising-rises, rising-only}
 
--- ---- mapped lists
-
--- an image is that of an element
-pub mem-map : {A B : Type 0} (f : A → B) {a : A} {l : List A} → List·Memᴰ a l → List·Memᴰ (f a) (map f l)
-mem-map f (List·Memᴰ·head e) = List·Memᴰ·head (ap f e)
-mem-map f (List·Memᴰ·tail m) = List·Memᴰ·tail (mem-map f m)
-
-pub map-mem : {A B : Type 0} (f : A → B) {b : B} (l : List A) → List·Memᴰ b (map f l) → (a : A) × List·Memᴰ a l × (b ≡ f a)
-map-mem f (a ∷ l) (List·Memᴰ·head e) = (a, List·Memᴰ·head refl, e)
-map-mem f (a ∷ l) (List·Memᴰ·tail m) = let (x, n, e) = map-mem f l m in (x, List·Memᴰ·tail n, e)
+-- ---- the numbers
 
 -- pairs as they are read back have the same numbers
 differ-read : {K : List Pair} → Each Differ K → Each Differ (map asRead K)
@@ -101,13 +92,13 @@ module _ (T : List ℕ) (K : List Pair) (I : IsTreeOf T K) where
       to : List·Memᴰ q (pairsOf (decode T)) → List·Memᴰ q (map asRead K)
       to m =
           let (p, n, k, e) = only T K I (q .number) (all-mem (off .sound) m .number) (keys (q .clause)) (finds T (pairsOf (decode T)) off q m) in
-          Memᴰ·cast (sym (as-read p q (good n) (sym e) (sym k) (all-mem off-reread m))) (mem-map asRead n)
+          Memᴰ·cast (sym (as-read p q (good n) (sym e) (sym k) (all-mem off-reread m))) (Memᴰ·map asRead n)
 
       from : List·Memᴰ q (map asRead K) → List·Memᴰ q (pairsOf (decode T))
       from m =
-          let (p, n, e) = map-mem asRead K m in
+          let (p, n, e) = Memᴰ·of-map asRead K m in
           let (r, i, k, f) = only T (pairsOf (decode T)) off (p .number) (all-mem (I .sound) n .number) (keys (p .clause)) (finds T K I p n) in
-          Memᴰ·cast (e ∙ as-read p r (good n) f k (all-mem off-reread i)) i
+          Memᴰ·cast (sym e ∙ as-read p r (good n) f k (all-mem off-reread i)) i
 
   -- so they are listed in the same order
   pub rising-read : rising (pairsOf (decode T)) ≡ rising (map asRead K)
@@ -136,11 +127,11 @@ module _ (T : List ℕ) (K : List Pair) (I : IsTreeOf T K) where
       to : (q : Pair) × List·Memᴰ q (rising (map asRead K)) × (q .number ≡ n) × Subsumes c (q .clause)
           → (p : Pair) × List·Memᴰ p K × (p .number ≡ n) × Subsumes c (p .clause)
       to (q, m, e, u) =
-          let (p, i, f) = map-mem asRead K (rising-same (map asRead K) q .0 m) in
-          let v : Subsumes c (normal (p .clause)) = rw f at u in
-          (p, i, sym (ap (λ x. x .number) f) ∙ e, subsumes-read (p .clause) (good i) c .0 v)
+          let (p, i, f) = Memᴰ·of-map asRead K (rising-same (map asRead K) q .0 m) in
+          let v : Subsumes c (normal (p .clause)) = rw (sym f) at u in
+          (p, i, ap (λ x. x .number) f ∙ e, subsumes-read (p .clause) (good i) c .0 v)
 
       from : (p : Pair) × List·Memᴰ p K × (p .number ≡ n) × Subsumes c (p .clause)
           → (q : Pair) × List·Memᴰ q (rising (map asRead K)) × (q .number ≡ n) × Subsumes c (q .clause)
       from (p, m, e, u) =
-          (asRead p, rising-same (map asRead K) (asRead p) .1 (mem-map asRead m), e, subsumes-read (p .clause) (good m) c .1 u)
+          (asRead p, rising-same (map asRead K) (asRead p) .1 (Memᴰ·map asRead m), e, subsumes-read (p .clause) (good m) c .1 u)

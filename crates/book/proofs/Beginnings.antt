@@ -4,7 +4,7 @@ use mathlib.Core.Logic.{_≢_, _⊎_, inl, inr}
 use mathlib.Core.Bool.{Bool, true, false, or-true, false≢true}
 use mathlib.Core.Option.{some, Option·some-injective}
 use mathlib.Core.List.{List, [], _∷_, _++_, map, nil≢cons, cons≢nil, head-eq-of-cons-eq, tail-eq-of-cons-eq, List·Memᴰ}
-use mathlib.Core.List.{List·Memᴰ·head, List·Memᴰ·tail, Memᴰ·append-left, Memᴰ·append-right, List·Memᴰ·append-cases}
+use mathlib.Core.List.{List·Memᴰ·head, List·Memᴰ·tail, Memᴰ·append-left, Memᴰ·append-right, Memᴰ·map, Memᴰ·of-map, List·Memᴰ·append-cases}
 use Prim.Native.Nat.{ℕ, suc}
 use lib.Dec.{T}
 use lib.ListN.{length}
@@ -51,21 +51,13 @@ allStarts : List Pair → List (List Instr)
 allStarts [] = []
 allStarts (p ∷ K) = starts (compile (p .clause) (p .number)) ++ allStarts K
 
-mem-map : {i : Instr} {b : List Instr} {ls : List (List Instr)} → List·Memᴰ b ls → List·Memᴰ (i ∷ b) (map (i ∷_) ls)
-mem-map {i = i} (List·Memᴰ·head e) = List·Memᴰ·head (ap (i ∷_) e)
-mem-map (List·Memᴰ·tail m) = List·Memᴰ·tail (mem-map m)
-
-map-mem : (i : Instr) (ls : List (List Instr)) {b : List Instr} → List·Memᴰ b (map (i ∷_) ls) → (c : List Instr) × List·Memᴰ c ls × (b ≡ i ∷ c)
-map-mem i (l ∷ ls) (List·Memᴰ·head e) = (l, List·Memᴰ·head refl, e)
-map-mem i (l ∷ ls) (List·Memᴰ·tail m) = let (c, n, e) = map-mem i ls m in (c, List·Memᴰ·tail n, e)
-
 starts-begins : (is : List Instr) {b : List Instr} → List·Memᴰ b (starts is) → IsBeginning b is
 unfolding starts
 starts-begins (i ∷ is) (List·Memᴰ·head e) = ((λ f. cons≢nil (sym e ∙ f)), is, ap (_++ is) e)
 starts-begins (i ∷ is) (List·Memᴰ·tail m) =
-    let (c, n, e) = map-mem i (starts is) m in
+    let (c, n, e) = Memᴰ·of-map (i ∷_) (starts is) m in
     let (h, r, f) = starts-begins is n in
-    ((λ g. cons≢nil (sym e ∙ g)), r, ap (_++ r) e ∙ ap (i ∷_) f)
+    ((λ g. cons≢nil (e ∙ g)), r, ap (_++ r) (sym e) ∙ ap (i ∷_) f)
 
 begins-starts : (is b : List Instr) → IsBeginning b is → List·Memᴰ b (starts is)
 unfolding starts
@@ -74,7 +66,7 @@ begins-starts [] (j ∷ b) B = absurd (cons≢nil (B .2))
 begins-starts (i ∷ is) (j ∷ []) B = List·Memᴰ·head (ap (_∷ []) (head-eq-of-cons-eq (B .2)))
 begins-starts (i ∷ is) (j ∷ k ∷ b) B =
     let e : j ≡ i = head-eq-of-cons-eq (B .2) in
-    rw e (List·Memᴰ·tail (mem-map (begins-starts is (k ∷ b) (cons≢nil, B .1, tail-eq-of-cons-eq (B .2)))))
+    rw e (List·Memᴰ·tail (Memᴰ·map (i ∷_) (begins-starts is (k ∷ b) (cons≢nil, B .1, tail-eq-of-cons-eq (B .2)))))
 
 -- those of a whole book
 all-begins : (K : List Pair) (b : List Instr) → List·Memᴰ b (allStarts K) → (p : Pair) × List·Memᴰ p K × IsBeginning b (compile (p .clause) (p .number))

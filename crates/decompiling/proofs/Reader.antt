@@ -11,7 +11,7 @@ use Rattle.clause.specs.Word.{Words}
 use Rattle.clause.specs.Clause.{vars}
 use Rattle.clause.proofs.Lists.{all-head, all-tail, all-weaken}
 use Rattle.clause.proofs.Literals.{Clause, accepted}
-use Rattle.machine.specs.Instr.{Down, Right, Put, Push, Pop, Check, Compare, Instr, First, Do, Success, key, instruction, instrOf}
+use Rattle.machine.specs.Instr.{Down, Right, Put, Push, Pop, Check, Compare, Instr, First, Do, Success, instruction, instrOf}
 use Rattle.machine.specs.Compile.{ended, sequence}
 use Rattle.machine.proofs.Replace.{length-vars}
 use Rattle.machine.proofs.Codes.{sequence-plain}

@@ -1,23 +1,21 @@
 -- A block record by record: what the functions leave is what the definition says, byte after byte.
 use mathlib.Core.Path.{_≡_, refl, sym, ap, _∙_}
 use mathlib.Core.Bool.{Bool, true, false, cond}
-use mathlib.Core.List.{List, [], _∷_, _++_}
+use mathlib.Core.List.{List, [], _++_}
 use Prim.Native.Nat.{ℕ, _+_, _-_, _*_, _^_, _≤_, _<_}
 use native.Mathlib.Omega.{arith}
-use native.Mathlib.Nat.{add-mul}
 use lib.Dec.{ltb}
-use lib.ListN.{length, getD, take, drop, length-take}
+use lib.ListN.{length, getD, take, drop}
 use lib.Seq.{take-add, take-take, take-all, length-take-le}
-use Rattle.clause.specs.Lists.{All}
 use Rattle.clause.specs.Clause.{maxWords}
 use Rattle.clause.specs.Word.{Words}
 use Rattle.clause.proofs.Lists.{all-below, all-take}
 use Rattle.record.specs.Text.{Written, putAt}
 use Rattle.record.specs.Line.{longestLine, longestRemoval, lineOf, removalLines, linesFor}
 use Rattle.record.specs.Answer.{Answered, answerTo}
-use Rattle.record.specs.Marks.{numberCount, marked}
-use Rattle.record.specs.Output.{fieldOf, counted}
-use Rattle.record.specs.Counters.{mostCounted, countersAfter}
+use Rattle.record.specs.Marks.{numberCount}
+use Rattle.record.specs.Output.{counted}
+use Rattle.record.specs.Counters.{countersAfter}
 use Rattle.record.specs.declared.Setting.{Setting}
 use Rattle.record.specs.declared.Outcome.{Outcome}
 use Rattle.record.specs.declared.Outcome.the-variants.{Kept, Struck, Refused}
@@ -26,10 +24,10 @@ use Rattle.record.specs.declared.Totals.{Totals}
 use Rattle.lines.proofs.Writing.{putAt-append, text-there}
 use Rattle.answering.specs.inner.Steady.{keptIn, Steady, CameOut, GoesOn}
 use Rattle.answering.proofs.Steady.{goes-on, goes-left}
-use Rattle.intake.specs.Feed.{Store, storeOf, Fed, finishing, recordEnded, advanced, stored, proceeding, takeField, takeAs, takeByte, feedThen, feed}
+use Rattle.intake.specs.Feed.{Store, storeOf, Fed, finishing, recordEnded, proceeding, feedThen, feed}
 use Rattle.intake.specs.inner.Steps.{Stepped}
 use Rattle.intake.specs.declared.Half.{Half}
-use Rattle.intake.specs.declared.Half.the-variants.{Even, Odd}
+use Rattle.intake.specs.declared.Half.the-variants.{Even}
 use Rattle.intake.specs.declared.Stage.{Stage}
 use Rattle.intake.specs.declared.Stage.the-variants.{AtNumber}
 use Rattle.intake.specs.declared.Session.{Session}
@@ -38,7 +36,7 @@ use Rattle.intake.specs.declared.Next.{Next}
 use Rattle.intake.specs.declared.Next.the-variants.{Reads, Ends}
 use Rattle.intake.specs.declared.Portion.{Portion}
 use Rattle.intake.proofs.Bytes.{feed-append}
-use Rattle.feeding.specs.inner.Blocks.{FedInto, fedInto, Within, longestText, Feedable, Took}
+use Rattle.feeding.specs.inner.Blocks.{FedInto, fedInto, Within, longestText, Took}
 
 -- ---- one record
 

@@ -1,13 +1,13 @@
 -- Two antichains that cover each other are the same but for elements that are related both ways, and equally long.
 use mathlib.Core.Path.{_≡_, refl, sym, _∙_}
 use mathlib.Core.Logic.{_⊎_, inl, inr}
-use mathlib.Core.List.{List, [], _∷_, List·Memᴰ, List·Memᴰ·head, List·Memᴰ·tail}
+use mathlib.Core.List.{List, _∷_, List·Memᴰ, List·Memᴰ·head, List·Memᴰ·tail}
 use Prim.Native.Nat.{suc, _≤_}
 use native.Mathlib.Omega.{arith}
 use lib.ListN.{length}
 use Rattle.clause.specs.Lists.{All, none, also, Each, nobody, besides}
 use Rattle.clause.proofs.Lists.{all-mem, all-weaken}
-use Rattle.record.specs.Antichain.{Unrelated, Antichain}
+use Rattle.record.specs.Antichain.{Antichain}
 use Rattle.readback.proofs.Lists.{all-elements}
 
 -- a list without one place: all other elements are left

@@ -3,16 +3,16 @@ use mathlib.Core.Path.{_≡_, refl, sym, ap, _∙_}
 use mathlib.Core.Logic.{_⊎_, inl, inr}
 use mathlib.Core.Option.{Option, none as nobody, some}
 use mathlib.Core.List.{List, [], _∷_, _++_, map, List·Memᴰ}
-use Prim.Native.Nat.{ℕ, _≤_, _<_}
+use Prim.Native.Nat.{ℕ, _<_}
 use native.Mathlib.Omega.{arith}
 use lib.ListN.{length, take, replicate, length-replicate}
 use lib.Seq.{take-at}
 use Rattle.clause.specs.Lists.{All, none, also}
-use Rattle.clause.specs.Clause.{shape, Accepted}
+use Rattle.clause.specs.Clause.{shape}
 use Rattle.machine.specs.Machine.{State, initial}
 use Rattle.tree.specs.Keys.{firstKey}
-use Rattle.tree.specs.Forest.{Forest, layout, find}
-use Rattle.tree.specs.Laid.{maxKept, decode}
+use Rattle.tree.specs.Forest.{layout, find}
+use Rattle.tree.specs.Laid.{decode}
 use Rattle.tree.specs.Entries.{Pair, entry}
 use Rattle.tree.specs.Changes.{Change, insertInto}
 use Rattle.tree.specs.Calls.{Called, changed, insertion}
@@ -22,7 +22,7 @@ use Rattle.walk.specs.Query.{machine, witnessWords, answerBy, query}
 use Rattle.walk.specs.Covering.{Subsumed, IsCovered, IsNotCovered, IsSpent, Answers}
 use Rattle.readback.specs.Saved.{IsTreeOf}
 use Rattle.readback.specs.Calls.{over}
-use Rattle.backward.specs.Calls.{Backed, backward}
+use Rattle.backward.specs.Calls.{backward}
 use Rattle.backward.specs.Laws.{triesOf, asRead, ListsKept}
 use Rattle.backward.specs.Listing.{rising}
 use Rattle.book.specs.Book.{Call, insert, Fit, AllFit, call as callOn, after, bookStep, bookFrom, treeOf}
@@ -43,7 +43,7 @@ use Rattle.backward.specs.declared.BackAnswer.the-variants.{Unlisted, Listed}
 use Rattle.record.specs.declared.Setting.{Setting}
 use Rattle.record.specs.declared.Setting.the-variants.{Plain, Back}
 use Rattle.record.specs.declared.Outcome.{Outcome}
-use Rattle.record.specs.declared.Outcome.the-variants.{Kept, Struck, Refused}
+use Rattle.record.specs.declared.Outcome.the-variants.{Kept, Refused}
 use Rattle.clause.proofs.Apart.{apart}
 use Rattle.clause.proofs.Lists.{all-mem}
 use Rattle.tree.proofs.Words.{length-layout}

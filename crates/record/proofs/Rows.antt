@@ -7,7 +7,7 @@ use Prim.Native.Nat.{ℕ, _+_, _-_, _≤_, _<_}
 use native.Mathlib.Omega.{arith}
 use lib.ListN.{length, length-append}
 use Rattle.clause.specs.Lists.{All, none, also, Each, nobody, besides}
-use Rattle.clause.specs.Clause.{Accepted, Subsumes}
+use Rattle.clause.specs.Clause.{Subsumes}
 use Rattle.clause.proofs.Apart.{apart}
 use Rattle.clause.proofs.Lists.{all-mem, all-weaken}
 use Rattle.clause.proofs.Order.{subsumes-refl, subsumes-trans}

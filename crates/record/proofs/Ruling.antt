@@ -1,6 +1,5 @@
 -- One record, by the clauses of the book before it.
 use mathlib.Core.Path.{_≡_, refl, sym, ap, ap₂, _∙_}
-use mathlib.Core.Logic.{_⊎_, inl, inr}
 use mathlib.Core.Bool.{Bool, true, false}
 use mathlib.Core.Option.{Option, none as nobody, some}
 use mathlib.Core.List.{List, [], _∷_, map, List·Memᴰ, List·Memᴰ·head, List·Memᴰ·tail}
@@ -11,17 +10,14 @@ use lib.ListN.{length, getD, replicate, length-replicate}
 use borrow.Author.Tests.{leb-true, leb-false}
 use Rattle.clause.specs.Clause.{shape, Accepted}
 use Rattle.machine.specs.Compile.{keys}
-use Rattle.machine.specs.Machine.{State, initial}
 use Rattle.tree.specs.Forest.{Forest, size, leaves, layout, ins, find, holder, Has, Body, Free}
 use Rattle.tree.specs.Laid.{maxKept, usedOf}
 use Rattle.tree.specs.Entries.{Pair, entry}
 use Rattle.tree.specs.Changes.{Change, refuse, change, insertInto}
-use Rattle.tree.specs.Calls.{Called, changed}
 use Rattle.tree.specs.Refusal.{codeOf}
-use Rattle.walk.specs.Walk.{Answer, covered, notCovered, spent, broken, upTo, walk}
-use Rattle.walk.specs.Query.{machine, witnessWords, answerBy, query}
-use Rattle.walk.specs.Covering.{Units, Subsumed, candidates, IsCovered, IsNotCovered, IsSpent, Answers}
-use Rattle.book.specs.Book.{insert, Fit, AllFit, after, bookStep, bookFrom, treeOf}
+use Rattle.walk.specs.Query.{witnessWords}
+use Rattle.walk.specs.Covering.{Units, Subsumed, candidates}
+use Rattle.book.specs.Book.{insert, Fit, bookStep, treeOf}
 use Rattle.record.specs.Answer.{budget, treeWords, Record}
 use Rattle.record.specs.Ruled.{pairOf, Numbered, wordsOf, Decided, Uncovered, Takes, Strikes, Reason, faulty, number-taken, list-full, no-room, over-budget}
 use Rattle.record.specs.Ruled.{withoutAll, Clears, Ruled, RuledByUnits}
@@ -30,10 +26,8 @@ use Rattle.clause.specs.declared.Fault.the-variants.{BadLength, Bad, Ninth}
 use Rattle.clause.specs.declared.Shape.{Shape}
 use Rattle.clause.specs.declared.Shape.the-variants.{Faulty, Whole}
 use Rattle.tree.specs.declared.Refusal.{Refusal}
-use Rattle.tree.specs.declared.Refusal.the-variants.{BadClause, NumberTaken, Held, ListFull, NoRoom, Spent}
+use Rattle.tree.specs.declared.Refusal.the-variants.{BadClause, NumberTaken, Held, ListFull, NoRoom}
 use Rattle.tree.specs.declared.CallAnswer.the-variants as call
-use Rattle.walk.specs.declared.QueryAnswer.{QueryAnswer}
-use Rattle.walk.specs.declared.QueryAnswer.the-variants.{Unanswered, Covered, NotCovered}
 use Rattle.record.specs.declared.Setting.{Setting}
 use Rattle.record.specs.declared.Outcome.{Outcome}
 use Rattle.record.specs.declared.Outcome.the-variants.{Kept, Struck, Refused}
@@ -42,7 +36,6 @@ use Rattle.clause.proofs.Lists.{all-mem}
 use Rattle.clause.proofs.Apart.{apart}
 use Rattle.machine.proofs.Codes.{sequence-plain}
 use Rattle.tree.proofs.Plain.{plain-body}
-use Rattle.tree.proofs.Words.{length-layout}
 use Rattle.tree.proofs.Delete.{find-none, find-some}
 use Rattle.tree.proofs.Held.{Holding, holding}
 use Rattle.tree.proofs.Count.{book-size}
@@ -50,10 +43,8 @@ use Rattle.tree.proofs.InsertWords.{ins-leaves}
 use Rattle.tree.proofs.Mirror.{mirrors-ins}
 use Rattle.tree.proofs.Changes.{Inserts, refused, grown, inserts}
 use Rattle.tree.proofs.Pairs.{kept-pair, pair-kept}
-use Rattle.walk.proofs.Covering.{query-tree, answers, decided-fits, shows-subsumes}
 use Rattle.book.proofs.Holds.{Holds, holds-leaves, holds-enough}
 use Rattle.book.proofs.Exact.{holds-few, holds-exact}
-use Rattle.book.proofs.Step.{insertion-is}
 use Rattle.readback.proofs.Saved.{sound-good, same-keys}
 use Rattle.machine.proofs.Matching.{variants-subsume}
 

@@ -12,7 +12,6 @@ use Rattle.record.specs.Answer.{treeWords, Record}
 use Rattle.record.specs.Output.{recordsOf, Row, rowOn, freshSlice, rowsOf, rowCalls, none}
 use Rattle.record.specs.Sheet.{Bytes, bookAfter, takenOut, keptPairs, BookStands, KeptCovers, RowAt, RowClaims, Covers, Sheets, NoStrikeIsWrong}
 use Rattle.record.specs.declared.Setting.{Setting}
-use Rattle.record.specs.declared.Setting.the-variants.{Plain, Back}
 use Rattle.tree.specs.declared.CallAnswer.the-variants.{Ready}
 use Rattle.clause.specs.Lists.{nobody}
 use Rattle.book.proofs.Holds.{holds-empty, fresh-layout, holds-numbers, holds-clauses}

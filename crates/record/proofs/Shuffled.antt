@@ -2,11 +2,10 @@
 use mathlib.Core.Path.{_≡_, refl, sym, ap, subst, _∙_}
 use mathlib.Core.Logic.{_⊎_, inl, inr}
 use mathlib.Core.List.{List, [], _∷_, Memᴰ·map, Memᴰ·of-map, Permᴰ·symm}
-use mathlib.Core.List.{List·Memᴰ, List·Memᴰ·head, List·Memᴰ·tail, List·Permᴰ, List·Permᴰ·nil, List·Permᴰ·cons, List·Permᴰ·swap, List·Permᴰ·trans}
+use mathlib.Core.List.{List·Memᴰ, List·Memᴰ·head, List·Memᴰ·tail, List·Permᴰ, List·Permᴰ·cons, List·Permᴰ·swap, List·Permᴰ·trans}
 use Prim.Native.Nat.{ℕ, _≤_}
 use native.Mathlib.Omega.{arith}
 use lib.ListN.{length}
-use Rattle.clause.specs.Clause.{Subsumes}
 use Rattle.clause.proofs.Order.{subsumes-trans}
 use Rattle.tree.specs.Entries.{Pair}
 use Rattle.walk.specs.Covering.{Subsumed}
@@ -14,7 +13,7 @@ use Rattle.book.specs.Claims.{Under}
 use Rattle.record.specs.Answer.{Record}
 use Rattle.record.specs.Output.{recordsOf, Row, rowsOf, counted, totalsWith, none}
 use Rattle.record.specs.Ruled.{pairOf, IsKept, IsStruck}
-use Rattle.record.specs.Sheet.{Bytes, bookAfter, Over, Covers, Sheet}
+use Rattle.record.specs.Sheet.{Bytes, Over, Covers, Sheet}
 use Rattle.record.specs.Shuffled.{keptBy, NoneRefused, AllCovered, KeepAlike, PagesShuffled, ClausesAmong, SameClausesKept}
 use Rattle.record.specs.declared.Setting.{Setting}
 use Rattle.record.specs.declared.Setting.the-variants.{Back}

@@ -5,7 +5,7 @@ use mathlib.Core.List.{List, [], _∷_, _++_, map, flatMap, map-append, append-a
 use Prim.Native.Nat.{ℕ, _+_, _≤_, _<_}
 use native.Mathlib.Omega.{arith}
 use lib.ListN.{length, replicate, length-map}
-use Rattle.clause.specs.Lists.{Each, besides}
+use Rattle.clause.specs.Lists.{Each}
 use Rattle.clause.specs.Clause.{Subsumes}
 use Rattle.clause.proofs.Lists.{all-mem}
 use Rattle.tree.specs.Entries.{Pair}
