@@ -36,7 +36,7 @@ AllCovered = (s : Setting) (input : List ℕ) → Bytes input → NoneRefused s 
 abbrev pub Mutual : Pair → Pair → Type 0
 Mutual p q = Over p q × Over q p
 
--- each clause of K and some clause of L do
+-- each clause of K and some clause of L subsume each other
 abbrev pub Alike : (K L : List Pair) → Type 0
 Alike K L = (p : Pair) → List·Memᴰ p K → (q : Pair) × List·Memᴰ q L × Mutual p q
 

@@ -24,7 +24,7 @@ pub record Buffers (input output : List ℕ) : Type 0 where
   pub block : length input ≡ blockBytes
   pub room : outputBytes ≤ length output
 
--- some bytes were fed from the start on, with a setting, and left the session and the lent words; what `WholeInput` has of every input is of them
+-- some bytes were fed from the start on, with a setting, and left the session and the lent words; `WholeInput` speaks of every input, so of these bytes
 pub record FedSoFar (setting : Setting) (session : Session) (store : Store) : Type 0 where
   pub bytes : List ℕ
   pub small : Bytes bytes

@@ -232,6 +232,26 @@ fn stored_pages() {
     ]);
 }
 
+// README's sample: its 13 records that are not refused end with 7 kept in each order, struck and removed sharing the others.
+#[test]
+fn sample() {
+    let mut random = Random(83);
+    let all = records(include_bytes!("../../../samples/furnace.page"));
+    let ruled = ruled(&all).into_iter().zip(&all);
+    let taken = ruled.filter(|((_, outcome), _)| !matches!(outcome, Outcome::Refused { .. }));
+    let given: Vec<Record> = taken.map(|(_, record)| record.clone()).collect();
+    assert_eq!((all.len(), given.len()), (15, 13));
+    let mut orders = vec![given.clone()];
+    orders.extend((0..60).map(|_| random.shuffled(&given)));
+    let books = kept_by(BACK, &orders, "sample");
+    expect_pairs(&books, "sample", &mut Tally::default());
+    let says = |book: &LastBook, totals| book.text.contains(&format!("\n{totals}\n"));
+    assert!(books.iter().all(|book| book.numbers().len() == 7));
+    assert!(says(&books[0], "kept 7 struck 5 refused 0 removed 1"));
+    let other = |book| says(book, "kept 7 struck 1 refused 0 removed 5");
+    assert!(books.iter().any(other), "README's other order");
+}
+
 // A record that is cut at the end plays no part, wherever it is cut; whole, it would take the place of two.
 #[test]
 fn cut_at_the_end() {
