@@ -64,6 +64,12 @@ use Rattle.answering.proofs.Steady.{steady-sized, steady-laid, steady-t
 pub clause-short : (c : List ℕ) → Accepted c → length c ≤ maxWords
 clause-short c a = accepted c a .fits
 
+-- and has a word
+pub clause-some : (c : List ℕ) → Accepted c → 0 < length c
+unfolding shape
+clause-some [] a = let e = a .1 in apart cc
+clause-some (w ∷ ws) a = omega arith
+
 -- the record of a clause under a number
 abbrev pub of : (words : List ℕ) (number : ℕ) → Record
 of c n = record { number = n; words = c }
@@ -245,11 +251,7 @@ not-covered S c b W k e = go (sized S) (shape c) refl e
     go true (Whole q) p e = (q, p)
     go false x p e = apart cc
 
-module _ (v : Setting) (S c : List ℕ) (n : ℕ) {N : List ℕ} {r : QueryAnswer}
-    (w : _≡_ {A = Asked} (record { answer = r; witness = N }) (query S c budget (replicate witnessWords 0))) where
-  answers : r ≡ query S c budget (replicate witnessWords 0) .answer
-  answers = ap (λ (x : Asked). x .answer) w
-
+module _ (v : Setting) (S c : List ℕ) (n : ℕ) {r : QueryAnswer} (answers : r ≡ query S c budget (replicate witnessWords 0) .answer) where
   pub asked-refused : {code : ℕ} {K M : List ℕ} (f : Refusal) → r ≡ Unanswered f → code ≡ codeOf f
       → CameOut (answerTo v S (of c n)) n K (record { outcome = Refused code; removed = 0 }) M S K
   unfolding answerTo

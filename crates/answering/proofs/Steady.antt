@@ -186,14 +186,14 @@ module _ (v : Setting) {S m : List ℕ} (h : Steady S m) (x : Record) (w : Narro
   fit = (w .1, omega (arith, w .0))
 
   -- what becomes of it
-  fate-here : Fate v K x (a .outcome) (a .removed) (bookFrom treeWords K (callsFor v S x))
+  pub fate-here : Fate v K x (a .outcome) (a .removed) (bookFrom treeWords K (callsFor v S x))
   fate-here = rw (← g .slice) at (fate v K (g .holds) x fit)
 
   fits : AllFit (callsFor v S x)
   unfolding callsFor
   fits = fate-fits (g .holds) fit fate-here
 
-  standing-next : Standing (bookFrom treeWords K (callsFor v S x)) (a .slice)
+  pub standing-next : Standing (bookFrom treeWords K (callsFor v S x)) (a .slice)
   standing-next = rw (slice-after S x v) (standing-after (callsFor v S x) K S g fits)
 
   removed-small : {M : List Pair} {o : Outcome} {ms : List ℕ} → Fate v K x o ms M → All (λ n. n < numberCount) ms
@@ -230,7 +230,7 @@ pub goes-left : {S m : List ℕ} → Steady S m → (n code : ℕ) → GoesOn S 
 goes-left h n code = record { steady = h; small = none; few = omega arith; swap = omega arith; counts = λ t e. e }
 
 -- the fresh slice is that of no pairs
-fresh-standing : Standing [] (replicate treeWords 0)
+pub fresh-standing : Standing [] (replicate treeWords 0)
 unfolding treeOf
 fresh-standing = record { holds = holds-empty treeWords (omega arith); slice = fresh-layout treeWords (omega arith) }
 

@@ -2,7 +2,7 @@
 use crate::Budget;
 use backward::BackAnswer;
 use compiling::compile;
-use insertion::insert_new;
+use insertion::insert_below;
 use listing::list_known;
 use machine::Sequence;
 use record::Came;
@@ -21,19 +21,22 @@ ghost use Rattle.clause.specs.Lists.{All};
 ghost use Rattle.machine.specs.Compiled.{maxKeys};
 ghost use Rattle.tree.specs.Forest.{find};
 ghost use Rattle.tree.specs.Laid.{decode};
+ghost use Rattle.heads.specs.inner.Heads.{Indexed};
 ghost use Rattle.record.specs.Answer.{listWords, entered, unlessTaken, replaced};
 ghost use Rattle.record.specs.Marks.{numberCount, marked};
 ghost use Rattle.answering.specs.inner.Steady.{Steady, CameOut};
 
-// Inserts a record that is not covered. The caller's slice is the tree of some clauses, with the marks of its numbers, and the clause is accepted.
+// Inserts a record that is not covered. The caller's slice is the tree of some clauses, with the marks of its numbers and the index of its heads,
+// and the clause is accepted.
 pub(crate) fn keep(
     tree: &mut [u64],
     marks: &mut [u8],
+    heads: &[u16],
     keys: &mut [u64],
     words: &[u16],
     number: u16,
 ) -> Outcome
-    requires { ⌜ Steady (now tree) (now marks) × Accepted (now words) × (maxKeys ≤ length (now keys)) ⌝ }
+    requires { ⌜ Steady (now tree) (now marks) × Indexed (now tree) (now heads) × Accepted (now words) × (maxKeys ≤ length (now keys)) ⌝ }
     ensures entered { λ r. ⌜ record { outcome = r; removed = []; slice = now (tree .exit) }
         ≡ entered [] (now (tree .entry)) (record { number = number; words = now (words .entry) }) ⌝ }
     ensures marking { λ r. ⌜ now (marks .exit) ≡ marked r number [] (now (marks .entry)) ⌝ }
@@ -43,7 +46,9 @@ pub(crate) fn keep(
         return Outcome::Refused(Refusal::NumberTaken.code());
     }
     let count = compile(words, keys);
-    let answer = insert_new(tree, &keys[..count], number as u32);
+    let head = words[0] as usize;
+    let at = heads[head] as usize;
+    let answer = insert_below(tree, &keys[..count], number as u32, at);
     let CallAnswer::Refused(refusal) = answer else {
         marks[mark] = Mark::TAKEN;
         return Outcome::Kept(Tree::used(tree[0]) as u64);
@@ -55,12 +60,14 @@ pub(crate) fn keep(
 fn exchange(
     tree: &mut [u64],
     marks: &mut [u8],
+    heads: &[u16],
     keys: &mut [u64],
     numbers: &[u32],
     words: &[u16],
     number: u16,
 ) -> Came
-    requires { ⌜ Steady (now tree) (now marks) × Accepted (now words) × (maxKeys ≤ length (now keys)) × All (λ n. n < numberCount) (now numbers) ⌝ }
+    requires { ⌜ Steady (now tree) (now marks) × Indexed (now tree) (now heads) × Accepted (now words) × (maxKeys ≤ length (now keys))
+        × All (λ n. n < numberCount) (now numbers) ⌝ }
     ensures replaced { λ r. ⌜ record { outcome = r .outcome; removed = take (r .removed) (now (numbers .entry)); slice = now (tree .exit) }
         ≡ unlessTaken (find number (decode (now (tree .entry)))) (now (tree .entry))
         (entered (now (numbers .entry)) (now (tree .entry)) (record { number = number; words = now (words .entry) })) ⌝ }
@@ -79,7 +86,7 @@ fn exchange(
         return replace(tree, marks, numbers, words, number);
     }
     Came {
-        outcome: keep(tree, marks, keys, words, number),
+        outcome: keep(tree, marks, heads, keys, words, number),
         removed: 0,
     }
 }
@@ -88,12 +95,13 @@ fn exchange(
 pub(crate) fn strike_back(
     tree: &mut [u64],
     marks: &mut [u8],
+    heads: &[u16],
     keys: &mut [u64; Sequence::KEYS],
     list: &mut [u32],
     words: &[u16],
     number: u16,
 ) -> Came
-    requires { ⌜ Steady (now tree) (now marks) × Accepted (now words) × (length (now list) ≡ listWords) ⌝ }
+    requires { ⌜ Steady (now tree) (now marks) × Indexed (now tree) (now heads) × Accepted (now words) × (length (now list) ≡ listWords) ⌝ }
     ensures { λ r. ⌜ CameOut (replaced (now (tree .entry)) (record { number = number; words = now (words .entry) })) number (now (marks .entry)) r
         (now (list .exit)) (now (tree .exit)) (now (marks .exit)) ⌝ }
 {
@@ -102,6 +110,14 @@ pub(crate) fn strike_back(
             outcome: Outcome::Refused(refusal.code()),
             removed: 0,
         },
-        BackAnswer::Listed(count, _) => exchange(tree, marks, keys, &list[..count], words, number),
+        BackAnswer::Listed(count, _) => exchange(
+            tree,
+            marks,
+            heads,
+            keys,
+            &list[..count],
+            words,
+            number,
+        ),
     }
 }

@@ -23,6 +23,7 @@ ghost use mathlib.Core.Path.{_≡_};
 ghost use Prim.Native.Nat.{_≤_};
 ghost use lib.ListN.{length};
 ghost use Rattle.clause.specs.Clause.{maxWords};
+ghost use Rattle.heads.specs.inner.Heads.{Indexed};
 ghost use Rattle.record.specs.Answer.{listWords};
 ghost use Rattle.record.specs.Counters.{mostCounted};
 ghost use Rattle.record.specs.Output.{counted};
@@ -68,13 +69,16 @@ fn outcome_of(
     heading: Heading,
     tree: &mut [u64],
     marks: &mut [u8],
+    heads: &mut [u16],
     keys: &mut [u64; Sequence::KEYS],
     list: &mut [u32],
     words: &[u16],
 ) -> Came
-    requires { ⌜ Steady (now tree) (now marks) × (length (now list) ≡ listWords) × (length (now words) ≡ maxWords) ⌝ }
-    ensures { λ r. ⌜ CameOut (finishing setting (heading .number) (heading .count) (now (words .entry)) (now (tree .entry))) (heading .number)
+    requires { ⌜ Steady (now tree) (now marks) × Indexed (now tree) (now heads) × (length (now list) ≡ listWords)
+        × (length (now words) ≡ maxWords) ⌝ }
+    ensures came { λ r. ⌜ CameOut (finishing setting (heading .number) (heading .count) (now (words .entry)) (now (tree .entry))) (heading .number)
         (now (marks .entry)) r (now (list .exit)) (now (tree .exit)) (now (marks .exit)) ⌝ }
+    ensures indexed { λ _. ⌜ Indexed (now (tree .exit)) (now (heads .exit)) ⌝ }
 {
     let end = heading.count as usize;
     if end > Clause::WORDS {
@@ -87,6 +91,7 @@ fn outcome_of(
         setting,
         tree,
         marks,
+        heads,
         keys,
         list,
         &words[..end],
@@ -101,6 +106,7 @@ fn finish(
     turn: Turn,
     tree: &mut [u64],
     marks: &mut [u8],
+    heads: &mut [u16],
     counters: &mut [u64],
     keys: &mut [u64; Sequence::KEYS],
     list: &mut [u32],
@@ -108,15 +114,16 @@ fn finish(
     output: &mut [u8],
 ) -> Turn
     requires { ⌜ Feedable (storeOf (now words) (now tree) (now marks) (now counters)) (turn .session .totals) 1 (turn .next) (now output)
-        × (length (now list) ≡ listWords) ⌝ }
-    ensures { λ r. ⌜ Took
+        × Indexed (now tree) (now heads) × (length (now list) ≡ listWords) ⌝ }
+    ensures took { λ r. ⌜ Took
         (recordEnded setting (heading .number) (heading .count) (turn .session .totals)
         (storeOf (now (words .entry)) (now (tree .entry)) (now (marks .entry)) (now (counters .entry)))) 1
         (turn .next) (turn .session .totals) (now (output .entry)) (r .session)
         (storeOf (now (words .entry)) (now (tree .exit)) (now (marks .exit)) (now (counters .exit)))
         (record { next = r .next; output = now (output .exit) }) ⌝ }
+    ensures indexed { λ _. ⌜ Indexed (now (tree .exit)) (now (heads .exit)) ⌝ }
 {
-    let came = outcome_of(setting, heading, tree, marks, keys, list, words);
+    let came = outcome_of(setting, heading, tree, marks, heads, keys, list, words);
     let outcome = came.outcome;
     let removed = came.removed;
     count_strike(counters, outcome);
@@ -142,6 +149,7 @@ fn proceed(
     turn: Turn,
     tree: &mut [u64],
     marks: &mut [u8],
+    heads: &mut [u16],
     counters: &mut [u64],
     keys: &mut [u64; Sequence::KEYS],
     list: &mut [u32],
@@ -149,13 +157,14 @@ fn proceed(
     output: &mut [u8],
 ) -> Turn
     requires { ⌜ Feedable (storeOf (now words) (now tree) (now marks) (now counters)) (turn .session .totals) 1 (turn .next) (now output)
-        × (length (now list) ≡ listWords) ⌝ }
-    ensures { λ r. ⌜ Took
+        × Indexed (now tree) (now heads) × (length (now list) ≡ listWords) ⌝ }
+    ensures took { λ r. ⌜ Took
         (proceeding setting next (turn .session .totals)
         (storeOf (now (words .entry)) (now (tree .entry)) (now (marks .entry)) (now (counters .entry)))) 1
         (turn .next) (turn .session .totals) (now (output .entry)) (r .session)
         (storeOf (now (words .entry)) (now (tree .exit)) (now (marks .exit)) (now (counters .exit)))
         (record { next = r .next; output = now (output .exit) }) ⌝ }
+    ensures indexed { λ _. ⌜ Indexed (now (tree .exit)) (now (heads .exit)) ⌝ }
 {
     match next {
         Next::Reads(half, stage) => {
@@ -176,6 +185,7 @@ fn proceed(
             turn,
             tree,
             marks,
+            heads,
             counters,
             keys,
             list,
@@ -185,23 +195,27 @@ fn proceed(
     }
 }
 
-// Takes all records and bytes of a block, one after another. The caller's session and lent words are those that the blocks before have left.
+// Takes all records and bytes of a block, one after another. The caller's session and lent words are those that the blocks before have left,
+// the index among them.
 pub fn feed(
     setting: Setting,
     input: &[u8],
     session: Session,
     tree: &mut [u64],
     marks: &mut [u8],
+    heads: &mut [u16],
     counters: &mut [u64],
     words: &mut [u16],
     output: &mut [u8],
 ) -> Turn
-    requires { ⌜ Feedable (storeOf (now words) (now tree) (now marks) (now counters)) (session .totals) (length (now input)) 0 (now output) ⌝ }
+    requires { ⌜ Feedable (storeOf (now words) (now tree) (now marks) (now counters)) (session .totals) (length (now input)) 0 (now output)
+        × Indexed (now tree) (now heads) ⌝ }
     ensures took { λ r. ⌜ Took
         (Feed·feed setting session (storeOf (now (words .entry)) (now (tree .entry)) (now (marks .entry)) (now (counters .entry))) (now (input .entry)))
         (length (now (input .entry))) 0 (session .totals) (now (output .entry)) (r .session)
         (storeOf (now (words .exit)) (now (tree .exit)) (now (marks .exit)) (now (counters .exit)))
         (record { next = r .next; output = now (output .exit) }) ⌝ }
+    ensures indexed { λ _. ⌜ Indexed (now (tree .exit)) (now (heads .exit)) ⌝ }
     ensures whole { λ _. ⌜ WholeInput ⌝ }
 {
     let mut keys = [0u64; Sequence::KEYS];
@@ -222,6 +236,7 @@ pub fn feed(
             turn,
             tree,
             marks,
+            heads,
             counters,
             &mut keys,
             &mut list,

@@ -8,7 +8,7 @@ use borrow.Author.Tests.{le-leb, lt-leb}
 use Rattle.tree.specs.Laid.{maxKept, keptOf, region}
 use Rattle.tree.specs.Entries.{Entry}
 use Rattle.tree.specs.inner.Cut.{Span, locate}
-use Rattle.tree.specs.Calls.{refused}
+use Rattle.tree.specs.Calls.{Called, refused}
 use Rattle.tree.specs.inner.ByWords.{insertAt, insertUnless, insertByWords}
 use Rattle.merging.specs.inner.Inserting.{Mergeable, LeadsTo}
 use Rattle.merging.specs.declared.Place.{Place}
@@ -50,7 +50,7 @@ module _ (T cs : List ℕ) (n : ℕ) where
       insert-full u = sym (by-kept ∙ rw (le-leb maxKept (keptOf (getD T 0 0)) u))
 
       -- it goes to its place, if there is room
-      pub insert-there : (p : ℕ) (left : List ℕ) → keptOf (getD T 0 0) < maxKept → way T cs .place ≡ p → way T cs .left ≡ left
-          → insertAt T n p left (way T cs .raised) ≡ insertByWords T (entryOf n cs)
-      insert-there p left u a b =
-          sym (by-kept ∙ rw (lt-leb maxKept (keptOf (getD T 0 0)) u) (ap₂ (λ (i : ℕ) (l : List ℕ). insertAt T n i l (way T cs .raised)) a b))
+      pub insert-there : {r : Called} (p : ℕ) (left : List ℕ) → keptOf (getD T 0 0) < maxKept → way T cs .place ≡ p → way T cs .left ≡ left
+          → r ≡ insertAt T n p left (way T cs .raised) → r ≡ insertByWords T (entryOf n cs)
+      insert-there p left u a b e =
+          e ∙ sym (by-kept ∙ rw (lt-leb maxKept (keptOf (getD T 0 0)) u) (ap₂ (λ (i : ℕ) (l : List ℕ). insertAt T n i l (way T cs .raised)) a b))

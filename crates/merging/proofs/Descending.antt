@@ -7,15 +7,14 @@ use Prim.Native.Nat.{ℕ, suc, _+_, _-_, _≤_, _<_}
 use native.Mathlib.Nat.{add-zero}
 use native.Mathlib.Numerals.{add-one}
 use native.Mathlib.Omega.{arith}
-use lib.Dec.{T}
 use lib.ListN.{length, take, drop, getD, set, length-append, length-drop, length-set, take-append-drop, drop-of-length-le}
 use lib.Seq.{drop-cons, drop-drop, length-take-le, getD-append-seam, set-at, append-snoc}
 use borrow.Author.Tests.{lt-ltb, le-ltb}
 use Rattle.tree.specs.Keys.{firstKey, nextKey}
 use Rattle.tree.specs.Forest.{wordLimit, success}
-use Rattle.tree.specs.Laid.{mostWords, row, rows}
+use Rattle.tree.specs.Laid.{mostWords}
 use Rattle.tree.specs.inner.Merge.{Descent, stop, behind, descend, fromTop}
-use Rattle.merging.specs.inner.Inserting.{Nested, LeadsTo, holderOf}
+use Rattle.merging.specs.inner.Inserting.{Nested, LeadsTo, Descending, holderOf}
 use Rattle.merging.specs.declared.Holder.{Holder}
 use Rattle.tree.proofs.Keys.{Tri, less, same, more, tri}
 use Rattle.tree.proofs.Grow.{rows-drop}
@@ -29,19 +28,7 @@ is-success x k e h = rw (lt-ltb k firstKey (omega arith), success) (ap some (sym
 pub not-success : (k : ℕ) → firstKey ≤ k → success k ≡ none
 not-success k h = rw (le-ltb k firstKey h, success)
 
--- ---- the invariant
-
--- k keys of cs have a word, and the others are looked for in the row from p up to t; `done` are the words before p, raised
-pub record Descending (W cs : List ℕ) (p t k : ℕ) : Type 0 where
-  pub order : p ≤ t
-  pub room : t ≤ length W
-  pub keys : k ≤ length cs
-  pub bound : ℕ
-  pub inRow : T (row (drop p W) bound 0 (t - p))
-  pub inRows : T (rows W)
-  pub done : ℕ → List ℕ
-  pub long : (r : ℕ) → length (done r) ≡ p
-  pub goes : fromTop W cs ≡ behind p done (descend (drop p W) 0 (t - p) (drop k cs))
+-- ---- the invariants
 
 -- the words were W and are U: those before p are raised by r, those from p on are as they were
 pub record Raising (W cs : List ℕ) (r : ℕ) (U : List ℕ) (p t k : ℕ) : Type 0 where

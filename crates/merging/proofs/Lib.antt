@@ -5,3 +5,4 @@ pub mod UsedWords
 pub mod Fitted
 pub mod Putting
 pub mod KeysOf
+pub mod Below

@@ -58,7 +58,7 @@ fn show(cells: &[u8; Path::CELLS], witness: &mut [u16])
 }
 
 // What a reading that finds no whole clause is refused with.
-fn refusal(shape: Shape) -> Refusal
+pub(crate) fn refusal(shape: Shape) -> Refusal
     ensures { λ r. ⌜ r ≡ refusalOf shape ⌝ }
 {
     match shape {
@@ -68,7 +68,7 @@ fn refusal(shape: Shape) -> Refusal
 }
 
 // The answer that a finding comes to, without a witness.
-fn told(finding: Finding, budget: u64) -> QueryAnswer
+pub(crate) fn told(finding: Finding, budget: u64) -> QueryAnswer
     ensures { λ r. ⌜ ((W cells : List ℕ) → r ≡ toldOut budget W (outBy (finding .end) (finding .count) cells) .answer) ⌝ }
 {
     let end = finding.end;

@@ -1,3 +1,4 @@
 pub mod Words
 pub mod Past
 pub mod Scanning
+pub mod Counting

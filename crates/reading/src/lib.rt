@@ -1,10 +1,12 @@
 // The reading of a clause by a cursor: its literals one after another (docs/REFERENCE.md, "Clause words").
 mod moves;
+mod whole;
 mod word;
 
 use clause::Clause;
 use clause::Fault;
 use clause::Shape;
+pub use whole::is_whole;
 use word::is_head;
 ghost use mathlib.Core.Path.{_≡_};
 ghost use Rattle.clause.specs.Clause.{scan, shape};

@@ -18,6 +18,8 @@ use Rattle.feeding.specs.inner.Blocks.{Within, longestText, Feedable, Stays}
 use Rattle.intake.specs.declared.Session.{Session}
 use Rattle.intake.proofs.Bytes.{feed-append}
 use Rattle.feeding.proofs.Blocks.{within-fewer}
+use Rattle.heads.specs.inner.Heads.{entryCount, Indexed}
+use Rattle.answering.proofs.Renewing.{indexed-fresh}
 use Rattle.answering.proofs.Steady.{steady-few, fresh-kept, steady-fresh}
 use Rattle.streaming.specs.Fed.{outputBytes, blockBytes, Buffers, FedSoFar}
 
@@ -41,6 +43,11 @@ buffers n k e h = record { block = rw (length-replicate {A = ℕ} n 0) e; room =
 pub store-first : storeOf (replicate maxWords 0) (replicate treeWords 0) (replicate numberCount 0) (replicate counterWords 0) ≡ firstStore
 unfolding firstStore
 store-first = refl
+
+-- and their index is 0 throughout
+pub indexed-first : {m : Store} → m ≡ firstStore → Indexed (m .slice) (replicate entryCount 0)
+unfolding firstStore
+indexed-first e = rw e indexed-fresh
 
 -- before the first block
 pub running-none : (v : Setting) {s : Session} {m : Store} → s ≡ firstSession → m ≡ firstStore → Running v s m mostBlocks

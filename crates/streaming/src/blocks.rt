@@ -1,6 +1,7 @@
 // The blocks of the input: each is fed, and its lines written.
 use crate::Limit;
 use feeding::feed;
+use heads::Heads;
 use intake::Session;
 use intake::begin;
 use libc::STDIN_FILENO;
@@ -10,6 +11,7 @@ ghost use mathlib.Core.Path.{_≡_};
 ghost use Prim.Native.Nat.{_≤_, _<_};
 ghost use lib.ListN.{length, take};
 ghost use Rattle.intake.specs.Feed.{storeOf, firstStore};
+ghost use Rattle.heads.specs.inner.Heads.{Indexed};
 ghost use Rattle.feeding.specs.inner.Blocks.{Feedable, Stays};
 ghost use Rattle.intake.specs.Feed.{feed as Feed·feed};
 ghost use Rattle.record.specs.Sheet.{Bytes};
@@ -60,11 +62,13 @@ fn feed_block(
     session: Session,
     tree: &mut [u64],
     marks: &mut [u8],
+    heads: &mut [u16],
     counters: &mut [u64],
     words: &mut [u16],
     output: &mut [u8],
 ) -> FedBlock
-    requires { ⌜ Feedable (storeOf (now words) (now tree) (now marks) (now counters)) (session .totals) (length (now block)) 0 (now output) ⌝ }
+    requires { ⌜ Feedable (storeOf (now words) (now tree) (now marks) (now counters)) (session .totals) (length (now block)) 0 (now output)
+        × Indexed (now tree) (now heads) ⌝ }
     ensures fed { λ r. ⌜ record {
       session = r .session;
       store = storeOf (now (words .exit)) (now (tree .exit)) (now (marks .exit)) (now (counters .exit));
@@ -73,6 +77,7 @@ fn feed_block(
         ≡ Feed·feed setting session (storeOf (now (words .entry)) (now (tree .entry)) (now (marks .entry)) (now (counters .entry))) (now (block .entry)) ⌝ }
     ensures stays { λ r. ⌜ Stays (session .totals) (length (now (block .entry))) (r .session .totals)
         (storeOf (now (words .exit)) (now (tree .exit)) (now (marks .exit)) (now (counters .exit))) ⌝ }
+    ensures indexed { λ _. ⌜ Indexed (now (tree .exit)) (now (heads .exit)) ⌝ }
     ensures bytes { λ _. ⌜ Bytes (now (block .entry)) ⌝ }
 {
     let turn = feed(
@@ -81,6 +86,7 @@ fn feed_block(
         session,
         tree,
         marks,
+        heads,
         counters,
         words,
         output,
@@ -108,7 +114,8 @@ fn left_after(blocks: u64, more: bool, good: bool) -> u64
     0
 }
 
-// Reads and feeds block after block. The end of the input is a block of no bytes.
+// Reads and feeds block after block, with the index of the tree beside it: of a fresh tree it is 0 throughout. The end of the input is a block of
+// no bytes.
 pub fn feed_all(
     setting: Setting,
     input: &mut [u8],
@@ -126,6 +133,7 @@ pub fn feed_all(
         next: 0,
         good: true,
     };
+    let mut heads = [0u16; Heads::ENTRIES];
     let mut blocks = Limit::BLOCKS;
     while blocks > 0 {
         let got = read_block(input);
@@ -137,6 +145,7 @@ pub fn feed_all(
             session,
             tree,
             marks,
+            &mut heads,
             counters,
             words,
             output,

@@ -2,3 +2,4 @@ pub mod Nodes
 pub mod Passes
 pub mod Walking
 pub mod Turns
+pub mod ByHead

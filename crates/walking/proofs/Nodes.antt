@@ -120,10 +120,3 @@ module _ (d : List ℕ) (b : ℕ) (T : List ℕ) (h : 0 < length T) (s : State) 
           let r = row-node (machine d) (upTo b) T 0 h s c x e (rw e (extends-some w (length T - 1) f)) (rw no-more f) in
           rw (y, u, z) at r
           ∙ rw (f, visit-met d b (w / 2 ^ 28 % 2 ^ 32) k s c q l (instrOf (keyOf w)) (λ m g. number (w / 2 ^ 60) (w / 2 ^ 28 % 2 ^ 32) m (sym (instrOf-word w) ∙ g)))
-
--- what comes last hands its answer on: the last word of a row, the last candidate
-pub then-nothing : {S : Type 0} (a : Answer S) (k : Part S) → ((c : ℕ) → k c ≡ notCovered c) → andThen a k ≡ a
-then-nothing (covered n s c) k h = refl
-then-nothing (notCovered c) k h = h c
-then-nothing spent k h = refl
-then-nothing broken k h = refl

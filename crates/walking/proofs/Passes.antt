@@ -19,7 +19,7 @@ use Rattle.cells.specs.declared.Above.the-variants.{First, Step}
 use Rattle.walking.specs.inner.Findings.{missed, seen, outBy, Walked}
 use Rattle.walking.specs.declared.Finding.{Finding}
 use Rattle.walking.specs.declared.End.{End}
-use Rattle.walking.proofs.Nodes.{then-nothing}
+use Rattle.walk.proofs.Heads.{then-none}
 use Rattle.walking.specs.declared.End.the-variants.{Missed, Found, Broken, Spent}
 
 -- below a First m literals from j on, those in use passed over; below a step m passes
@@ -33,7 +33,7 @@ module _ (d : List ℕ) (b : ℕ) (k : State → Part State) (s : State) where
   pub runs-whole : (above : Above) {m : ℕ} → m ≡ passesOf above (length (literals d)) → (c : ℕ) → runs d b above k s (m - 0) 0 c ≡ entered d b above k s c
   unfolding runs entered passesOf
   runs-whole First {m} e c = let f : m - 0 ≡ length (literals d) = omega arith in rw f
-  runs-whole Step {m} e c = let f : m - 0 ≡ 1 = omega arith in rw f (then-nothing (k s c) notCovered (λ i. refl))
+  runs-whole Step {m} e c = let f : m - 0 ≡ 1 = omega arith in rw f (then-none (k s c) notCovered (λ i. refl))
 
   -- no pass is left
   pub runs-end : (above : Above) (m j c : ℕ) → m ≤ j → runs d b above k s (m - j) j c ≡ notCovered c

@@ -138,7 +138,7 @@ module _ {d t words : List ℕ} {b h : ℕ} {l : List ℕ} {n₀ : ℕ} {above :
   small m e = omega (arith, literal m e, accepted d (E .ready .whole) .few)
 
   -- a literal is used where it has its bit
-  by-bit : above ≡ First → {j : ℕ} → j < last → hasBit saved j ≡ used j (s .chosen)
+  pub by-bit : above ≡ First → {j : ℕ} → j < last → hasBit saved j ≡ used j (s .chosen)
   unfolding usesOf
   by-bit e {j} m =
       let bits : saved % useLimit ≡ bitsOf (s .chosen) = E .uses ∙ rw e in

@@ -34,7 +34,8 @@ use Rattle.walking.specs.declared.End.the-variants.{Missed}
 use Rattle.walking.specs.declared.Finding.{Finding}
 use Rattle.cells.proofs.Rows.{row-end}
 use Rattle.stepping.proofs.Undoing.{undoable-size, undoable-count, undoable-small, undoable-some, undoable-none, restored-undoable}
-use Rattle.walking.proofs.Nodes.{extends-within, goingOn, meets, then-nothing}
+use Rattle.walking.proofs.Nodes.{extends-within, goingOn, meets}
+use Rattle.walk.proofs.Heads.{then-none}
 use Rattle.cells.proofs.Places.{place-none, place-some, unwound-none, unwound-traced, few-words}
 use Rattle.stepping.proofs.Visits.{head-some, chosen-length}
 use Rattle.walking.proofs.Passes.{then-on, then-ends, missed-of}
@@ -305,7 +306,7 @@ module _ {d t words : List ℕ} {b : ℕ} {s : State} {n₀ : ℕ} {cells₀ cel
       let all : take (x - 1) (drop 1 rest) ≡ drop 1 rest = take-all (x - 1) (drop 1 rest) (simp length-drop (omega (arith, h))) in
       let f : walkWords (machine d) (upTo b) words s n₀ ≡ part (stateOf (v .head) m) n =
       node ∙ rw (lower-met (stateOf (v .head) m) g)
-      (then-nothing (part (stateOf (v .head) m) n) after (λ c. row-end (machine d) (upTo b) rest x (stateOf here cells) c (omega arith))) in
+      (then-none (part (stateOf (v .head) m) n) after (λ c. row-end (machine d) (upTo b) rest x (stateOf here cells) c (omega arith))) in
       record {
         shorter = tail-le 1 rest (W .shorter);
         ready = visit-below d t here cells (W .ready) (getD rest 0 0) (length rest) h m v met g;

@@ -8,11 +8,14 @@ use Rattle.clause.specs.Lists.{All}
 use Rattle.tree.specs.Forest.{leaves}
 use Rattle.tree.specs.Laid.{decode}
 use Rattle.tree.specs.Entries.{Pair}
+use Rattle.heads.specs.inner.Heads.{entryCount, Headed, Indexed, Renewable}
 use Rattle.readback.specs.Saved.{IsTreeOf}
 use Rattle.record.specs.Answer.{treeWords, Answered}
 use Rattle.record.specs.Marks.{numberCount, taken, marked}
 use Rattle.record.specs.Output.{counted}
 use Rattle.record.specs.Ruled.{Numbered}
+use Rattle.record.specs.declared.Outcome.{Outcome}
+use Rattle.record.specs.declared.Outcome.the-variants.{Kept}
 use Rattle.record.specs.declared.Came.{Came}
 use Rattle.record.specs.declared.Totals.{Totals}
 
@@ -28,6 +31,14 @@ pub record Steady (slice marks : List ℕ) : Type 0 where
   pub tree : IsTreeOf slice pairs
   pub small : All (λ p. p .number < numberCount) pairs
   pub exactly : (n : ℕ) → n < numberCount → (getD marks n 0 ≡ taken) ↔ Numbered pairs n
+
+-- the entries that the index had before a record, beside the slice after it: they stay where it has not gone in, and where no clause went out for it,
+-- those for no head of the slice are 0
+pub record Outdated (outcome : Outcome) (removed : ℕ) (slice heads : List ℕ) : Type 0 where
+  pub tree : Headed (decode slice)
+  pub long : length heads ≡ entryCount
+  pub stays : ((used : ℕ) → outcome ≡ Kept used → ⊥) → Indexed slice heads
+  pub more : removed ≡ 0 → Renewable slice heads
 
 -- a record came out as it should: the outcome, the numbers at the beginning of a list that it takes out, the slice, and the marks
 pub record CameOut (expected : Answered) (number : ℕ) (before : List ℕ) (came : Came) (list slice marks : List ℕ) : Type 0 where

@@ -1,26 +1,13 @@
 -- `insertion::insert_new` meets its contract.
-use mathlib.Core.Path.{ap, _∙_}
 use native.Mathlib.Omega.{arith}
-use Rattle.tree.specs.Laid.{region}
-use Rattle.merging.specs.inner.Inserting.{holderOf, LeadsTo}
 use Rattle.merging.proofs.Putting.{slice-parts}
-use Rattle.insertion.proofs.InsertCases.{in-region, insert-held, insert-full, insert-there}
+use Rattle.insertion.proofs.InsertCases.{in-region}
 use borrow.Author.Needs.{needs}
 use Rattle.insertion.proofs.insert_new.Statement.{statement}
 use Rattle.insertion.proofs.insert_new.Tie as tie
-use Rattle.insertion.proofs.insert_new.Reads as reads
-use Rattle.insertion.proofs.insert_new.Lts as lts
-use Rattle.tree.proofs.Tree.used.Reads as used-reads
-use Rattle.tree.proofs.Tree.kept.Reads as kept-reads
-use Rattle.merging.proofs.place_of.Reads as place-of-reads
-use Rattle.merging.proofs.insert_at.Reads as insert-at-reads
 
--- what the callees ask and tell
-abbrev rs : lts.Claims
-rs = (used-reads.Asked, used-reads.Learnt, place-of-reads.Asked, place-of-reads.Learnt, kept-reads.Asked, kept-reads.Learnt, insert-at-reads.Asked, insert-at-reads.Learnt)
-
-slice-read-header : tie.Need-slice-read-header
-slice-read-header c = omega (arith, slice-parts (c .before .before .before .pre .0) .room)
+slice-read-used : tie.Need-slice-read-used
+slice-read-used c = omega (arith, slice-parts (c .before .before .before .pre .0) .room)
 
 used-requires : tie.Need-used-requires
 used-requires c κs = search needs
@@ -43,79 +30,30 @@ place-of-requires c κs =
     let P = slice-parts (u .before .before .before .before .pre .0) in
     rw (u .used .ensures, P .part) (P .rows)
 
-enum-known-holder : tie.Need-enum-known-holder
-enum-known-holder c = search needs
-
-enum-told : tie.Need-enum-told
-enum-told c = search needs
-
-kept-requires : tie.Need-kept-requires
-kept-requires c κs = search needs
+insert-placed-requires : tie.Need-insert-placed-requires
+insert-placed-requires c κs =
+    let p = c .before in
+    let u = p .before .before .before in
+    let s = u .before .before .before .before in
+    (s .pre .0, s .pre .1, in-region (s .pre .0) (rw (u .used .ensures) at (p .place-of .ensures)))
 
 same-length : tie.Need-same-length
 same-length c = search needs
 
--- the place that was found, by the used words
-placed : (c : lts.After-place-of rs reads.Pre reads.Post)
-    → let s = c .before .before .before .before .before .before .before in LeadsTo (region (s .args .tree .now)) (s .args .keys .now) (c .place-of .result)
-placed c =
-    let u = c .before .before .before in
-    in-region (u .before .before .before .before .pre .0) (rw (u .used .ensures) at (c .place-of .ensures))
-
 returns : tie.Need-returns
-returns c =
-    let p = c .before .before .before .before in
-    let s = p .before .before .before .before .before .before .before in
-    insert-full (s .args .tree .now) (s .args .keys .now) (s .args .number) (s .pre .1)
-    (placed p .holder ∙ ap holderOf (c .before .before .enum-told .given .1)) (omega (arith, c .if1 .taken, c .before .kept .ensures))
-
-insert-at-requires : tie.Need-insert-at-requires
-insert-at-requires c κs =
-    let p = c .before .before .before .before .before in
-    let q = placed p in
-    (p .before .before .before .before .before .before .before .pre .0, q .within, q .shares)
-
-same-length-2 : tie.Need-same-length-2
-same-length-2 c = search needs
-
-returns-2 : tie.Need-returns-2
-returns-2 c =
-    let p = c .before .before .before in
-    let s = p .before .before .before .before .before .before .before in
-    insert-held (s .args .tree .now) (s .args .keys .now) (s .args .number) (s .pre .1) (c .before .holder .given .0 .0)
-    (placed p .holder ∙ ap holderOf (c .before .holder .given .1))
-
-same-length-3 : tie.Need-same-length-3
-same-length-3 c = search needs
-
-returns-3 : tie.Need-returns-3
-returns-3 c =
-    let k = c .before .before .before .before .before in
-    let p = k .before .before .before in
-    let s = p .before .before .before .before .before .before .before in
-    let new = placed p .holder ∙ ap holderOf (k .before .enum-told .given .1) in
-    c .before .before .insert-at .ensures
-    ∙ insert-there (s .args .tree .now) (s .args .keys .now) (s .args .number) (s .pre .1) new _ _
-    (omega (arith, c .before .before .before .before .if1 .left, k .kept .ensures)) (placed p .place) (placed p .left)
+returns c = search needs
 
 pub insert-new-spec : {M : Type 1} → statement M
 insert-new-spec =
     tie.close
     (tie.spec
-    slice-read-header
+    slice-read-used
     used-requires
     add-end
     sub-place-of
     part-place-of-start
     part-place-of-end
     place-of-requires
-    enum-known-holder
-    enum-told
-    kept-requires
+    insert-placed-requires
     same-length
-    returns
-    insert-at-requires
-    same-length-2
-    returns-2
-    same-length-3
-    returns-3)
+    returns)

@@ -1,14 +1,17 @@
--- What the query says of the record, by cases.
-use Rattle.answering.proofs.Keeping.{asked-refused, asked-struck, asked-accepted, asked-in}
+-- What the query says of the record, by cases; where it goes in, the index is made anew.
+use Prim.Native.Nat.{_^_}
+use native.Mathlib.Omega.{arith}
+use Rattle.clause.proofs.Lists.{all-below}
+use Rattle.record.proofs.Reading.{Narrow}
+use Rattle.answering.proofs.Steady.{steady-sized, steady-laid}
+use Rattle.answering.proofs.Keeping.{of, asked-refused, asked-struck, asked-accepted, asked-in}
+use Rattle.answering.proofs.Renewing.{outdated}
 use borrow.Author.Needs.{needs}
 use Rattle.answering.proofs.answering.answer.Statement.{statement}
 use Rattle.answering.proofs.answering.answer.Tie as tie
 
-slice-aggregate-query : tie.Need-slice-aggregate-query
-slice-aggregate-query c = search needs
-
-query-requires : tie.Need-query-requires
-query-requires c κs = search needs
+query-indexed-requires : tie.Need-query-indexed-requires
+query-indexed-requires c κs = let s = c .before .before .before .before .before .before .before in (steady-sized (s .pre .0), steady-laid (s .pre .0), s .pre .1)
 
 enum-known-refusal : tie.Need-enum-known-refusal
 enum-known-refusal c = search needs
@@ -24,31 +27,36 @@ enum-told c = search needs
 
 go-in-requires : tie.Need-go-in-requires
 go-in-requires c κs =
-    let c7 = c .before .before .before .before .before .before .before in
-    let s = c7 .before .before .before .before .before .before .before in
+    let q = c .before .before .before .before .before .before .before in
+    let s = q .before .before .before .before .before .before .before .before in
     let a = s .args in
-    let g = c .before .before .before .before .enum-told .given in
-    (s .pre .0, asked-accepted (a .setting) (a .tree .now) (a .words .now) (a .number) (c7 .query .ensures) (g .0 .0) (g .1), s .pre .1)
+    let g = c .before .before .before .before .before .enum-told .given in
+    (s .pre .0, s .pre .1, asked-accepted (a .setting) (a .tree .now) (a .words .now) (a .number) (q .query-indexed .ensures) (g .0 .0) (g .1), s .pre .2)
+
+reindex-requires : tie.Need-reindex-requires
+reindex-requires c κs =
+    let i = c .before .before .before .before .before .before .before .before in
+    let q = i .before .before .before .before .before .before .before .before in
+    let s = q .before .before .before .before .before .before .before .before in
+    let a = s .args in
+    let g = i .before .before .before .before .before .before .enum-told .given in
+    let w : Narrow (of (a .words .now) (a .number)) = (omega (arith, s .fits .number), all-below (2 ^ 16) (a .words .now) (λ k. omega (arith, q .before .before .before .shared-slice-known .given k))) in
+    let o = asked-in (a .setting) (a .tree .now) (a .words .now) (a .number) (q .query-indexed .ensures) (g .0 .0) (g .1) (i .go-in .ensures) in
+    outdated (a .setting) (s .pre .0) (of (a .words .now) (a .number)) w (s .pre .1) o
 
 same-length : tie.Need-same-length
 same-length c = search needs
 
-returns : tie.Need-returns
-returns c =
-    let c5 = c .before .before .before .before .before in
-    let a = c5 .before .before .before .before .before .before .before .args in
-    let g = c .before .before .refusal .given in
-    asked-refused (a .setting) (a .tree .now) (a .words .now) (a .number) (c5 .query .ensures) (g .0 .0) (g .1) (c .code .ensures)
-
 same-length-2 : tie.Need-same-length-2
 same-length-2 c = search needs
 
-returns-2 : tie.Need-returns-2
-returns-2 c =
-    let c4 = c .before .before .before .before in
-    let a = c4 .before .before .before .before .before .before .before .args in
-    let g = c .before .covering .given in
-    asked-struck (a .setting) (a .tree .now) (a .words .now) (a .number) (c4 .query .ensures) (g .0 .0) (g .0 .1 .0) (g .1)
+returns : tie.Need-returns
+returns c =
+    let q = c .before .before .before .before in
+    let s = q .before .before .before .before .before .before .before .before in
+    let a = s .args in
+    let g = c .before .before .refusal .given in
+    (asked-refused (a .setting) (a .tree .now) (a .words .now) (a .number) (q .query-indexed .ensures) (g .0 .0) (g .1) (c .code .ensures), s .pre .1)
 
 same-length-3 : tie.Need-same-length-3
 same-length-3 c = search needs
@@ -56,33 +64,55 @@ same-length-3 c = search needs
 same-length-4 : tie.Need-same-length-4
 same-length-4 c = search needs
 
+returns-2 : tie.Need-returns-2
+returns-2 c =
+    let q = c .before .before .before in
+    let s = q .before .before .before .before .before .before .before .before in
+    let a = s .args in
+    let g = c .before .covering .given in
+    (asked-struck (a .setting) (a .tree .now) (a .words .now) (a .number) (q .query-indexed .ensures) (g .0 .0) (g .0 .1 .0) (g .1), s .pre .1)
+
 same-length-5 : tie.Need-same-length-5
 same-length-5 c = search needs
 
+same-length-6 : tie.Need-same-length-6
+same-length-6 c = search needs
+
+same-length-7 : tie.Need-same-length-7
+same-length-7 c = search needs
+
+same-length-8 : tie.Need-same-length-8
+same-length-8 c = search needs
+
 returns-3 : tie.Need-returns-3
 returns-3 c =
-    let c6 = c .before .before .before .before .before .before in
-    let c14 = c6 .before .before .before .before .before .before .before .before in
-    let a = c14 .before .before .before .before .before .before .before .args in
-    let g = c6 .before .before .before .before .before .enum-told .given in
-    asked-in (a .setting) (a .tree .now) (a .words .now) (a .number) (c14 .query .ensures) (g .0 .0) (g .1) (c6 .go-in .ensures)
+    let r = c .before .before in
+    let i = r .before .before .before .before .before .before .before .before .before in
+    let q = i .before .before .before .before .before .before .before .before in
+    let s = q .before .before .before .before .before .before .before .before in
+    let a = s .args in
+    let g = i .before .before .before .before .before .before .enum-told .given in
+    (asked-in (a .setting) (a .tree .now) (a .words .now) (a .number) (q .query-indexed .ensures) (g .0 .0) (g .1) (i .go-in .ensures), r .reindex .ensures)
 
 pub answer-spec : {M : Type 1} → statement M
 answer-spec =
     tie.close
     (tie.spec
-    slice-aggregate-query
-    query-requires
+    query-indexed-requires
     enum-known-refusal
     code-requires
     enum-known-covering
     enum-told
     go-in-requires
+    reindex-requires
     same-length
-    returns
     same-length-2
-    returns-2
+    returns
     same-length-3
     same-length-4
+    returns-2
     same-length-5
+    same-length-6
+    same-length-7
+    same-length-8
     returns-3)

@@ -15,9 +15,9 @@ code-requires c κs = search needs
 returns : tie.Need-returns
 returns c =
     let c3 = c .before .before .before in
-    let s = c3 .before .before .before .before .before in
+    let s = c3 .before .before .before .before .before .before in
     let a = s .args in
-    let g = insertable (a .number) (s .pre .0) (s .pre .1) (λ i. omega (arith, c3 .shared-slice-known2 .given i)) (omega (arith, s .fits .number)) in
+    let g = insertable (a .number) (s .pre .0) (s .pre .2) (λ i. omega (arith, c3 .shared-slice-known3 .given i)) (omega (arith, s .fits .number)) in
     (exchange-marked g (a .numbers .now) (c .before .if1 .taken) (c .code .ensures), (refl, omega arith))
 
 replace-requires : tie.Need-replace-requires
@@ -33,9 +33,9 @@ returns-2 : tie.Need-returns-2
 returns-2 c =
     let c4 = c .before .before .before .before in
     let c10 = c4 .before .before .before .before .before .before in
-    let s = c10 .before .before .before .before .before in
+    let s = c10 .before .before .before .before .before .before in
     let a = s .args in
-    let g = insertable (a .number) (s .pre .0) (s .pre .1) (λ i. omega (arith, c10 .shared-slice-known2 .given i)) (omega (arith, s .fits .number)) in
+    let g = insertable (a .number) (s .pre .0) (s .pre .2) (λ i. omega (arith, c10 .shared-slice-known3 .given i)) (omega (arith, s .fits .number)) in
     (c4 .replace .ensures .0 ∙ exchange-free g (a .numbers .now) (c4 .before .before .before .before .if1 .left), c4 .replace .ensures .1)
 
 keep-requires : tie.Need-keep-requires
@@ -55,9 +55,9 @@ returns-3 c =
     let c6 = c .before .before .before .before .before .before in
     let c10 = c6 .before .before .before .before in
     let c13 = c10 .before .before .before in
-    let s = c13 .before .before .before .before .before in
+    let s = c13 .before .before .before .before .before .before in
     let a = s .args in
-    let g = insertable (a .number) (s .pre .0) (s .pre .1) (λ i. omega (arith, c13 .shared-slice-known2 .given i)) (omega (arith, s .fits .number)) in (
+    let g = insertable (a .number) (s .pre .0) (s .pre .2) (λ i. omega (arith, c13 .shared-slice-known3 .given i)) (omega (arith, s .fits .number)) in (
       c6 .keep .ensures .0 ∙ exchange-none g (a .numbers .now) (c10 .if2 .left) ∙ exchange-free g (a .numbers .now) (c10 .before .if1 .left),
       (c6 .keep .ensures .1, omega arith),
     )

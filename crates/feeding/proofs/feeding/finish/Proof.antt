@@ -33,17 +33,17 @@ rs = (
 -- the record came out, and so it goes on
 abbrev Came : lts.After-outcome-of rs reads.Pre reads.Post → Type 0
 Came c =
-    let a = c .before .before .before .before .before .before .before .before .before .before .before .args in
+    let a = c .before .before .before .before .before .before .before .before .before .before .before .before .before .args in
     Ended (a .setting) (a .heading .number) (a .heading .count) (a .turn .session .totals) (storeOf (a .words .now) (a .tree .now) (a .marks .now) (a .counters .now))
-    (c .outcome-of .result) (c .outcome-of .last .1 .1 .1 .1 .1 .0) (c .outcome-of .last .1 .1 .0) (c .outcome-of .last .1 .1 .1 .0)
+    (c .outcome-of .result) (c .outcome-of .last .1 .1 .1 .1 .1 .1 .0) (c .outcome-of .last .1 .1 .0) (c .outcome-of .last .1 .1 .1 .0)
 
 came : (c : lts.After-outcome-of rs reads.Pre reads.Post) → Came c
 came c =
-    let c6 = c .before .before .before .before .before .before in
-    let s = c6 .before .before .before .before .before in
+    let c7 = c .before .before .before .before .before .before .before in
+    let s = c7 .before .before .before .before .before .before in
     let a = s .args in
     ended (a .setting) (a .heading .number) (a .heading .count) (a .turn .session .totals) (storeOf (a .words .now) (a .tree .now) (a .marks .now) (a .counters .now))
-    (s .pre .0 .steady) (omega (arith, s .good)) (λ i. omega (arith, c6 .shared-slice-known .given i)) (s .pre .0 .kept) (c .outcome-of .ensures)
+    (s .pre .0 .steady) (omega (arith, s .good)) (λ i. omega (arith, c7 .shared-slice-known .given i)) (s .pre .0 .kept) (c .outcome-of .ensures .0)
 
 outcome-of-requires : tie.Need-outcome-of-requires
 outcome-of-requires c κs = search needs
@@ -55,26 +55,26 @@ slice-reshare-prefix-put-removals : tie.Need-slice-reshare-prefix-put-removals
 slice-reshare-prefix-put-removals c = search needs
 
 slice-aggregate-put-removals : tie.Need-slice-aggregate-put-removals
-slice-aggregate-put-removals c = sym (length-take-le _ _ (came (c .before .before .before .before .before .before .before .before .before .before .before .before) .out .many))
+slice-aggregate-put-removals c = sym (length-take-le _ _ (came (c .before .before .before .before .before .before .before .before .before .before .before .before .before .before) .out .many))
 
 put-removals-requires : tie.Need-put-removals-requires
 put-removals-requires c κs =
-    let c12 = c .before .before .before .before .before .before .before .before .before .before .before .before in
-    let e = came c12 in
-    let s = c12 .before .before .before .before .before .before .before .before .before .before .before in
+    let c14 = c .before .before .before .before .before .before .before .before .before .before .before .before .before .before in
+    let e = came c14 in
+    let s = c14 .before .before .before .before .before .before .before .before .before .before .before .before .before in
     (one-room (s .args .turn .next) (removed-many e) (removed-few e) (s .pre .0 .room), e .on .small)
 
 put-line-requires : tie.Need-put-line-requires
 put-line-requires c κs =
-    let c16 = c .before .before .before .before .before .before .before .before .before .before .before .before .before .before .before .before in
-    let e = came c16 in
-    let s = c16 .before .before .before .before .before .before .before .before .before .before .before in
+    let c18 = c .before .before .before .before .before .before .before .before .before .before .before .before .before .before .before .before .before .before in
+    let e = came c18 in
+    let s = c18 .before .before .before .before .before .before .before .before .before .before .before .before .before in
     line-room (s .args .turn .next) (removed-many e) (removed-few e) (s .pre .0 .room) (c .before .before .before .put-removals .ensures .1) (c .before .before .output .given)
 
 count-outcome-requires : tie.Need-count-outcome-requires
 count-outcome-requires c κs =
-    let c21 = c .before .before .before .before .before .before .before .before .before .before .before .before .before .before .before .before .before .before .before .before .before in
-    (c21 .before .before .before .before .before .before .before .before .before .before .before .pre .0 .counts, removed-few (came c21))
+    let c23 = c .before .before .before .before .before .before .before .before .before .before .before .before .before .before .before .before .before .before .before .before .before .before .before in
+    (c23 .before .before .before .before .before .before .before .before .before .before .before .before .before .pre .0 .counts, removed-few (came c23))
 
 same-length : tie.Need-same-length
 same-length c = search needs
@@ -91,16 +91,19 @@ same-length-4 c = search needs
 same-length-5 : tie.Need-same-length-5
 same-length-5 c = search needs
 
+same-length-6 : tie.Need-same-length-6
+same-length-6 c = search needs
+
 returns : tie.Need-returns
 returns c =
     let c5 = c .before .before .before .before .before in
     let c9 = c5 .before .before .before .before in
     let c14 = c9 .before .before .before .before .before in
-    let c22 = c14 .before .before .before .before .before .before .before .before in
-    let a = c22 .before .before .before .before .before .before .before .before .before .before .before .args in
+    let c24 = c14 .before .before .before .before .before .before .before .before .before .before in
+    let a = c24 .before .before .before .before .before .before .before .before .before .before .before .before .before .args in
     let p = c9 .put-removals .ensures in
     let q = c5 .put-line .ensures in
-    finishes (came c22) (a .output .now) (a .turn .next) (c14 .count-strike .ensures) (c .count-outcome .ensures) (p .0) (p .1) (q .0) (q .1)
+    (finishes (came c24) (a .output .now) (a .turn .next) (c14 .count-strike .ensures) (c .count-outcome .ensures) (p .0) (p .1) (q .0) (q .1), c24 .outcome-of .ensures .1)
 
 pub finish-spec : {M : Type 1} → statement M
 finish-spec =
@@ -118,4 +121,5 @@ finish-spec =
     same-length-3
     same-length-4
     same-length-5
+    same-length-6
     returns)

@@ -17,12 +17,12 @@ code-requires c κs = search needs
 
 returns : tie.Need-returns
 unfolding finishing
-returns c = record { many = omega arith; answer = rw (lt-ltb maxWords _ (c .before .if1 .taken), c .code .ensures); marking = refl }
+returns c = (record { many = omega arith; answer = rw (lt-ltb maxWords _ (c .before .if1 .taken), c .code .ensures); marking = refl }, c .before .before .before .before .before .before .before .before .pre .1)
 
 slice-aggregate-answer : tie.Need-slice-aggregate-answer
 slice-aggregate-answer c =
-    let c5 = c .before .before .before .before .before in
-    sym (length-take-le _ _ (omega (arith, c5 .before .before .before .before .before .before .pre .2, c5 .if1 .left)))
+    let c6 = c .before .before .before .before .before .before in
+    sym (length-take-le _ _ (omega (arith, c6 .before .before .before .before .before .before .before .pre .3, c6 .if1 .left)))
 
 answer-requires : tie.Need-answer-requires
 answer-requires c κs = search needs
@@ -36,12 +36,15 @@ same-length-2 c = search needs
 same-length-3 : tie.Need-same-length-3
 same-length-3 c = search needs
 
+same-length-4 : tie.Need-same-length-4
+same-length-4 c = search needs
+
 returns-2 : tie.Need-returns-2
 unfolding finishing
 returns-2 c =
-    let c6 = c .before .before .before .before .before .before in
-    let a = c6 .answer .ensures in
-    record { many = a .many; answer = rw (le-ltb maxWords _ (c6 .before .before .before .before .before .before .if1 .left)) (a .answer); marking = a .marking }
+    let c8 = c .before .before .before .before .before .before .before .before in
+    let a = c8 .answer .ensures in
+    (record { many = a .0 .many; answer = rw (le-ltb maxWords _ (c8 .before .before .before .before .before .before .before .if1 .left)) (a .0 .answer); marking = a .0 .marking }, a .1)
 
 pub outcome-of-spec : {M : Type 1} → statement M
 outcome-of-spec =
@@ -55,4 +58,5 @@ outcome-of-spec =
     same-length
     same-length-2
     same-length-3
+    same-length-4
     returns-2)

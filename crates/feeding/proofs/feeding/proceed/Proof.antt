@@ -17,11 +17,11 @@ finish-requires c κs = search needs
 returns : tie.Need-returns
 returns c =
     let c3 = c .before .before .before in
-    let s = c3 .before .before .before .before .before .before .before .before in
+    let s = c3 .before .before .before .before .before .before .before .before .before in
     let a = s .args in
     let n = c3 .next .given in
     let m = storeOf (a .words .now) (a .tree .now) (a .marks .now) (a .counters .now) in
-    goes (a .setting) (n .0 .0) (n .0 .1 .0) (a .turn .session .totals) m (a .output .now) (a .turn .next) (n .1) (s .pre .0 .steady) (s .pre .0 .kept)
+    (goes (a .setting) (n .0 .0) (n .0 .1 .0) (a .turn .session .totals) m (a .output .now) (a .turn .next) (n .1) (s .pre .0 .steady) (s .pre .0 .kept), s .pre .1)
 
 same-length : tie.Need-same-length
 same-length c = search needs
@@ -38,14 +38,17 @@ same-length-4 c = search needs
 same-length-5 : tie.Need-same-length-5
 same-length-5 c = search needs
 
+same-length-6 : tie.Need-same-length-6
+same-length-6 c = search needs
+
 returns-2 : tie.Need-returns-2
 returns-2 c =
-    let c10 = c .before .before .before .before .before .before .before .before .before .before in
-    let c18 = c10 .before .before .before .before .before .before .before .before in
-    let a = c18 .before .before .before .before .before .before .before .before .args in
-    let n = c18 .next2 .given in
+    let c12 = c .before .before .before .before .before .before .before .before .before .before .before .before in
+    let c21 = c12 .before .before .before .before .before .before .before .before .before in
+    let a = c21 .before .before .before .before .before .before .before .before .before .args in
+    let n = c21 .next2 .given in
     let m = storeOf (a .words .now) (a .tree .now) (a .marks .now) (a .counters .now) in
-    took-as (ends (a .setting) (n .0 .0) (a .turn .session .totals) m (n .1)) (c10 .finish .ensures)
+    (took-as (ends (a .setting) (n .0 .0) (a .turn .session .totals) m (n .1)) (c12 .finish .ensures .0), c12 .finish .ensures .1)
 
 pub proceed-spec : {M : Type 1} → statement M
 proceed-spec =
@@ -60,4 +63,5 @@ proceed-spec =
     same-length-3
     same-length-4
     same-length-5
+    same-length-6
     returns-2)

@@ -1,0 +1,214 @@
+-- `walk_heads` meets its contract: over the candidates the invariant is that of the passes below a First, `Between`.
+use mathlib.Core.Path.{_≡_, refl, sym, _∙_}
+use mathlib.Core.Logic.{inl}
+use mathlib.Core.Bool.{false}
+use mathlib.Core.List.{List, [], _∷_}
+use Prim.Native.Nat.{ℕ, _+_, _-_, _≤_, _<_}
+use types.Run.{miss}
+use native.Mathlib.Omega.{arith}
+use lib.ListN.{length, getD, drop}
+use borrow.Author.Needs.{needs}
+use Rattle.walk.specs.Walk.{upTo}
+use Rattle.cells.specs.inner.Cells.{noPosition, aboveOf, stateOf, hasBit}
+use Rattle.cells.specs.declared.Above.the-variants.{First}
+use Rattle.walking.specs.declared.End.the-variants.{Missed}
+use Rattle.walking.specs.declared.Finding.{Finding}
+use Rattle.walking.specs.inner.Findings.{walkBelow, walkTop, Walked}
+use Rattle.walking.proofs.Passes.{missed-of, walked-missed}
+use Rattle.walking.proofs.Turns.{walkable-literals, Entry, Between, Begun, entry-start, between-size, between-room, between-literal, between-ends, between-spent, by-bit}
+use Rattle.walking.proofs.Turns.{begun-ready, pass-missed, pass-ends}
+use Rattle.walking.proofs.ByHead.{walked-top, top-none, none-used}
+use Rattle.walking.proofs.by_head.walk_heads.Statement.{statement}
+use Rattle.walking.proofs.by_head.walk_heads.Tie as tie
+use Rattle.walking.proofs.by_head.walk_heads.Reads as reads
+use Rattle.walking.proofs.by_head.walk_heads.Lts as lts
+use Rattle.cells.proofs.begin.Reads as begin-reads
+use Rattle.cells.proofs.passes.Reads as passes-reads
+use Rattle.cells.proofs.release.Reads as release-reads
+use Rattle.cells.proofs.reserve.Reads as reserve-reads
+use Rattle.walking.proofs.by_head.walk_head.Reads as walk-head-reads
+
+abbrev Inv-loop : tie.InvT-loop
+Inv-loop words heads query tables cells₀ budget n₀ last saved j₀ cells n j = Between query (drop 1 words) budget noPosition n₀ First last saved cells₀ cells n j
+
+abbrev μ-loop : tie.MeasureT-loop
+μ-loop words heads query tables cells₀ budget n₀ last saved j₀ cells n j = last - j
+
+-- what the callees ask and tell
+abbrev rs : lts.Claims
+rs = (
+  passes-reads.Asked,
+  passes-reads.Learnt,
+  reserve-reads.Asked,
+  reserve-reads.Learnt,
+  begin-reads.Asked,
+  begin-reads.Learnt,
+  walk-head-reads.Asked,
+  walk-head-reads.Learnt,
+  release-reads.Asked,
+  release-reads.Learnt,
+)
+
+-- The places by name, each from a later one: the beginning, the candidates, one of them, the walk from it.
+abbrev Entered : Type 0
+Entered = lts.After-reserve rs reads.Pre reads.Post Inv-loop μ-loop
+
+abbrev Passes : Type 0
+Passes = lts.At-loop rs reads.Pre reads.Post Inv-loop μ-loop
+
+abbrev Pass : Type 0
+Pass = lts.After-begin rs reads.Pre reads.Post Inv-loop μ-loop
+
+abbrev Back : Type 0
+Back = lts.After-walk-head rs reads.Pre reads.Post Inv-loop μ-loop
+
+abbrev start : Entered → lts.Start rs reads.Pre reads.Post Inv-loop μ-loop
+start c = c .before .before .before .before .before .before .before
+
+abbrev passes : Pass → Passes
+passes c = c .before .before .before .before
+
+-- the First is entered
+entry : (c : Entered)
+    → let a = start c .args in
+    Entry (a .query .now) (a .tables .now) (drop 1 (a .words .now)) (a .budget) noPosition (a .cells .now) 0
+    First (c .before .before .passes .result) (c .reserve .result) (c .reserve .last .0)
+unfolding aboveOf
+entry c =
+    let p = start c .pre in
+    record {
+      ready = p .2;
+      room = λ z. omega (arith, p .3);
+      by-head = refl;
+      times = c .before .before .passes .ensures;
+      uses = c .reserve .ensures .0;
+      keeps = c .reserve .ensures .1;
+      reserves = c .reserve .ensures .2;
+    }
+
+-- no literal is in use
+unused : (c : Entered) {j : ℕ} → j < c .before .before .passes .result → hasBit (c .reserve .result) j ≡ false
+unused c {j} m = by-bit (entry c) refl m ∙ none-used j (start c .args .cells .now) (start c .pre .3)
+
+-- there are words
+some-words : (c : Entered) → 1 ≤ length (start c .args .words .now)
+some-words c = omega (arith, c .before .before .before .if1 .left)
+
+-- what the passes have found is what the walk has
+top : (c : Entered) {after : List ℕ} {r : Finding}
+    → let a = start c .args in
+    Walked (walkBelow (a .query .now) (drop 1 (a .words .now)) (a .budget) noPosition (a .cells .now) 0) (a .cells .now) after r
+    → Walked (walkTop (a .query .now) (a .words .now) (a .budget) (a .cells .now)) (a .cells .now) after r
+top c w = let s = start c in walked-top (s .args .words .now) (s .args .query .now) (s .args .budget) (s .pre .0) (s .pre .1 .tree) (some-words c) w
+
+-- a pass begins
+begun : (c : Pass)
+    → let e = passes c .before in
+    let a = start e .args in
+    Begun (a .query .now) (a .tables .now) (drop 1 (a .words .now)) (a .budget) noPosition (a .cells .now) 0
+    First (e .before .before .passes .result) (e .reserve .result) (e .reserve .last .0)
+    (passes c .loop .cells) (passes c .loop .n) (passes c .loop .j) (passes c .loop .n + 1) (c .begin .result) (c .begin .last .1 .1 .0)
+begun c =
+    let t = c .before .before .before in
+    record {
+      entry = entry (passes c .before);
+      between = passes c .loop .inv;
+      more = t .loop-test .taken;
+      counted = inl (refl, unused (passes c .before) (t .loop-test .taken), omega (arith, c .before .before .if2 .left), refl);
+      head = c .begin .ensures .0;
+      stored = c .begin .ensures .1;
+    }
+
+returns : tie.Need-returns Inv-loop μ-loop
+returns c =
+    let a = c .before .before .before .before .args in
+    walked-missed (top-none (a .words .now) (a .query .now) (upTo (a .budget)) (stateOf noPosition (a .cells .now)) 0 (c .if1 .taken)) refl
+
+passes-requires : tie.Need-passes-requires Inv-loop μ-loop
+passes-requires c κs = search needs
+
+reserve-requires : tie.Need-reserve-requires Inv-loop μ-loop
+reserve-requires c κs =
+    let s = c .before .before .before .before .before .before in
+    (s .pre .2 .size, walkable-literals (s .pre .2), λ z. omega (arith, s .pre .3))
+
+loop-holds : tie.Need-loop-holds Inv-loop μ-loop
+loop-holds c = entry-start (entry c)
+
+returns-2 : tie.Need-returns-2 Inv-loop μ-loop
+returns-2 c =
+    let l = c .before .before in
+    let e = l .before in
+    top e (between-spent (entry e) (l .loop .inv) refl (c .before .loop-test .taken) (unused e (c .before .loop-test .taken)) (omega (arith, c .if2 .taken)))
+
+add-n : tie.Need-add-n Inv-loop μ-loop
+add-n c = search needs
+
+begin-requires : tie.Need-begin-requires Inv-loop μ-loop
+begin-requires c κs =
+    let l = c .before .before .before in
+    let e = entry (l .before) in
+    (e .ready .whole, e .ready .tables, between-size e (l .loop .inv), between-literal e (l .loop .inv) (c .before .before .loop-test .taken))
+
+walk-head-requires : tie.Need-walk-head-requires Inv-loop μ-loop
+walk-head-requires c κs =
+    let p = c .before in
+    let e = passes p .before in
+    let s = start e in
+    let r = begun-ready (begun p) in
+    (s .pre .0, s .pre .1, r .0, r .1, some-words e)
+
+enum-told : tie.Need-enum-told Inv-loop μ-loop
+enum-told c = search needs
+
+returns-3 : tie.Need-returns-3 Inv-loop μ-loop
+returns-3 c =
+    let b = c .before in
+    let p = b .before .before in
+    let nm : (b .walk-head .result .end ≡ Missed → ⊥) = λ m. let h = c .match .keys2 in miss (1 ∷ 2 ∷ 3 ∷ []) 0 tt (rw m at h) in
+    top (passes p .before) (pass-ends (begun p) (begun-ready (begun p) .0 .size) nm refl (b .walk-head .ensures))
+
+add-j : tie.Need-add-j Inv-loop μ-loop
+add-j c = search needs
+
+loop-less : tie.Need-loop-less Inv-loop μ-loop
+loop-less c = search needs
+
+loop-again : tie.Need-loop-again Inv-loop μ-loop
+loop-again c =
+    let b = c .before .before in
+    let p = b .before .before in
+    let w = b .walk-head .ensures in
+    let m = c .enum-told .given .1 in
+    pass-missed (begun p) (missed-of _ _ _ _ m (w .comes)) (w .back m)
+
+release-requires : tie.Need-release-requires Inv-loop μ-loop
+release-requires c κs = let l = c .before .before in let e = entry (l .before) in (between-size e (l .loop .inv), between-room e (l .loop .inv))
+
+returns-4 : tie.Need-returns-4 Inv-loop μ-loop
+returns-4 c =
+    let l = c .before .before .before in
+    let e = l .before in
+    top e (between-ends (entry e) (l .loop .inv) (omega arith) (c .release .ensures))
+
+pub walk-heads-spec : {M : Type 1} → statement M
+walk-heads-spec =
+    tie.close
+    (tie.spec
+    Inv-loop
+    μ-loop
+    returns
+    passes-requires
+    reserve-requires
+    loop-holds
+    returns-2
+    add-n
+    begin-requires
+    walk-head-requires
+    enum-told
+    returns-3
+    add-j
+    loop-less
+    loop-again
+    release-requires
+    returns-4)
