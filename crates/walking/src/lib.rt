@@ -1,6 +1,7 @@
 // The walk over the words of a tree (docs/REFERENCE.md, "Calls").
 mod below;
 mod by_head;
+mod head;
 
 pub use below::walk_top;
 pub use by_head::walk_heads;

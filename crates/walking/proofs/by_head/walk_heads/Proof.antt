@@ -26,7 +26,7 @@ use Rattle.cells.proofs.begin.Reads as begin-reads
 use Rattle.cells.proofs.passes.Reads as passes-reads
 use Rattle.cells.proofs.release.Reads as release-reads
 use Rattle.cells.proofs.reserve.Reads as reserve-reads
-use Rattle.walking.proofs.by_head.walk_head.Reads as walk-head-reads
+use Rattle.walking.proofs.head.walk_head.Reads as walk-head-reads
 
 abbrev Inv-loop : tie.InvT-loop
 Inv-loop words heads query tables cells₀ budget n₀ last saved j₀ cells n j = Between query (drop 1 words) budget noPosition n₀ First last saved cells₀ cells n j

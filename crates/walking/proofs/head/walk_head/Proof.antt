@@ -14,10 +14,10 @@ use Rattle.cells.proofs.Places.{few-words}
 use Rattle.stepping.proofs.Visits.{head-some}
 use Rattle.walking.proofs.Passes.{walked-missed}
 use Rattle.walking.proofs.ByHead.{row-of, entry-place, head-missed, head-found, walked-step}
-use Rattle.walking.proofs.by_head.walk_head.Statement.{statement}
-use Rattle.walking.proofs.by_head.walk_head.Tie as tie
-use Rattle.walking.proofs.by_head.walk_head.Reads as reads
-use Rattle.walking.proofs.by_head.walk_head.Lts as lts
+use Rattle.walking.proofs.head.walk_head.Statement.{statement}
+use Rattle.walking.proofs.head.walk_head.Tie as tie
+use Rattle.walking.proofs.head.walk_head.Reads as reads
+use Rattle.walking.proofs.head.walk_head.Lts as lts
 use Rattle.tree.proofs.extent.Reads as extent-reads
 use Rattle.walking.proofs.below.walk.Reads as walk-reads
 
