@@ -35,7 +35,7 @@ use Rattle.tree.proofs.ByWords.{insertion-words}
 use Rattle.merging.specs.inner.Inserting.{Mergeable}
 use Rattle.merging.proofs.KeysOf.{keys-few}
 use Rattle.merging.proofs.UsedWords.{number-free}
-use Rattle.walk.specs.Query.{witnessWords, Asked, unanswered, queryAs, query}
+use Rattle.walk.specs.Query.{witnessWords, unanswered, queryAs, query}
 use Rattle.walk.specs.declared.QueryAnswer.{QueryAnswer}
 use Rattle.walk.specs.declared.QueryAnswer.the-variants.{Unanswered, Covered, NotCovered}
 use Rattle.readback.specs.Saved.{ofClauses, pairsOf}

@@ -1,24 +1,23 @@
 -- From record to record the index is that of the slice: it stays, or it is made anew.
 use mathlib.Core.Path.{_≡_, refl, sym, ap, subst, _∙_}
 use mathlib.Core.Bool.{true}
-use mathlib.Core.List.{List, [], _∷_, map, List·Memᴰ, List·Memᴰ·tail}
-use Prim.Native.Nat.{ℕ, _≤_, _<_}
-use native.Mathlib.Omega.{arith}
+use mathlib.Core.List.{List, [], List·Memᴰ, List·Memᴰ·tail}
+use Prim.Native.Nat.{ℕ, _≤_}
 use lib.ListN.{length, getD, take, replicate, length-replicate, getD-replicate}
 use Rattle.clause.specs.Clause.{Accepted}
 use Rattle.clause.specs.Word.{Words}
 use Rattle.machine.specs.Compile.{keys}
-use Rattle.tree.specs.Forest.{Forest, Has}
+use Rattle.tree.specs.Forest.{Has}
 use Rattle.tree.specs.Laid.{sized, wellLaid, decode, region}
 use Rattle.tree.specs.Entries.{Pair, entry}
 use Rattle.tree.proofs.Pairs.{kept-pair, pair-kept}
-use Rattle.heads.specs.inner.Heads.{entryCount, placeOf, topRow, headAt, Headed, IndexOf, SpareFor, Indexed, Renewable}
-use Rattle.heads.proofs.Paths.{Begins, begins, more-heads}
+use Rattle.heads.specs.inner.Heads.{entryCount, placeOf, topRow, headAt, Headed, Indexed, Renewable}
+use Rattle.heads.proofs.Paths.{begins, more-heads}
 use Rattle.walk.proofs.Heads.{kept-headed}
 use Rattle.merging.specs.inner.Inserting.{Leading}
 use Rattle.merging.proofs.Below.{entry-leads}
 use Rattle.book.specs.Book.{bookFrom, treeOf}
-use Rattle.record.specs.Answer.{treeWords, Record, Answered, answerTo, callsFor}
+use Rattle.record.specs.Answer.{treeWords, Record, answerTo, callsFor}
 use Rattle.record.specs.Ruled.{withoutAll}
 use Rattle.record.specs.declared.Setting.{Setting}
 use Rattle.record.specs.declared.Came.{Came}

@@ -2,14 +2,14 @@
 use mathlib.Core.Path.{_≡_, refl, sym, ap, _∙_}
 use mathlib.Core.Logic.{_≢_}
 use mathlib.Core.Bool.{true}
-use mathlib.Core.List.{List, [], _∷_, _++_, append-nil}
-use Prim.Native.Nat.{ℕ, zero, suc, _+_, _-_, _%_, _≤_, _<_}
+use mathlib.Core.List.{List, [], _∷_, append-nil}
+use Prim.Native.Nat.{ℕ, suc, _+_, _-_, _%_, _≤_, _<_}
 use native.Mathlib.Omega.{arith}
 use native.Mathlib.Decide.{ℕ-discrete}
 use lib.Dec.{T}
 use lib.ListN.{length, getD, take, drop, set, length-set, length-drop, drop-of-length-le}
 use lib.Seq.{getD-set-same, getD-set-other}
-use Rattle.machine.specs.Instr.{First, operands, instr, key}
+use Rattle.machine.specs.Instr.{operands, instr, key}
 use Rattle.tree.specs.Keys.{nextKey}
 use Rattle.tree.specs.Forest.{Forest, empty, node, size, encode, Formed, WellFormed}
 use Rattle.tree.specs.Laid.{mostWords, keyOf, extentOf, usedOf, region, sized, wellLaid, parse, decode}

@@ -2,20 +2,20 @@
 use mathlib.Core.Path.{_≡_, refl, sym, ap, _∙_}
 use mathlib.Core.Logic.{_≢_}
 use mathlib.Core.Bool.{Bool, true, false, cond}
-use mathlib.Core.List.{List, [], _∷_, _++_, map}
-use Prim.Native.Nat.{ℕ, zero, suc, _+_, _%_, _≤_, _<_}
+use mathlib.Core.List.{List, [], _∷_}
+use Prim.Native.Nat.{ℕ, suc, _+_, _≤_, _<_}
 use native.Mathlib.Omega.{arith}
 use native.Mathlib.Decide.{ℕ-discrete}
 use lib.Dec.{ltb}
 use lib.ListN.{length, drop}
-use Rattle.clause.specs.Lists.{All, also}
-use Rattle.clause.specs.Word.{Sort, symbol, variable, head, wrong, sort, arity, ifVariable, Words}
+use Rattle.clause.specs.Lists.{also}
+use Rattle.clause.specs.Word.{Sort, symbol, variable, head, wrong, sort, arity, Words}
 use Rattle.clause.specs.Clause.{Accepted, maxWords, shape, scan, scanWord}
 use Rattle.clause.specs.declared.Fault.the-variants.{BadLength}
 use Rattle.clause.specs.declared.Shape.{Shape}
 use Rattle.clause.specs.declared.Shape.the-variants.{Faulty, Whole}
 use Rattle.clause.proofs.Apart.{apart}
-use Rattle.machine.specs.Instr.{First, operands, instr, key}
+use Rattle.machine.specs.Instr.{First, instr, key}
 use Rattle.machine.specs.Compile.{keys, sequence, sequenceFrom, opening, act}
 use Rattle.tree.specs.Keys.{nextKey}
 use Rattle.tree.specs.Forest.{Forest, empty, node, size, Formed, Has, deeper, further}

@@ -1,15 +1,14 @@
 -- Where the siblings of a row stand, and what stands below them.
 use mathlib.Core.Path.{_≡_, refl, sym, ap, _∙_}
 use mathlib.Core.Logic.{_≢_}
-use mathlib.Core.Bool.{true, false}
-use mathlib.Core.List.{List, [], _∷_, _++_}
-use Prim.Native.Nat.{ℕ, zero, suc, _+_, _-_, _≤_, _<_}
+use mathlib.Core.List.{List, _∷_, _++_}
+use Prim.Native.Nat.{ℕ, suc, _+_, _-_, _≤_, _<_}
 use native.Mathlib.Omega.{arith}
 use native.Mathlib.Decide.{ℕ-discrete}
-use lib.ListN.{length, getD, take, drop, length-append, length-drop}
+use lib.ListN.{length, getD, take, drop, length-drop}
 use lib.Seq.{take-at, drop-at, drop-drop, drop-cons}
 use borrow.Author.Tests.{eq-eqb, ne-eqb}
-use Rattle.tree.specs.Keys.{firstKey, nextKey}
+use Rattle.tree.specs.Keys.{nextKey}
 use Rattle.tree.specs.Forest.{Forest, empty, node, size, word, encode, extentLimit, Formed}
 use Rattle.tree.specs.Laid.{keyOf, extentOf}
 use Rattle.tree.proofs.Words.{key-word, extent-word, length-encode}

@@ -2,7 +2,7 @@
 use Prim.Native.Nat.{ℕ, _+_, _-_, _≤_, _<_}
 use mathlib.Core.Path.{_≡_, refl, sym, ap, _∙_}
 use mathlib.Core.Bool.{Bool, true, false}
-use mathlib.Core.List.{List, [], _∷_}
+use mathlib.Core.List.{List}
 use native.Mathlib.Omega.{arith}
 use lib.Dec.{T, leb→le}
 use lib.ListN.{length, getD, take, drop, set, replicate, length-replicate}
@@ -18,7 +18,7 @@ use Rattle.machine.specs.Machine.{State, initial, unfilled}
 use Rattle.machine.proofs.Safe.{initial-safe}
 use Rattle.tree.specs.declared.Refusal.{Refusal}
 use Rattle.tree.specs.declared.Refusal.the-variants.{BadSlice, Broken, ShortWitness}
-use Rattle.tree.specs.Laid.{usedOf, region, sized, wellLaid}
+use Rattle.tree.specs.Laid.{usedOf, sized, wellLaid}
 use Rattle.tree.proofs.Grow.{sized-low, laid-room}
 use Rattle.heads.proofs.Noting.{used-part}
 use Rattle.walk.specs.declared.QueryAnswer.{QueryAnswer}

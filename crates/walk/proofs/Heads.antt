@@ -1,5 +1,5 @@
 -- A row of different Checks is walked as the one with the word at the head; and the trees of clauses have such a row below their First.
-use mathlib.Core.Path.{_≡_, refl, sym, ap, _∙_}
+use mathlib.Core.Path.{_≡_, refl, ap, _∙_}
 use mathlib.Core.Logic.{_≢_}
 use mathlib.Core.Bool.{Bool}
 use mathlib.Core.Option.{some}
@@ -13,7 +13,7 @@ use Rattle.clause.specs.Lists.{All}
 use Rattle.clause.specs.Clause.{literals}
 use Rattle.clause.proofs.Lists.{all-mem}
 use Rattle.machine.specs.Instr.{Check, First, Do, operands, instr, key, instrOf}
-use Rattle.machine.specs.Machine.{State, Effect, next, fails, step, stepFrom, stepAt, require}
+use Rattle.machine.specs.Machine.{State, step, stepFrom, stepAt, require}
 use Rattle.machine.proofs.Keys.{instrOf-first, instrOf-step}
 use Rattle.tree.specs.Keys.{nextKey}
 use Rattle.tree.specs.Forest.{Forest, empty, node, Formed, Has, deeper}
@@ -23,8 +23,8 @@ use Rattle.tree.proofs.Pairs.{kept-pair}
 use Rattle.tree.proofs.Mirror.{same-book, mirrors-empty}
 use Rattle.heads.specs.inner.Heads.{belowKey, Checks, Headed, nothing, headed}
 use Rattle.heads.proofs.Places.{below-here, below-later, below-absent}
-use Rattle.heads.proofs.Paths.{Begins, begins, checks-of}
-use Rattle.walk.specs.Walk.{Machine, Answer, covered, notCovered, spent, broken, Part, andThen, tries, visitAt, visit, walk}
+use Rattle.heads.proofs.Paths.{begins, checks-of}
+use Rattle.walk.specs.Walk.{Answer, covered, notCovered, spent, broken, Part, andThen, tries, visit, walk}
 use Rattle.walk.specs.Query.{machine}
 use Rattle.walk.proofs.Kept.{one-first}
 

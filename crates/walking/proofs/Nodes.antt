@@ -14,7 +14,7 @@ use Rattle.machine.specs.Instr.{Instr, First, Do, Success, instruction, instrOf
 use Rattle.machine.specs.Machine.{State, Effect, next, fails, stuck, step, enter, finish, require}
 use Rattle.tree.specs.Keys.{firstKey}
 use Rattle.tree.specs.Laid.{keyOf, extentOf}
-use Rattle.walk.specs.Walk.{Answer, covered, notCovered, spent, broken, Part, andThen, follow, tries, visitAt, upTo}
+use Rattle.walk.specs.Walk.{covered, notCovered, broken, Part, andThen, follow, tries, visitAt, upTo}
 use Rattle.walk.specs.Words.{extends, walkWords}
 use Rattle.walk.specs.Query.{machine}
 use Rattle.cells.specs.inner.Cells.{entered}

@@ -1,5 +1,5 @@
 -- `reindex` meets its contract: the entries stay, or the places are noted anew, after a removal over no entries.
-use mathlib.Core.Path.{_≡_, sym, ap, _∙_}
+use mathlib.Core.Path.{_∙_}
 use mathlib.Core.List.{[], _∷_}
 use mathlib.Core.Logic.{⊎-elim}
 use native.Mathlib.Omega.{arith}

@@ -1,12 +1,12 @@
 -- `walk_heads` meets its contract: over the candidates the invariant is that of the passes below a First, `Between`.
-use mathlib.Core.Path.{_≡_, refl, sym, _∙_}
+use mathlib.Core.Path.{_≡_, refl, _∙_}
 use mathlib.Core.Logic.{inl}
 use mathlib.Core.Bool.{false}
 use mathlib.Core.List.{List, [], _∷_}
 use Prim.Native.Nat.{ℕ, _+_, _-_, _≤_, _<_}
 use types.Run.{miss}
 use native.Mathlib.Omega.{arith}
-use lib.ListN.{length, getD, drop}
+use lib.ListN.{length, drop}
 use borrow.Author.Needs.{needs}
 use Rattle.walk.specs.Walk.{upTo}
 use Rattle.cells.specs.inner.Cells.{noPosition, aboveOf, stateOf, hasBit}

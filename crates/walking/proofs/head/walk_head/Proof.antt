@@ -9,7 +9,7 @@ use Rattle.heads.specs.inner.Heads.{entryCount}
 use Rattle.walk.specs.Walk.{upTo}
 use Rattle.walk.specs.Words.{walkWords}
 use Rattle.walk.specs.Query.{machine}
-use Rattle.cells.specs.inner.Cells.{noPosition, stateOf}
+use Rattle.cells.specs.inner.Cells.{stateOf}
 use Rattle.cells.proofs.Places.{few-words}
 use Rattle.stepping.proofs.Visits.{head-some}
 use Rattle.walking.proofs.Passes.{walked-missed}
