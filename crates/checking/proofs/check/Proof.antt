@@ -45,14 +45,8 @@ tested c =
     let e = c .before .before .before .before in
     rw (c .before .before .used .ensures) at (c .of-clauses .ensures) ∙ lent-test _ (right-size (e .before .before)) (laid e)
 
-sized-requires : tie.Need-sized-requires
-sized-requires c κs = search needs
-
 returns : tie.Need-returns
 returns c = sym (check-bad _ (sym (c .before .sized .ensures) ∙ not-true _ (c .if1 .taken)))
-
-well-laid-requires : tie.Need-well-laid-requires
-well-laid-requires c κs = search needs
 
 returns-2 : tie.Need-returns-2
 returns-2 c = sym (check-broken _ (right-size (c .before .before)) (sym (c .before .well-laid .ensures) ∙ not-true _ (c .if2 .taken)))
@@ -60,19 +54,10 @@ returns-2 c = sym (check-broken _ (right-size (c .before .before)) (sym (c .befo
 shared-slice-read-used : tie.Need-shared-slice-read-used
 shared-slice-read-used c = let e = c .before .before .before in omega (arith, sized-low (e .before .before .before .args .tree .now) (right-size e))
 
-used-requires : tie.Need-used-requires
-used-requires c κs = search needs
-
 add-end : tie.Need-add-end
 add-end c =
     let e = c .before .before in
     omega (arith, laid-room (e .before .before .before .before .before .args .tree .now) (laid e), c .used .ensures)
-
-sub-of-clauses : tie.Need-sub-of-clauses
-sub-of-clauses c = search needs
-
-part-of-clauses-start : tie.Need-part-of-clauses-start
-part-of-clauses-start c = search needs
 
 part-of-clauses-end : tie.Need-part-of-clauses-end
 part-of-clauses-end c =
@@ -100,17 +85,5 @@ returns-4 c =
 pub check-spec : {M : Type 1} → statement M
 check-spec =
     tie.close
-    (tie.spec
-    sized-requires
-    returns
-    well-laid-requires
-    returns-2
-    shared-slice-read-used
-    used-requires
-    add-end
-    sub-of-clauses
-    part-of-clauses-start
-    part-of-clauses-end
-    of-clauses-requires
-    returns-3
-    returns-4)
+    (tie.spec (λ c κs. search needs) returns (λ c κs. search needs) returns-2 shared-slice-read-used (λ c κs. search needs) add-end
+    (λ c. search needs) (λ c. search needs) part-of-clauses-end of-clauses-requires returns-3 returns-4)

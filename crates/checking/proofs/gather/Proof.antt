@@ -50,9 +50,6 @@ next-success-requires c κs =
     let g = l .loop .inv in
     (l .before .before .before .pre .0, g .inside, g .few, g .keys-length, g .ends-length)
 
-enum-told : tie.Need-enum-told Inv-loop μ-loop
-enum-told c = search needs
-
 same-length : tie.Need-same-length Inv-loop μ-loop
 same-length c = c .before .before .before .before .before .before .before .before .loop .inv .places
 
@@ -60,9 +57,6 @@ returns : tie.Need-returns Inv-loop μ-loop
 returns c =
     let n = c .before .before .before .before in
     going-end (n .before .before .before .before .loop .inv) (rw (c .enum-told .given .1) at (n .next-success .ensures))
-
-enum-told-2 : tie.Need-enum-told-2 Inv-loop μ-loop
-enum-told-2 c = search needs
 
 same-length-2 : tie.Need-same-length-2 Inv-loop μ-loop
 same-length-2 c = c .before .before .before .before .before .before .before .before .loop .inv .places
@@ -72,17 +66,11 @@ returns-2 c =
     let n = c .before .before .before .before in
     going-deep (n .before .before .before .before .loop .inv) (rw (c .enum-told2 .given .1) at (n .next-success .ensures))
 
-enum-known-ahead : tie.Need-enum-known-ahead Inv-loop μ-loop
-enum-known-ahead c = search needs
-
 array-share-prefix-keys : tie.Need-array-share-prefix-keys Inv-loop μ-loop
 array-share-prefix-keys c = omega (arith, came (c .before) .2)
 
 slice-aggregate-is-path : tie.Need-slice-aggregate-is-path Inv-loop μ-loop
 slice-aggregate-is-path c = let h = came (c .before .before) in sym (length-take-le _ _ (omega (arith, h .2, h .5)))
-
-is-path-requires : tie.Need-is-path-requires Inv-loop μ-loop
-is-path-requires c κs = search needs
 
 same-length-3 : tie.Need-same-length-3 Inv-loop μ-loop
 same-length-3 c =
@@ -100,23 +88,14 @@ mul-key c = let h = came (c .before .before .before .before) in search (needs, h
 shared-slice-read-key : tie.Need-shared-slice-read-key Inv-loop μ-loop
 shared-slice-read-key c = came (c .before .before .before .before .before) .1
 
-key-requires : tie.Need-key-requires Inv-loop μ-loop
-key-requires c κs = search needs
-
 cast-numbers : tie.Need-cast-numbers Inv-loop μ-loop
 cast-numbers c = let h = came (c .before .before .before .before .before .before) in omega (arith, h .4, c .key .ensures)
-
-mul-numbers : tie.Need-mul-numbers Inv-loop μ-loop
-mul-numbers c = search needs
 
 slice-write-numbers : tie.Need-slice-write-numbers Inv-loop μ-loop
 slice-write-numbers c =
     let a = c .before .before .before .before .before .before in
     let l = a .before .before .before .before .before .before .before .before in
     going-room (l .loop .inv) _ _ _ _ (came a)
-
-add-count : tie.Need-add-count Inv-loop μ-loop
-add-count c = search needs
 
 add-at : tie.Need-add-at Inv-loop μ-loop
 add-at c = omega (arith, came (c .before .before .before .before .before .before) .1)
@@ -140,34 +119,7 @@ returns-4 c = going-over (c .before .loop .inv) (omega arith)
 pub gather-spec : {M : Type 1} → statement M
 gather-spec =
     tie.close
-    (tie.spec
-    Inv-loop
-    μ-loop
-    loop-holds
-    slice-aggregate-next-success
-    slice-aggregate-next-success-2
-    next-success-requires
-    enum-told
-    same-length
-    returns
-    enum-told-2
-    same-length-2
-    returns-2
-    enum-known-ahead
-    array-share-prefix-keys
-    slice-aggregate-is-path
-    is-path-requires
-    same-length-3
-    returns-3
-    mul-key
-    shared-slice-read-key
-    key-requires
-    cast-numbers
-    mul-numbers
-    slice-write-numbers
-    add-count
-    add-at
-    loop-less
-    loop-again
-    same-length-4
-    returns-4)
+    (tie.spec Inv-loop μ-loop loop-holds slice-aggregate-next-success slice-aggregate-next-success-2 next-success-requires (λ c. search needs)
+    same-length returns (λ c. search needs) same-length-2 returns-2 (λ c. search needs) array-share-prefix-keys slice-aggregate-is-path
+    (λ c κs. search needs) same-length-3 returns-3 mul-key shared-slice-read-key (λ c κs. search needs) cast-numbers (λ c. search needs)
+    slice-write-numbers (λ c. search needs) add-at loop-less loop-again same-length-4 returns-4)

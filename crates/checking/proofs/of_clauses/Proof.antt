@@ -24,18 +24,6 @@ numbers : (c : lts.After-gathered rs reads.Pre reads.Post)
     Gathers (scan (g .before .before .before .args .words .now) 0 []) (Numbers (c .gathered .given .0 .0)) (g .gather .last .1 .0)
 numbers c = rw (c .gathered .given .1) at (c .before .before .before .gather .ensures)
 
-slice-aggregate-gather : tie.Need-slice-aggregate-gather
-slice-aggregate-gather c = search needs
-
-gather-requires : tie.Need-gather-requires
-gather-requires c κs = search needs
-
-enum-known-gathered : tie.Need-enum-known-gathered
-enum-known-gathered c = search needs
-
-enum-told : tie.Need-enum-told
-enum-told c = search needs
-
 returns : tie.Need-returns
 returns c =
     let g = c .before .before .before in
@@ -47,9 +35,6 @@ array-share-prefix-numbers c = omega (arith, numbers (c .before) .1, c .before .
 slice-aggregate-all-differ : tie.Need-slice-aggregate-all-differ
 slice-aggregate-all-differ c = sym (length-take-le _ _ (numbers (c .before .before) .1))
 
-all-differ-requires : tie.Need-all-differ-requires
-all-differ-requires c κs = search needs
-
 returns-2 : tie.Need-returns-2
 returns-2 c =
     let n = c .before .before .before in
@@ -59,13 +44,5 @@ returns-2 c =
 pub of-clauses-spec : {M : Type 1} → statement M
 of-clauses-spec =
     tie.close
-    (tie.spec
-    slice-aggregate-gather
-    gather-requires
-    enum-known-gathered
-    enum-told
-    returns
-    array-share-prefix-numbers
-    slice-aggregate-all-differ
-    all-differ-requires
-    returns-2)
+    (tie.spec (λ c. search needs) (λ c κs. search needs) (λ c. search needs) (λ c. search needs) returns array-share-prefix-numbers
+    slice-aggregate-all-differ (λ c κs. search needs) returns-2)

@@ -44,9 +44,6 @@ next-success-requires c κs =
     let g = l .loop .inv in
     (l .before .before .before .pre .0, g .inside, g .few, g .keys-length, g .ends-length)
 
-enum-told : tie.Need-enum-told Inv-loop μ-loop
-enum-told c = search needs
-
 same-length : tie.Need-same-length Inv-loop μ-loop
 same-length c =
     let k = c .before .before .before .before in
@@ -57,9 +54,6 @@ returns : tie.Need-returns Inv-loop μ-loop
 returns c =
     let n = c .before .before .before .before .before in
     seeking-end (n .before .before .before .before .loop .inv) (rw (c .enum-told .given .1) at (n .next-success .ensures))
-
-enum-told-2 : tie.Need-enum-told-2 Inv-loop μ-loop
-enum-told-2 c = search needs
 
 same-length-2 : tie.Need-same-length-2 Inv-loop μ-loop
 same-length-2 c =
@@ -72,17 +66,11 @@ returns-2 c =
     let n = c .before .before .before .before .before in
     seeking-deep (n .before .before .before .before .loop .inv) (rw (c .enum-told2 .given .1) at (n .next-success .ensures))
 
-enum-known-ahead : tie.Need-enum-known-ahead Inv-loop μ-loop
-enum-known-ahead c = search needs
-
 mul-key : tie.Need-mul-key Inv-loop μ-loop
 mul-key c = let h = came (c .before) in search (needs, h .1)
 
 shared-slice-read-key : tie.Need-shared-slice-read-key Inv-loop μ-loop
 shared-slice-read-key c = came (c .before .before) .1
-
-key-requires : tie.Need-key-requires Inv-loop μ-loop
-key-requires c κs = search needs
 
 same-length-3 : tie.Need-same-length-3 Inv-loop μ-loop
 same-length-3 c =
@@ -117,26 +105,6 @@ returns-4 c = seeking-over (c .before .loop .inv) (omega arith)
 pub path-to-spec : {M : Type 1} → statement M
 path-to-spec =
     tie.close
-    (tie.spec
-    Inv-loop
-    μ-loop
-    loop-holds
-    slice-aggregate-next-success
-    next-success-requires
-    enum-told
-    same-length
-    returns
-    enum-told-2
-    same-length-2
-    returns-2
-    enum-known-ahead
-    mul-key
-    shared-slice-read-key
-    key-requires
-    same-length-3
-    returns-3
-    add-at
-    loop-less
-    loop-again
-    same-length-4
-    returns-4)
+    (tie.spec Inv-loop μ-loop loop-holds slice-aggregate-next-success next-success-requires (λ c. search needs) same-length returns
+    (λ c. search needs) same-length-2 returns-2 (λ c. search needs) mul-key shared-slice-read-key (λ c κs. search needs) same-length-3 returns-3
+    add-at loop-less loop-again same-length-4 returns-4)

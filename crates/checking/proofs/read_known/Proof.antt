@@ -32,37 +32,19 @@ path c =
 shared-slice-read-used : tie.Need-shared-slice-read-used
 shared-slice-read-used c = let s = c .before .before .before in omega (arith, sized-low (s .args .tree .now) (passed-sized _ (s .pre .0)))
 
-used-requires : tie.Need-used-requires
-used-requires c κs = search needs
-
 add-end : tie.Need-add-end
 add-end c =
     let s = c .before .before .before .before in omega (arith, laid-room (s .args .tree .now) (passed-laid _ (s .pre .0)), c .used .ensures)
 
-sub-path-to : tie.Need-sub-path-to
-sub-path-to c = search needs
-
-part-path-to-start : tie.Need-part-path-to-start
-part-path-to-start c = search needs
-
 part-path-to-end : tie.Need-part-path-to-end
 part-path-to-end c =
     let s = c .before .before .before .before in omega (arith, laid-room (s .args .tree .now) (passed-laid _ (s .pre .0)), c .used .ensures)
-
-slice-aggregate-path-to : tie.Need-slice-aggregate-path-to
-slice-aggregate-path-to c = search needs
 
 path-to-requires : tie.Need-path-to-requires
 path-to-requires c κs =
     let s = c .before .before .before .before .before .before in
     let p = s .pre .0 in
     rw (c .before .before .used .ensures) (lent-nested _ (passed-sized _ p) (passed-laid _ p), passed-clauses _ p, refl)
-
-enum-known-found : tie.Need-enum-known-found
-enum-known-found c = search needs
-
-enum-told : tie.Need-enum-told
-enum-told c = search needs
 
 returns : tie.Need-returns
 returns c =
@@ -76,27 +58,12 @@ array-share-prefix-keys c = omega (arith, path (c .before) .0, c .before .before
 slice-aggregate-read-off : tie.Need-slice-aggregate-read-off
 slice-aggregate-read-off c = sym (length-take-le _ _ (path (c .before .before) .0))
 
-read-off-requires : tie.Need-read-off-requires
-read-off-requires c κs = search needs
-
-enum-known-read : tie.Need-enum-known-read
-enum-known-read c = search needs
-
-enum-told-2 : tie.Need-enum-told-2
-enum-told-2 c = search needs
-
-same-length : tie.Need-same-length
-same-length c = search needs
-
 returns-2 : tie.Need-returns-2
 returns-2 c =
     let r = c .before .before .before .before in
     let f = r .before .before .before .before in
     let s = f .before .before .before .before .before .before .before .before .before .before in
     read-foreign _ (s .pre .0) _ _ (path f .1) (rw (c .enum-told2 .given .1) at (r .read-off .ensures))
-
-same-length-2 : tie.Need-same-length-2
-same-length-2 c = search needs
 
 returns-3 : tie.Need-returns-3
 returns-3 c =
@@ -108,24 +75,6 @@ returns-3 c =
 pub read-known-spec : {M : Type 1} → statement M
 read-known-spec =
     tie.close
-    (tie.spec
-    shared-slice-read-used
-    used-requires
-    add-end
-    sub-path-to
-    part-path-to-start
-    part-path-to-end
-    slice-aggregate-path-to
-    path-to-requires
-    enum-known-found
-    enum-told
-    returns
-    array-share-prefix-keys
-    slice-aggregate-read-off
-    read-off-requires
-    enum-known-read
-    enum-told-2
-    same-length
-    returns-2
-    same-length-2
-    returns-3)
+    (tie.spec shared-slice-read-used (λ c κs. search needs) add-end (λ c. search needs) (λ c. search needs) part-path-to-end (λ c. search needs)
+    path-to-requires (λ c. search needs) (λ c. search needs) returns array-share-prefix-keys slice-aggregate-read-off (λ c κs. search needs)
+    (λ c. search needs) (λ c. search needs) (λ c. search needs) returns-2 (λ c. search needs) returns-3)

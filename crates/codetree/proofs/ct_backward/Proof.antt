@@ -8,18 +8,6 @@ use borrow.Author.Needs.{needs}
 use Rattle.codetree.proofs.ct_backward.Statement.{statement}
 use Rattle.codetree.proofs.ct_backward.Tie as tie
 
-backward-requires : tie.Need-backward-requires
-backward-requires c κs = search needs
-
-hand-back-requires : tie.Need-hand-back-requires
-hand-back-requires c κs = search needs
-
-same-length : tie.Need-same-length
-same-length c = search needs
-
-same-length-2 : tie.Need-same-length-2
-same-length-2 c = search needs
-
 returns : tie.Need-returns
 unfolding ctBackward
 returns c =
@@ -29,4 +17,5 @@ returns c =
 
 pub ct-backward-spec : {M : Type 1} → statement M
 ct-backward-spec =
-    tie.close (tie.spec backward-requires hand-back-requires same-length same-length-2 returns)
+    tie.close
+    (tie.spec (λ c κs. search needs) (λ c κs. search needs) (λ c. search needs) (λ c. search needs) returns)

@@ -7,15 +7,6 @@ use borrow.Author.Needs.{needs}
 use Rattle.codetree.proofs.ct_ceiling.Statement.{statement}
 use Rattle.codetree.proofs.ct_ceiling.Tie as tie
 
-ceiling-requires : tie.Need-ceiling-requires
-ceiling-requires c κs = search needs
-
-hand-ceiling-requires : tie.Need-hand-ceiling-requires
-hand-ceiling-requires c κs = search needs
-
-same-length : tie.Need-same-length
-same-length c = search needs
-
 returns : tie.Need-returns
 unfolding ctCeiling
 returns c =
@@ -24,4 +15,6 @@ returns c =
     c .before .before .hand-ceiling .ensures ∙ ap (λ y. replied (saidCeiling y) (c6 .args .told .now)) (c4 .ceiling .ensures)
 
 pub ct-ceiling-spec : {M : Type 1} → statement M
-ct-ceiling-spec = tie.close (tie.spec ceiling-requires hand-ceiling-requires same-length returns)
+ct-ceiling-spec =
+    tie.close
+    (tie.spec (λ c κs. search needs) (λ c κs. search needs) (λ c. search needs) returns)

@@ -8,16 +8,12 @@ use borrow.Author.Needs.{needs}
 use Rattle.codetree.proofs.ct_check.Statement.{statement}
 use Rattle.codetree.proofs.ct_check.Tie as tie
 
-check-requires : tie.Need-check-requires
-check-requires c κs = search needs
-
-hand-check-requires : tie.Need-hand-check-requires
-hand-check-requires c κs = search needs
-
 returns : tie.Need-returns
 unfolding ctCheck
 returns c =
     (c .hand-check .ensures ∙ ap (λ a. numberOf (saidCheck a .title)) (c .before .check .ensures), (ct-checked, ct-reads-book, ct-saved-is-made))
 
 pub ct-check-spec : {M : Type 1} → statement M
-ct-check-spec = tie.close (tie.spec check-requires hand-check-requires returns)
+ct-check-spec =
+    tie.close
+    (tie.spec (λ c κs. search needs) (λ c κs. search needs) returns)

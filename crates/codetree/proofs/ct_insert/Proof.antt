@@ -7,18 +7,6 @@ use borrow.Author.Needs.{needs}
 use Rattle.codetree.proofs.ct_insert.Statement.{statement}
 use Rattle.codetree.proofs.ct_insert.Tie as tie
 
-insert-requires : tie.Need-insert-requires
-insert-requires c κs = search needs
-
-hand-call-requires : tie.Need-hand-call-requires
-hand-call-requires c κs = search needs
-
-same-length : tie.Need-same-length
-same-length c = search needs
-
-same-length-2 : tie.Need-same-length-2
-same-length-2 c = search needs
-
 returns : tie.Need-returns
 unfolding ctInsert
 returns c =
@@ -28,4 +16,5 @@ returns c =
 
 pub ct-insert-spec : {M : Type 1} → statement M
 ct-insert-spec =
-    tie.close (tie.spec insert-requires hand-call-requires same-length same-length-2 returns)
+    tie.close
+    (tie.spec (λ c κs. search needs) (λ c κs. search needs) (λ c. search needs) (λ c. search needs) returns)

@@ -9,18 +9,6 @@ use borrow.Author.Needs.{needs}
 use Rattle.codetree.proofs.ct_query.Statement.{statement}
 use Rattle.codetree.proofs.ct_query.Tie as tie
 
-query-requires : tie.Need-query-requires
-query-requires c κs = search needs
-
-hand-query-requires : tie.Need-hand-query-requires
-hand-query-requires c κs = search needs
-
-same-length : tie.Need-same-length
-same-length c = search needs
-
-same-length-2 : tie.Need-same-length-2
-same-length-2 c = search needs
-
 returns : tie.Need-returns
 unfolding ctQuery
 returns c =
@@ -32,4 +20,5 @@ returns c =
 
 pub ct-query-spec : {M : Type 1} → statement M
 ct-query-spec =
-    tie.close (tie.spec query-requires hand-query-requires same-length same-length-2 returns)
+    tie.close
+    (tie.spec (λ c κs. search needs) (λ c κs. search needs) (λ c. search needs) (λ c. search needs) returns)

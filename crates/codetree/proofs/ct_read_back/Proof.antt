@@ -7,18 +7,6 @@ use borrow.Author.Needs.{needs}
 use Rattle.codetree.proofs.ct_read_back.Statement.{statement}
 use Rattle.codetree.proofs.ct_read_back.Tie as tie
 
-read-back-requires : tie.Need-read-back-requires
-read-back-requires c κs = search needs
-
-hand-read-requires : tie.Need-hand-read-requires
-hand-read-requires c κs = search needs
-
-same-length : tie.Need-same-length
-same-length c = search needs
-
-same-length-2 : tie.Need-same-length-2
-same-length-2 c = search needs
-
 returns : tie.Need-returns
 unfolding ctReadBack
 returns c =
@@ -27,4 +15,6 @@ returns c =
     hands (i .before .before .before .before .before .args .told .now) (ap givenBack (i .read-back .ensures)) (h .hand-read .ensures)
 
 pub ct-read-back-spec : {M : Type 1} → statement M
-ct-read-back-spec = tie.close (tie.spec read-back-requires hand-read-requires same-length same-length-2 returns)
+ct-read-back-spec =
+    tie.close
+    (tie.spec (λ c κs. search needs) (λ c κs. search needs) (λ c. search needs) (λ c. search needs) returns)

@@ -28,21 +28,12 @@ compare-row-requires c κs =
       omega (arith, rows-room (a .firsts .now) (a .from) (c .before .before .loop .m) (omega arith)),
     )
 
-add-m : tie.Need-add-m Inv-loop μ-loop
-add-m c = search needs
-
-loop-less : tie.Need-loop-less Inv-loop μ-loop
-loop-less c = search needs
-
 loop-again : tie.Need-loop-again Inv-loop μ-loop
 loop-again c =
     let a = c .before .before .before .before .before .before .before .before .args in
     let l = c .before .before .before .before .before .loop in
     let e = c .before .before .compare-row .ensures in
     (omega arith, stored-length e ∙ l .inv .1, rows-stored (a .firsts .now) (a .from) (l .m) (l .inv .2) e)
-
-same-length : tie.Need-same-length Inv-loop μ-loop
-same-length c = search needs
 
 returns : tie.Need-returns Inv-loop μ-loop
 returns c =
@@ -53,13 +44,4 @@ returns c =
 pub compare-all-spec : {M : Type 1} → statement M
 compare-all-spec =
     tie.close
-    (tie.spec
-    Inv-loop
-    μ-loop
-    loop-holds
-    compare-row-requires
-    add-m
-    loop-less
-    loop-again
-    same-length
-    returns)
+    (tie.spec Inv-loop μ-loop loop-holds compare-row-requires (λ c. search needs) (λ c. search needs) loop-again (λ c. search needs) returns)

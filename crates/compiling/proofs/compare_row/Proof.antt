@@ -19,9 +19,6 @@ Inv-loop firsts from m keys₀ written at₀ k₀ keys at k =
 abbrev μ-loop : tie.MeasureT-loop
 μ-loop firsts from m keys₀ written at₀ k₀ keys at k = length firsts - k
 
-add-k : tie.Need-add-k Inv-loop μ-loop
-add-k c = search needs
-
 loop-holds : tie.Need-loop-holds Inv-loop μ-loop
 loop-holds c =
     let a = c .before .args in
@@ -29,21 +26,6 @@ loop-holds c =
     (λ w. rw (w .1) (omega arith, omega arith, omega arith, refl, row-start (a .firsts .now) (a .from) (a .m) (a .m + 1) (row-above (a .firsts .now) (a .from) (a .m))))
     (λ w. rw (w .1) (omega arith, omega arith, omega arith, refl, row-start (a .firsts .now) (a .from) (a .m) (a .from) (row-from (a .firsts .now) (a .from) (a .m))))
     (c .if1 .came)
-
-mul-if2 : tie.Need-mul-if2 Inv-loop μ-loop
-mul-if2 c = search needs
-
-shared-slice-read-if2 : tie.Need-shared-slice-read-if2 Inv-loop μ-loop
-shared-slice-read-if2 c = search needs
-
-mul-keys : tie.Need-mul-keys Inv-loop μ-loop
-mul-keys c = search needs
-
-add-keys : tie.Need-add-keys Inv-loop μ-loop
-add-keys c = search needs
-
-add-keys-2 : tie.Need-add-keys-2 Inv-loop μ-loop
-add-keys-2 c = search needs
 
 -- there is room for one more key
 room : (c : lts.After-row-known2 reads.Pre reads.Post Inv-loop μ-loop) → let l = c .before .before .before .before .before .loop in l .at < length (l .keys)
@@ -61,12 +43,6 @@ slice-write-keys c = omega (arith, room c)
 add-at : tie.Need-add-at Inv-loop μ-loop
 add-at c = omega (arith, room c)
 
-add-k-2 : tie.Need-add-k-2 Inv-loop μ-loop
-add-k-2 c = search needs
-
-loop-less : tie.Need-loop-less Inv-loop μ-loop
-loop-less c = search needs
-
 loop-again : tie.Need-loop-again Inv-loop μ-loop
 loop-again c =
     let a = c .before .before .before .before .before .before .args in
@@ -78,9 +54,6 @@ loop-again c =
     (λ w. rw (w .1, w .2) (omega arith, omega arith, omega arith, i .3, row-over f (a .from) (a .m) (l .k) (i .0) (i .1) (w .0 .left) (i .4)))
     (c .if2 .came)
 
-same-length : tie.Need-same-length Inv-loop μ-loop
-same-length c = search needs
-
 returns : tie.Need-returns Inv-loop μ-loop
 returns c =
     let a = c .before .before .before .args in
@@ -90,21 +63,5 @@ returns c =
 pub compare-row-spec : {M : Type 1} → statement M
 compare-row-spec =
     tie.close
-    (tie.spec
-    Inv-loop
-    μ-loop
-    add-k
-    loop-holds
-    mul-if2
-    shared-slice-read-if2
-    mul-keys
-    add-keys
-    add-keys-2
-    mul-keys-2
-    slice-write-keys
-    add-at
-    add-k-2
-    loop-less
-    loop-again
-    same-length
-    returns)
+    (tie.spec Inv-loop μ-loop (λ c. search needs) loop-holds (λ c. search needs) (λ c. search needs) (λ c. search needs) (λ c. search needs)
+    (λ c. search needs) mul-keys-2 slice-write-keys add-at (λ c. search needs) (λ c. search needs) loop-again (λ c. search needs) returns)

@@ -30,12 +30,6 @@ slice-aggregate-compile-word-3 c = sym (c .before .before .before .before .loop 
 compile-word-requires : tie.Need-compile-word-requires Inv-loop μ-loop
 compile-word-requires c κs = (search needs, c .before .before .before .before .before .loop .inv .ready)
 
-add-i : tie.Need-add-i Inv-loop μ-loop
-add-i c = search needs
-
-loop-less : tie.Need-loop-less Inv-loop μ-loop
-loop-less c = search needs
-
 loop-again : tie.Need-loop-again Inv-loop μ-loop
 loop-again c =
     let l = c .before .before .before .before .before .before .before .before .before .before .before .loop in
@@ -51,16 +45,5 @@ returns c = compiling-ends (c .before .loop .inv) (omega arith) (c .before .befo
 pub compile-spec : {M : Type 1} → statement M
 compile-spec =
     tie.close
-    (tie.spec
-    Inv-loop
-    μ-loop
-    loop-holds
-    slice-aggregate-compile-word
-    slice-aggregate-compile-word-2
-    slice-aggregate-compile-word-3
-    compile-word-requires
-    add-i
-    loop-less
-    loop-again
-    same-length
-    returns)
+    (tie.spec Inv-loop μ-loop loop-holds slice-aggregate-compile-word slice-aggregate-compile-word-2 slice-aggregate-compile-word-3
+    compile-word-requires (λ c. search needs) (λ c. search needs) loop-again same-length returns)

@@ -8,12 +8,6 @@ use borrow.Author.Needs.{needs}
 use Rattle.compiling.proofs.compile_word.Statement.{statement}
 use Rattle.compiling.proofs.compile_word.Tie as tie
 
-mul-w : tie.Need-mul-w
-mul-w c = search needs
-
-shared-slice-read-w : tie.Need-shared-slice-read-w
-shared-slice-read-w c = search needs
-
 open-requires : tie.Need-open-requires
 open-requires c κs =
     let s = c .before .before .before .before .before .before .before in
@@ -31,9 +25,6 @@ add-a c =
     let s = o .before .before .before .before .before .before .before .before in
     omega (arith, act-asks (s .pre .1) (s .pre .0) (o .«open» .ensures .0) (o .«open» .ensures .1) .2)
 
-arity-requires : tie.Need-arity-requires
-arity-requires c κs = search needs
-
 onward-requires : tie.Need-onward-requires
 unfolding arity
 onward-requires c κs =
@@ -41,18 +32,6 @@ onward-requires c κs =
     let o = d .before .before .before .before .before .before in
     let s = o .before .before .before .before .before .before .before .before in
     rw (c .before .before .arity .ensures) (onward-asks (s .pre .1) (s .pre .0) (o .«open» .ensures .0) (o .«open» .ensures .1) (d .act .ensures))
-
-same-length : tie.Need-same-length
-same-length c = search needs
-
-same-length-2 : tie.Need-same-length-2
-same-length-2 c = search needs
-
-same-length-3 : tie.Need-same-length-3
-same-length-3 c = search needs
-
-same-length-4 : tie.Need-same-length-4
-same-length-4 c = search needs
 
 returns : tie.Need-returns
 unfolding arity
@@ -95,18 +74,6 @@ compare-all-requires c κs =
     let s = o .before .before .before .before .before .before .before .before in
     close-asks (s .pre .1) (s .pre .0) (o .«open» .ensures .0) (o .«open» .ensures .1) (d .act .ensures) w (c .before .before .if1 .left) (d .act .kept .1 .1 .1 .0)
 
-same-length-5 : tie.Need-same-length-5
-same-length-5 c = search needs
-
-same-length-6 : tie.Need-same-length-6
-same-length-6 c = search needs
-
-same-length-7 : tie.Need-same-length-7
-same-length-7 c = search needs
-
-same-length-8 : tie.Need-same-length-8
-same-length-8 c = search needs
-
 returns-2 : tie.Need-returns-2
 unfolding arity
 returns-2 c =
@@ -121,24 +88,6 @@ returns-2 c =
 pub compile-word-spec : {M : Type 1} → statement M
 compile-word-spec =
     tie.close
-    (tie.spec
-    mul-w
-    shared-slice-read-w
-    open-requires
-    act-requires
-    add-a
-    arity-requires
-    onward-requires
-    same-length
-    same-length-2
-    same-length-3
-    same-length-4
-    returns
-    slice-reshare-prefix-compare-all
-    slice-aggregate-compare-all
-    compare-all-requires
-    same-length-5
-    same-length-6
-    same-length-7
-    same-length-8
-    returns-2)
+    (tie.spec (λ c. search needs) (λ c. search needs) open-requires act-requires add-a (λ c κs. search needs) onward-requires (λ c. search needs)
+    (λ c. search needs) (λ c. search needs) (λ c. search needs) returns slice-reshare-prefix-compare-all slice-aggregate-compare-all
+    compare-all-requires (λ c. search needs) (λ c. search needs) (λ c. search needs) (λ c. search needs) returns-2)

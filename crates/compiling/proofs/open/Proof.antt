@@ -11,20 +11,13 @@ use Rattle.compiling.proofs.open.Tie as tie
 returns : tie.Need-returns
 returns c = open-on (c .before .args .s) (c .before .args .keys .now) (c .if1 .taken)
 
-mul-keys : tie.Need-mul-keys
-mul-keys c = search needs
-
 slice-write-keys : tie.Need-slice-write-keys
 slice-write-keys c = omega (arith, ap (λ b. length (openingKeys b)) (c .if1 .left))
-
-add-t5 : tie.Need-add-t5
-add-t5 c = search needs
-
-same-length : tie.Need-same-length
-same-length c = search needs
 
 returns-2 : tie.Need-returns-2
 returns-2 c = open-new (c .before .args .s) (c .before .args .keys .now) (c .if1 .left)
 
 pub open-spec : {M : Type 1} → statement M
-open-spec = tie.close (tie.spec returns mul-keys slice-write-keys add-t5 same-length returns-2)
+open-spec =
+    tie.close
+    (tie.spec returns (λ c. search needs) slice-write-keys (λ c. search needs) (λ c. search needs) returns-2)

@@ -12,35 +12,17 @@ use Rattle.reading.proofs.read.Reads as read-reads
 use Rattle.compiling.proofs.compile.Reads as compile-reads
 use Rattle.decompiling.proofs.same_keys.Reads as same-keys-reads
 
-read-requires : tie.Need-read-requires
-read-requires c κs = search needs
-
-enum-told : tie.Need-enum-told
-enum-told c = search needs
-
-enum-told-2 : tie.Need-enum-told-2
-enum-told-2 c = search needs
-
 returns : tie.Need-returns
 returns c =
     let (x, e) = c .enum-told2 .given in
     let s = c .before .before .before .before .before in
     keys-faulty (s .args .words .now) (s .args .keys .now) (c .before .before .read .result) (x .0) (c .before .before .read .ensures) e
 
-slice-aggregate-compile : tie.Need-slice-aggregate-compile
-slice-aggregate-compile c = search needs
-
-compile-requires : tie.Need-compile-requires
-compile-requires c κs = search needs
-
 array-share-prefix-compiled : tie.Need-array-share-prefix-compiled
 array-share-prefix-compiled c = omega (arith, compiled-fits (c .before .compile .ensures), c .compiled2 .given)
 
 slice-aggregate-same-keys : tie.Need-slice-aggregate-same-keys
 slice-aggregate-same-keys c = sym (length-take-le _ _ (compiled-fits (c .before .before .compile .ensures)))
-
-same-keys-requires : tie.Need-same-keys-requires
-same-keys-requires c κs = search needs
 
 returns-2 : tie.Need-returns-2
 returns-2 c =
@@ -56,14 +38,5 @@ returns-2 c =
 pub has-keys-spec : {M : Type 1} → statement M
 has-keys-spec =
     tie.close
-    (tie.spec
-    read-requires
-    enum-told
-    enum-told-2
-    returns
-    slice-aggregate-compile
-    compile-requires
-    array-share-prefix-compiled
-    slice-aggregate-same-keys
-    same-keys-requires
-    returns-2)
+    (tie.spec (λ c κs. search needs) (λ c. search needs) (λ c. search needs) returns (λ c. search needs) (λ c κs. search needs)
+    array-share-prefix-compiled slice-aggregate-same-keys (λ c κs. search needs) returns-2)

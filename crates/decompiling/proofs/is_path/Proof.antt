@@ -8,18 +8,6 @@ use Rattle.decompiling.proofs.is_path.Tie as tie
 use Rattle.decompiling.proofs.has_keys.Reads as has-keys-reads
 use Rattle.decompiling.proofs.read_off.Reads as read-off-reads
 
-slice-aggregate-read-off : tie.Need-slice-aggregate-read-off
-slice-aggregate-read-off c = search needs
-
-read-off-requires : tie.Need-read-off-requires
-read-off-requires c κs = search needs
-
-enum-known-found : tie.Need-enum-known-found
-enum-known-found c = search needs
-
-enum-told : tie.Need-enum-told
-enum-told c = search needs
-
 returns : tie.Need-returns
 returns c =
     let r = c .before .before .before in
@@ -45,13 +33,5 @@ returns-2 c =
 pub is-path-spec : {M : Type 1} → statement M
 is-path-spec =
     tie.close
-    (tie.spec
-    slice-aggregate-read-off
-    read-off-requires
-    enum-known-found
-    enum-told
-    returns
-    array-share-prefix-out
-    slice-aggregate-has-keys
-    has-keys-requires
-    returns-2)
+    (tie.spec (λ c. search needs) (λ c κs. search needs) (λ c. search needs) (λ c. search needs) returns array-share-prefix-out
+    slice-aggregate-has-keys has-keys-requires returns-2)

@@ -15,34 +15,13 @@ Inv-loop origins counts₀ firsts₀ k₀ counts firsts k = (k ≤ 64) × (lengt
 abbrev μ-loop : tie.MeasureT-loop
 μ-loop origins counts₀ firsts₀ k₀ counts firsts k = 64 - k
 
-slice-write-counts : tie.Need-slice-write-counts Inv-loop μ-loop
-slice-write-counts c = search needs
-
 loop-holds : tie.Need-loop-holds Inv-loop μ-loop
 loop-holds c = (omega arith, length-set (c .args .counts .now) 0 0 ∙ c .pre .1, counted-none (c .args .origins .now) (c .args .counts .now) (omega (arith, c .pre .1)))
-
-mul-if1 : tie.Need-mul-if1 Inv-loop μ-loop
-mul-if1 c = search needs
-
-shared-slice-read-if1 : tie.Need-shared-slice-read-if1 Inv-loop μ-loop
-shared-slice-read-if1 c = search needs
 
 add-firsts : tie.Need-add-firsts Inv-loop μ-loop
 add-firsts c =
     let l = c .before .before .before .loop in
     omega (arith, counted-low _ (l .counts) (l .firsts) (l .k) (l .inv .2))
-
-add-k : tie.Need-add-k Inv-loop μ-loop
-add-k c = search needs
-
-mul-counts : tie.Need-mul-counts Inv-loop μ-loop
-mul-counts c = search needs
-
-slice-write-counts-2 : tie.Need-slice-write-counts-2 Inv-loop μ-loop
-slice-write-counts-2 c = search needs
-
-loop-less : tie.Need-loop-less Inv-loop μ-loop
-loop-less c = search needs
 
 loop-again : tie.Need-loop-again Inv-loop μ-loop
 loop-again c =
@@ -65,18 +44,5 @@ returns c = λ m l. c .before .loop .inv .2 .stored m (omega arith)
 pub note-counts-spec : {M : Type 1} → statement M
 note-counts-spec =
     tie.close
-    (tie.spec
-    Inv-loop
-    μ-loop
-    slice-write-counts
-    loop-holds
-    mul-if1
-    shared-slice-read-if1
-    add-firsts
-    add-k
-    mul-counts
-    slice-write-counts-2
-    loop-less
-    loop-again
-    same-length
-    returns)
+    (tie.spec Inv-loop μ-loop (λ c. search needs) loop-holds (λ c. search needs) (λ c. search needs) add-firsts (λ c. search needs)
+    (λ c. search needs) (λ c. search needs) (λ c. search needs) loop-again same-length returns)

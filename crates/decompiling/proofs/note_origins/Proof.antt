@@ -19,24 +19,6 @@ abbrev μ-loop : tie.MeasureT-loop
 loop-holds : tie.Need-loop-holds Inv-loop μ-loop
 loop-holds c = (omega arith, c .pre .0, origins-none (c .args .keys .now) (c .args .origins .now) (c .pre .1))
 
-sub-i : tie.Need-sub-i Inv-loop μ-loop
-sub-i c = search needs
-
-mul-x : tie.Need-mul-x Inv-loop μ-loop
-mul-x c = search needs
-
-shared-slice-read-x : tie.Need-shared-slice-read-x Inv-loop μ-loop
-shared-slice-read-x c = search needs
-
-mul-origins : tie.Need-mul-origins Inv-loop μ-loop
-mul-origins c = search needs
-
-slice-write-origins : tie.Need-slice-write-origins Inv-loop μ-loop
-slice-write-origins c = search needs
-
-loop-less : tie.Need-loop-less Inv-loop μ-loop
-loop-less c = search needs
-
 loop-again : tie.Need-loop-again Inv-loop μ-loop
 loop-again c =
     let l = c .before .before .before .before .loop in
@@ -46,17 +28,11 @@ loop-again c =
       origins-set (a .keys .now) (l .origins) (l .i - 1) (l .i) (omega arith) (omega arith) (l .inv .2) (c .before .if1 .taken) (omega arith),
     )
 
-loop-less-2 : tie.Need-loop-less-2 Inv-loop μ-loop
-loop-less-2 c = search needs
-
 loop-again-2 : tie.Need-loop-again-2 Inv-loop μ-loop
 loop-again-2 c =
     let l = c .before .before .before .before .loop in
     let a = c .before .before .before .before .before .args in
     (omega arith, l .inv .1, origins-far (a .keys .now) (l .origins) (l .i - 1) (l .i) (omega arith) (omega arith) (l .inv .2) (c .before .if1 .taken) (omega arith))
-
-loop-less-3 : tie.Need-loop-less-3 Inv-loop μ-loop
-loop-less-3 c = search needs
 
 loop-again-3 : tie.Need-loop-again-3 Inv-loop μ-loop
 loop-again-3 c =
@@ -73,20 +49,5 @@ returns c = origins-all (c .before .before .args .keys .now) (c .before .loop .o
 pub note-origins-spec : {M : Type 1} → statement M
 note-origins-spec =
     tie.close
-    (tie.spec
-    Inv-loop
-    μ-loop
-    loop-holds
-    sub-i
-    mul-x
-    shared-slice-read-x
-    mul-origins
-    slice-write-origins
-    loop-less
-    loop-again
-    loop-less-2
-    loop-again-2
-    loop-less-3
-    loop-again-3
-    same-length
-    returns)
+    (tie.spec Inv-loop μ-loop loop-holds (λ c. search needs) (λ c. search needs) (λ c. search needs) (λ c. search needs) (λ c. search needs)
+    (λ c. search needs) loop-again (λ c. search needs) loop-again-2 (λ c. search needs) loop-again-3 same-length returns)

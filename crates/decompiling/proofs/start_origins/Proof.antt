@@ -17,18 +17,6 @@ abbrev μ-loop : tie.MeasureT-loop
 loop-holds : tie.Need-loop-holds Inv-loop μ-loop
 loop-holds c = (omega arith, c .pre, λ j l. absurd (omega arith))
 
-mul-origins : tie.Need-mul-origins Inv-loop μ-loop
-mul-origins c = search needs
-
-slice-write-origins : tie.Need-slice-write-origins Inv-loop μ-loop
-slice-write-origins c = search needs
-
-add-k : tie.Need-add-k Inv-loop μ-loop
-add-k c = search needs
-
-loop-less : tie.Need-loop-less Inv-loop μ-loop
-loop-less c = search needs
-
 loop-again : tie.Need-loop-again Inv-loop μ-loop
 loop-again c =
     let l = c .before .loop in
@@ -43,14 +31,5 @@ returns c = λ k l. c .before .loop .inv .2 k (omega arith)
 pub start-origins-spec : {M : Type 1} → statement M
 start-origins-spec =
     tie.close
-    (tie.spec
-    Inv-loop
-    μ-loop
-    loop-holds
-    mul-origins
-    slice-write-origins
-    add-k
-    loop-less
-    loop-again
-    same-length
+    (tie.spec Inv-loop μ-loop loop-holds (λ c. search needs) (λ c. search needs) (λ c. search needs) (λ c. search needs) loop-again same-length
     returns)

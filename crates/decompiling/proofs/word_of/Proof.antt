@@ -8,9 +8,6 @@ use native.Mathlib.Omega.{arith}
 use Rattle.decompiling.proofs.word_of.Statement.{statement}
 use Rattle.decompiling.proofs.word_of.Tie as tie
 
-cast-word : tie.Need-cast-word
-cast-word c = search needs
-
 returns : tie.Need-returns
 returns c = let a = c .before .before .args in names-check (a .origins .now) (a .counts .now) (a .x) (c .before .if1 .taken) (c .if2 .taken)
 
@@ -20,23 +17,11 @@ returns-2 c = let a = c .before .before .args in outside-check (a .origins .now)
 returns-3 : tie.Need-returns-3
 returns-3 c = let a = c .before .before .before .args in outside-put (a .origins .now) (a .counts .now) (a .x) (c .before .if3 .taken) (c .if4 .taken)
 
-mul-m : tie.Need-mul-m
-mul-m c = search needs
-
-shared-slice-read-m : tie.Need-shared-slice-read-m
-shared-slice-read-m c = search needs
-
 returns-4 : tie.Need-returns-4
 returns-4 c =
     let p = c .before .before .before in
     let a = p .before .before .args in
     outside-origin (a .origins .now) (a .counts .now) (a .x) (p .if3 .taken) (c .if5 .taken)
-
-mul-number : tie.Need-mul-number
-mul-number c = search needs
-
-shared-slice-read-number : tie.Need-shared-slice-read-number
-shared-slice-read-number c = search needs
 
 add-variable : tie.Need-add-variable
 add-variable c =
@@ -64,17 +49,5 @@ returns-6 c = let a = c .before .before .args in names-none (a .origins .now) (a
 pub word-of-spec : {M : Type 1} → statement M
 word-of-spec =
     tie.close
-    (tie.spec
-    cast-word
-    returns
-    returns-2
-    returns-3
-    mul-m
-    shared-slice-read-m
-    returns-4
-    mul-number
-    shared-slice-read-number
-    add-variable
-    cast-word-2
-    returns-5
-    returns-6)
+    (tie.spec (λ c. search needs) returns returns-2 returns-3 (λ c. search needs) (λ c. search needs) returns-4 (λ c. search needs)
+    (λ c. search needs) add-variable cast-word-2 returns-5 returns-6)

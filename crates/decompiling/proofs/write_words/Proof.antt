@@ -18,19 +18,10 @@ abbrev μ-loop : tie.MeasureT-loop
 loop-holds : tie.Need-loop-holds Inv-loop μ-loop
 loop-holds c = let p = c .before .before .before .before .pre in writing-first _ _ _ _ (p .2) (p .3) (p .4)
 
-mul-word-of : tie.Need-mul-word-of Inv-loop μ-loop
-mul-word-of c = search needs
-
-shared-slice-read-word-of : tie.Need-shared-slice-read-word-of Inv-loop μ-loop
-shared-slice-read-word-of c = search needs
-
 word-of-requires : tie.Need-word-of-requires Inv-loop μ-loop
 word-of-requires c κs =
     let s = c .before .before .before .before .before .before .before in
     (s .pre .0, s .pre .1, s .pre .3)
-
-enum-known-found : tie.Need-enum-known-found Inv-loop μ-loop
-enum-known-found c = search needs
 
 same-length : tie.Need-same-length Inv-loop μ-loop
 same-length c = writing-length (c .before .before .before .before .before .before .before .loop .inv)
@@ -42,22 +33,10 @@ returns c =
     let (x, e) = f .found .given in
     writing-many (l .inv) (omega arith) (x .0) (rw e at (f .before .before .word-of .ensures)) (omega arith)
 
-mul-out : tie.Need-mul-out Inv-loop μ-loop
-mul-out c = search needs
-
 slice-write-out : tie.Need-slice-write-out Inv-loop μ-loop
 slice-write-out c =
     let g = c .before .before .before .before .before .before .before .loop .inv in
     omega (arith, writing-length g, g .room)
-
-add-count : tie.Need-add-count Inv-loop μ-loop
-add-count c = search needs
-
-enum-told : tie.Need-enum-told Inv-loop μ-loop
-enum-told c = search needs
-
-enum-told-2 : tie.Need-enum-told-2 Inv-loop μ-loop
-enum-told-2 c = search needs
 
 same-length-2 : tie.Need-same-length-2 Inv-loop μ-loop
 same-length-2 c = writing-length (c .before .before .before .before .before .loop .inv)
@@ -66,12 +45,6 @@ returns-2 : tie.Need-returns-2 Inv-loop μ-loop
 returns-2 c =
     let f = c .before .before in
     writing-outside (f .before .before .before .loop .inv) (omega arith) (rw (c .enum-told2 .given .1) at (f .word-of .ensures))
-
-add-i : tie.Need-add-i Inv-loop μ-loop
-add-i c = search needs
-
-loop-less : tie.Need-loop-less Inv-loop μ-loop
-loop-less c = search needs
 
 loop-again : tie.Need-loop-again Inv-loop μ-loop
 loop-again c =
@@ -91,25 +64,6 @@ returns-3 c = writing-end (c .before .loop .inv) (omega arith)
 pub write-words-spec : {M : Type 1} → statement M
 write-words-spec =
     tie.close
-    (tie.spec
-    Inv-loop
-    μ-loop
-    loop-holds
-    mul-word-of
-    shared-slice-read-word-of
-    word-of-requires
-    enum-known-found
-    same-length
-    returns
-    mul-out
-    slice-write-out
-    add-count
-    enum-told
-    enum-told-2
-    same-length-2
-    returns-2
-    add-i
-    loop-less
-    loop-again
-    same-length-3
-    returns-3)
+    (tie.spec Inv-loop μ-loop loop-holds (λ c. search needs) (λ c. search needs) word-of-requires (λ c. search needs) same-length returns
+    (λ c. search needs) slice-write-out (λ c. search needs) (λ c. search needs) (λ c. search needs) same-length-2 returns-2 (λ c. search needs)
+    (λ c. search needs) loop-again same-length-3 returns-3)

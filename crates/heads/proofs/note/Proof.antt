@@ -18,15 +18,6 @@ abbrev μ-loop : tie.MeasureT-loop
 loop-holds : tie.Need-loop-holds Inv-loop μ-loop
 loop-holds c = let s = c .before .before in noting-start (s .args .words .now) (s .args .heads .now) (s .pre .0) (s .pre .1)
 
-mul-w : tie.Need-mul-w Inv-loop μ-loop
-mul-w c = search needs
-
-shared-slice-read-w : tie.Need-shared-slice-read-w Inv-loop μ-loop
-shared-slice-read-w c = search needs
-
-key-requires : tie.Need-key-requires Inv-loop μ-loop
-key-requires c κs = search needs
-
 -- the Check at `at`
 next :
     (c : tie.At-loop Inv-loop μ-loop) → c .loop .at < length (c .before .before .before .args .words .now)
@@ -44,9 +35,6 @@ slice-write-heads : tie.Need-slice-write-heads Inv-loop μ-loop
 slice-write-heads c =
     let t = c .before .before in
     omega (arith, c .key .ensures, next (t .before) (t .loop-test .taken) .small, t .before .loop .inv .long)
-
-extent-requires : tie.Need-extent-requires Inv-loop μ-loop
-extent-requires c κs = search needs
 
 add-at : tie.Need-add-at Inv-loop μ-loop
 add-at c =
@@ -75,19 +63,5 @@ returns c =
 pub note-spec : {M : Type 1} → statement M
 note-spec =
     tie.close
-    (tie.spec
-    Inv-loop
-    μ-loop
-    loop-holds
-    mul-w
-    shared-slice-read-w
-    key-requires
-    cast-heads
-    mul-heads
-    slice-write-heads
-    extent-requires
-    add-at
-    loop-less
-    loop-again
-    same-length
-    returns)
+    (tie.spec Inv-loop μ-loop loop-holds (λ c. search needs) (λ c. search needs) (λ c κs. search needs) cast-heads mul-heads slice-write-heads
+    (λ c κs. search needs) add-at loop-less loop-again same-length returns)

@@ -11,19 +11,10 @@ use Rattle.heads.proofs.renew.Tie as tie
 shared-slice-read-used : tie.Need-shared-slice-read-used
 shared-slice-read-used c = let s = c .before .before .before in omega (arith, sized-low (s .args .tree .now) (s .pre .0))
 
-used-requires : tie.Need-used-requires
-used-requires c κs = search needs
-
 add-end : tie.Need-add-end
 add-end c =
     let s = c .before .before .before .before in
     record { fits = omega (arith, c .used .ensures, laid-room (s .args .tree .now) (s .pre .1), sized-high (s .args .tree .now) (s .pre .0)) }
-
-sub-note : tie.Need-sub-note
-sub-note c = search needs
-
-part-note-start : tie.Need-part-note-start
-part-note-start c = search needs
 
 part-note-end : tie.Need-part-note-end
 part-note-end c = let s = c .before .before .before .before in omega (arith, c .used .ensures, laid-room (s .args .tree .now) (s .pre .1))
@@ -35,9 +26,6 @@ note-requires c κs =
     let T = s .args .tree .now in
     rw (used-part T (omega (arith, sized-low T (s .pre .0))) (ap (λ (n : ℕ). n + 1) (u .used .ensures)))
     (laid-encoded T (s .pre .0) (s .pre .1), rw (decode-region T) at (s .pre .2))
-
-same-length : tie.Need-same-length
-same-length c = search needs
 
 returns : tie.Need-returns
 returns c =
@@ -51,13 +39,5 @@ returns c =
 pub renew-spec : {M : Type 1} → statement M
 renew-spec =
     tie.close
-    (tie.spec
-    shared-slice-read-used
-    used-requires
-    add-end
-    sub-note
-    part-note-start
-    part-note-end
-    note-requires
-    same-length
-    returns)
+    (tie.spec shared-slice-read-used (λ c κs. search needs) add-end (λ c. search needs) (λ c. search needs) part-note-end note-requires
+    (λ c. search needs) returns)

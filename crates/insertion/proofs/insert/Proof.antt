@@ -6,24 +6,9 @@ use borrow.Author.Needs.{needs}
 use Rattle.insertion.proofs.insert.Statement.{statement}
 use Rattle.insertion.proofs.insert.Tie as tie
 
-sized-requires : tie.Need-sized-requires
-sized-requires c κs = search needs
-
 returns : tie.Need-returns
 unfolding insertion
 returns c = rw (← c .before .sized .ensures, not-true (c .before .sized .result) (c .if1 .taken))
-
-read-requires : tie.Need-read-requires
-read-requires c κs = search needs
-
-enum-told : tie.Need-enum-told
-enum-told c = search needs
-
-enum-told-2 : tie.Need-enum-told-2
-enum-told-2 c = search needs
-
-fault-requires : tie.Need-fault-requires
-fault-requires c κs = search needs
 
 -- the clause has a fault
 returns-2 : tie.Need-returns-2
@@ -33,12 +18,6 @@ returns-2 c =
     let r = c .before .before .before in
     let z = r .before in
     rw (← z .before .sized .ensures, not-false (z .before .sized .result) (z .if1 .left), ← r .read .ensures, t, c .fault .ensures, t)
-
-well-laid-requires : tie.Need-well-laid-requires
-well-laid-requires c κs = search needs
-
-same-length : tie.Need-same-length
-same-length c = search needs
 
 -- the slice is not well laid
 returns-3 : tie.Need-returns-3
@@ -67,26 +46,8 @@ insert-read-requires c κs =
     let laid = sym (l .well-laid .ensures) ∙ not-false _ (c .before .if2 .left) in
     (size, laid, (_, sym (r .read .ensures) ∙ t .enum-told .given .1))
 
-same-length-2 : tie.Need-same-length-2
-same-length-2 c = search needs
-
-returns-4 : tie.Need-returns-4
-returns-4 c = search needs
-
 pub insert-spec : {M : Type 1} → statement M
 insert-spec =
     tie.close
-    (tie.spec
-    sized-requires
-    returns
-    read-requires
-    enum-told
-    enum-told-2
-    fault-requires
-    returns-2
-    well-laid-requires
-    same-length
-    returns-3
-    insert-read-requires
-    same-length-2
-    returns-4)
+    (tie.spec (λ c κs. search needs) returns (λ c κs. search needs) (λ c. search needs) (λ c. search needs) (λ c κs. search needs) returns-2
+    (λ c κs. search needs) (λ c. search needs) returns-3 insert-read-requires (λ c. search needs) (λ c. search needs))

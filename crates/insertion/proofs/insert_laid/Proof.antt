@@ -6,12 +6,6 @@ use borrow.Author.Needs.{needs}
 use Rattle.insertion.proofs.insert_laid.Statement.{statement}
 use Rattle.insertion.proofs.insert_laid.Tie as tie
 
-taken-requires : tie.Need-taken-requires
-taken-requires c κs = search needs
-
-same-length : tie.Need-same-length
-same-length c = search needs
-
 returns : tie.Need-returns
 returns c =
     let s = c .before .before .before .before .before in
@@ -21,13 +15,7 @@ returns c =
 insert-new-requires : tie.Need-insert-new-requires
 insert-new-requires c κs = (c .before .before .before .before .before .before .pre, is-none _ (sym (c .before .before .taken .ensures) ∙ c .before .if1 .left))
 
-same-length-2 : tie.Need-same-length-2
-same-length-2 c = search needs
-
-returns-2 : tie.Need-returns-2
-returns-2 c = search needs
-
 pub insert-laid-spec : {M : Type 1} → statement M
 insert-laid-spec =
     tie.close
-    (tie.spec taken-requires same-length returns insert-new-requires same-length-2 returns-2)
+    (tie.spec (λ c κs. search needs) (λ c. search needs) returns insert-new-requires (λ c. search needs) (λ c. search needs))

@@ -9,17 +9,8 @@ use Rattle.insertion.proofs.insert_new.Tie as tie
 slice-read-used : tie.Need-slice-read-used
 slice-read-used c = omega (arith, slice-parts (c .before .before .before .pre .0) .room)
 
-used-requires : tie.Need-used-requires
-used-requires c κs = search needs
-
 add-end : tie.Need-add-end
 add-end c = omega (arith, slice-parts (c .before .before .before .before .pre .0) .room)
-
-sub-place-of : tie.Need-sub-place-of
-sub-place-of c = search needs
-
-part-place-of-start : tie.Need-part-place-of-start
-part-place-of-start c = search needs
 
 part-place-of-end : tie.Need-part-place-of-end
 part-place-of-end c = omega (arith, slice-parts (c .before .before .before .before .before .pre .0) .room)
@@ -37,23 +28,8 @@ insert-placed-requires c κs =
     let s = u .before .before .before .before in
     (s .pre .0, s .pre .1, in-region (s .pre .0) (rw (u .used .ensures) at (p .place-of .ensures)))
 
-same-length : tie.Need-same-length
-same-length c = search needs
-
-returns : tie.Need-returns
-returns c = search needs
-
 pub insert-new-spec : {M : Type 1} → statement M
 insert-new-spec =
     tie.close
-    (tie.spec
-    slice-read-used
-    used-requires
-    add-end
-    sub-place-of
-    part-place-of-start
-    part-place-of-end
-    place-of-requires
-    insert-placed-requires
-    same-length
-    returns)
+    (tie.spec slice-read-used (λ c κs. search needs) add-end (λ c. search needs) (λ c. search needs) part-place-of-end place-of-requires
+    insert-placed-requires (λ c. search needs) (λ c. search needs))

@@ -8,17 +8,8 @@ use borrow.Author.Needs.{needs}
 use Rattle.insertion.proofs.insert_placed.Statement.{statement}
 use Rattle.insertion.proofs.insert_placed.Tie as tie
 
-enum-known-holder : tie.Need-enum-known-holder
-enum-known-holder c = search needs
-
-enum-told : tie.Need-enum-told
-enum-told c = search needs
-
 slice-read-kept : tie.Need-slice-read-kept
 slice-read-kept c = omega (arith, slice-parts (c .before .before .before .before .before .pre .0) .room)
-
-kept-requires : tie.Need-kept-requires
-kept-requires c κs = search needs
 
 returns : tie.Need-returns
 returns c =
@@ -36,9 +27,6 @@ returns-2 c =
     insert-held (s .args .tree .now) (s .args .keys .now) (s .args .number) (s .pre .1) (c .before .holder .given .0 .0)
     (s .pre .2 .holder ∙ ap holderOf (c .before .holder .given .1))
 
-same-length : tie.Need-same-length
-same-length c = search needs
-
 returns-3 : tie.Need-returns-3
 returns-3 c =
     let k = c .before .before .before .before .before in
@@ -51,13 +39,5 @@ returns-3 c =
 pub insert-placed-spec : {M : Type 1} → statement M
 insert-placed-spec =
     tie.close
-    (tie.spec
-    enum-known-holder
-    enum-told
-    slice-read-kept
-    kept-requires
-    returns
-    insert-at-requires
-    returns-2
-    same-length
+    (tie.spec (λ c. search needs) (λ c. search needs) slice-read-kept (λ c κs. search needs) returns insert-at-requires returns-2 (λ c. search needs)
     returns-3)

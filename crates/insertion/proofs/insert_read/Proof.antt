@@ -12,9 +12,6 @@ use borrow.Author.Needs.{needs}
 use Rattle.insertion.proofs.insert_read.Statement.{statement}
 use Rattle.insertion.proofs.insert_read.Tie as tie
 
-slice-aggregate-compile : tie.Need-slice-aggregate-compile
-slice-aggregate-compile c = search needs
-
 compile-requires : tie.Need-compile-requires
 compile-requires c κs = let s = c .before .before .before in (accepted (s .args .words .now) (s .pre .2) .fits, omega arith)
 
@@ -38,9 +35,6 @@ insert-laid-requires c κs =
       few = rw e (keys-few (s .args .words .now) (s .pre .2));
     }
 
-same-length : tie.Need-same-length
-same-length c = search needs
-
 returns : tie.Need-returns
 returns c =
     let k = c .before .before .before .before .before .before in
@@ -55,11 +49,5 @@ returns c =
 pub insert-read-spec : {M : Type 1} → statement M
 insert-read-spec =
     tie.close
-    (tie.spec
-    slice-aggregate-compile
-    compile-requires
-    array-share-prefix-keys
-    slice-aggregate-insert-laid
-    insert-laid-requires
-    same-length
+    (tie.spec (λ c. search needs) compile-requires array-share-prefix-keys slice-aggregate-insert-laid insert-laid-requires (λ c. search needs)
     returns)

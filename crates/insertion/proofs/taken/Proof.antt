@@ -13,23 +13,11 @@ use Rattle.insertion.proofs.taken.Tie as tie
 shared-slice-read-used : tie.Need-shared-slice-read-used
 shared-slice-read-used c = omega (arith, parts _ (c .before .before .pre .0) (c .before .before .pre .1) .room)
 
-used-requires : tie.Need-used-requires
-used-requires c κs = search needs
-
 add-end : tie.Need-add-end
 add-end c = omega (arith, parts _ (c .before .before .before .pre .0) (c .before .before .before .pre .1) .room)
 
-sub-has-number : tie.Need-sub-has-number
-sub-has-number c = search needs
-
-part-has-number-start : tie.Need-part-has-number-start
-part-has-number-start c = search needs
-
 part-has-number-end : tie.Need-part-has-number-end
 part-has-number-end c = omega (arith, parts _ (c .before .before .before .pre .0) (c .before .before .before .pre .1) .room)
-
-has-number-requires : tie.Need-has-number-requires
-has-number-requires c κs = search needs
 
 returns : tie.Need-returns
 returns c =
@@ -40,12 +28,5 @@ returns c =
 pub taken-spec : {M : Type 1} → statement M
 taken-spec =
     tie.close
-    (tie.spec
-    shared-slice-read-used
-    used-requires
-    add-end
-    sub-has-number
-    part-has-number-start
-    part-has-number-end
-    has-number-requires
+    (tie.spec shared-slice-read-used (λ c κs. search needs) add-end (λ c. search needs) (λ c. search needs) part-has-number-end (λ c κs. search needs)
     returns)

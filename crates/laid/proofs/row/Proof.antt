@@ -23,18 +23,6 @@ returns c = sym (row-short (c .before .before .args .words .now) 0 0 (c .before 
 loop-holds : tie.Need-loop-holds Inv-loop μ-loop
 loop-holds c = (search needs, search needs, rw (sub-zero (c .before .before .args .count)))
 
-mul-w : tie.Need-mul-w Inv-loop μ-loop
-mul-w c = search needs
-
-shared-slice-read-w : tie.Need-shared-slice-read-w Inv-loop μ-loop
-shared-slice-read-w c = search needs
-
-extent-requires : tie.Need-extent-requires Inv-loop μ-loop
-extent-requires c κs = search needs
-
-key-requires : tie.Need-key-requires Inv-loop μ-loop
-key-requires c κs = search needs
-
 returns-2 : tie.Need-returns-2 Inv-loop μ-loop
 returns-2 c =
     let t = c .before .before .before .before in
@@ -49,24 +37,12 @@ returns-3 c =
     let a = t .before .before .before .before .args in
     sym (s .inv .2 ∙ row-none (a .words .now) (s .at) (a .count) (s .inv .1) (t .loop-test .taken) (s .least) (omega arith))
 
-sub-if4 : tie.Need-sub-if4 Inv-loop μ-loop
-sub-if4 c = search needs
-
 returns-4 : tie.Need-returns-4 Inv-loop μ-loop
 returns-4 c =
     let t = c .before .before .before .before .before .before in
     let s = t .before .loop in
     let a = t .before .before .before .before .args in
     sym (s .inv .2 ∙ row-wide (a .words .now) (s .at) (a .count) (s .inv .1) (t .loop-test .taken) (s .least) (omega arith))
-
-next-key-requires : tie.Need-next-key-requires Inv-loop μ-loop
-next-key-requires c κs = search needs
-
-add-at : tie.Need-add-at Inv-loop μ-loop
-add-at c = search needs
-
-loop-less : tie.Need-loop-less Inv-loop μ-loop
-loop-less c = search needs
 
 loop-again : tie.Need-loop-again Inv-loop μ-loop
 loop-again c =
@@ -85,21 +61,5 @@ returns-5 c =
 pub row-spec : {M : Type 1} → statement M
 row-spec =
     tie.close
-    (tie.spec
-    Inv-loop
-    μ-loop
-    returns
-    loop-holds
-    mul-w
-    shared-slice-read-w
-    extent-requires
-    key-requires
-    returns-2
-    returns-3
-    sub-if4
-    returns-4
-    next-key-requires
-    add-at
-    loop-less
-    loop-again
-    returns-5)
+    (tie.spec Inv-loop μ-loop returns loop-holds (λ c. search needs) (λ c. search needs) (λ c κs. search needs) (λ c κs. search needs) returns-2
+    returns-3 (λ c. search needs) returns-4 (λ c κs. search needs) (λ c. search needs) (λ c. search needs) loop-again returns-5)

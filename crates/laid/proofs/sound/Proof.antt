@@ -10,12 +10,6 @@ use Rattle.laid.proofs.WellLaid.{sound-success, sound-alone, sound-inne
 use Rattle.laid.proofs.sound.Statement.{statement}
 use Rattle.laid.proofs.sound.Tie as tie
 
-key-requires : tie.Need-key-requires
-key-requires c κs = search needs
-
-extent-requires : tie.Need-extent-requires
-extent-requires c κs = search needs
-
 returns : tie.Need-returns
 returns c = let w = c .before .before .before .args .w in rw (c .before .extent .ensures) (sym (sound-success w (omega arith)))
 
@@ -48,4 +42,4 @@ returns-5 c =
 pub sound-spec : {M : Type 1} → statement M
 sound-spec =
     tie.close
-    (tie.spec key-requires extent-requires returns returns-2 returns-3 returns-4 returns-5)
+    (tie.spec (λ c κs. search needs) (λ c κs. search needs) returns returns-2 returns-3 returns-4 returns-5)

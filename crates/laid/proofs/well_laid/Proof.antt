@@ -40,15 +40,6 @@ inside c = parts (c .before .before .before) ∙ rw (le-leb _ _ (c .before .befo
 returns : tie.Need-returns
 returns c = sym (laid-none (c .before .before .args .tree .now) (c .if1 .taken))
 
-shared-slice-read-header : tie.Need-shared-slice-read-header
-shared-slice-read-header c = search needs
-
-header-requires : tie.Need-header-requires
-header-requires c κs = search needs
-
-sub-if2 : tie.Need-sub-if2
-sub-if2 c = search needs
-
 returns-2 : tie.Need-returns-2
 returns-2 c = sym (parts (c .before) ∙ rw (lt-leb _ _ (c .if2 .taken)))
 
@@ -57,26 +48,8 @@ returns-3 c =
     let h = c .before .before .before in
     sym (parts h ∙ rw (le-leb _ _ (c .before .before .if2 .left), lt-leb (h .header .result .kept) maxKept (omega arith)))
 
-add-end : tie.Need-add-end
-add-end c = search needs
-
-sub-words : tie.Need-sub-words
-sub-words c = search needs
-
-part-words-start : tie.Need-part-words-start
-part-words-start c = search needs
-
-part-words-end : tie.Need-part-words-end
-part-words-end c = search needs
-
-row-requires : tie.Need-row-requires
-row-requires c κs = search needs
-
 returns-4 : tie.Need-returns-4
 returns-4 c = sym (inside (c .before .before .before) ∙ rw (← c .before .row .ensures, not-true (c .before .row .result) (c .if4 .taken)))
-
-rows-requires : tie.Need-rows-requires
-rows-requires c κs = search needs
 
 returns-5 : tie.Need-returns-5
 returns-5 c =
@@ -84,21 +57,6 @@ returns-5 c =
     let all = c .before .rows in
     let tiled = not-false (above .result) (c .before .before .if4 .left) in
     sym (inside (c .before .before .before .before .before) ∙ rw (← above .ensures, tiled, ← all .ensures, not-true (all .result) (c .if5 .taken)))
-
-mul-zeros : tie.Need-mul-zeros
-mul-zeros c = search needs
-
-sub-zeros : tie.Need-sub-zeros
-sub-zeros c = search needs
-
-part-zeros-start : tie.Need-part-zeros-start
-part-zeros-start c = search needs
-
-part-zeros-end : tie.Need-part-zeros-end
-part-zeros-end c = search needs
-
-zeros-requires : tie.Need-zeros-requires
-zeros-requires c κs = search needs
 
 returns-6 : tie.Need-returns-6
 returns-6 c =
@@ -111,24 +69,6 @@ returns-6 c =
 pub well-laid-spec : {M : Type 1} → statement M
 well-laid-spec =
     tie.close
-    (tie.spec
-    returns
-    shared-slice-read-header
-    header-requires
-    sub-if2
-    returns-2
-    returns-3
-    add-end
-    sub-words
-    part-words-start
-    part-words-end
-    row-requires
-    returns-4
-    rows-requires
-    returns-5
-    mul-zeros
-    sub-zeros
-    part-zeros-start
-    part-zeros-end
-    zeros-requires
-    returns-6)
+    (tie.spec returns (λ c. search needs) (λ c κs. search needs) (λ c. search needs) returns-2 returns-3 (λ c. search needs) (λ c. search needs)
+    (λ c. search needs) (λ c. search needs) (λ c κs. search needs) returns-4 (λ c κs. search needs) returns-5 (λ c. search needs) (λ c. search needs)
+    (λ c. search needs) (λ c. search needs) (λ c κs. search needs) returns-6)

@@ -53,29 +53,11 @@ came c = rw (c .tried .given .1) at (c .before .before .before .try-all .ensures
 shared-slice-read-used : tie.Need-shared-slice-read-used
 shared-slice-read-used c = let s = c .before .before .before .before in omega (arith, sized-low (s .args .tree .now) (passed-sized _ (s .pre .0)))
 
-used-requires : tie.Need-used-requires
-used-requires c κs = search needs
-
 add-end : tie.Need-add-end
 add-end c = let s = c .before .before .before .before .before in omega (arith, laid-room (s .args .tree .now) (passed-laid _ (s .pre .0)), c .used .ensures)
 
-sub-fill : tie.Need-sub-fill
-sub-fill c = search needs
-
-part-fill-start : tie.Need-part-fill-start
-part-fill-start c = search needs
-
 part-fill-end : tie.Need-part-fill-end
 part-fill-end c = let s = c .before .before .before .before .before in omega (arith, laid-room (s .args .tree .now) (passed-laid _ (s .pre .0)), c .used .ensures)
-
-slice-aggregate-fill : tie.Need-slice-aggregate-fill
-slice-aggregate-fill c = search needs
-
-slice-aggregate-fill-2 : tie.Need-slice-aggregate-fill-2
-slice-aggregate-fill-2 c = search needs
-
-slice-aggregate-fill-3 : tie.Need-slice-aggregate-fill-3
-slice-aggregate-fill-3 c = search needs
 
 fill-requires : tie.Need-fill-requires
 fill-requires c κs =
@@ -84,20 +66,8 @@ fill-requires c κs =
     let l = passed-laid _ p in
     rw (c .before .before .before .before .used .ensures) (lent-nested _ s l, passed-clauses _ p, lent-few _ s l, refl, fresh-slots)
 
-array-share-prefix-cards : tie.Need-array-share-prefix-cards
-array-share-prefix-cards c = search needs
-
 slice-aggregate-try-all : tie.Need-slice-aggregate-try-all
 slice-aggregate-try-all c = sym (length-take-le _ _ (filled (c .before .before .before .before) .many))
-
-slice-aggregate-try-all-2 : tie.Need-slice-aggregate-try-all-2
-slice-aggregate-try-all-2 c = search needs
-
-slice-aggregate-try-all-3 : tie.Need-slice-aggregate-try-all-3
-slice-aggregate-try-all-3 c = search needs
-
-slice-aggregate-try-all-4 : tie.Need-slice-aggregate-try-all-4
-slice-aggregate-try-all-4 c = search needs
 
 try-all-requires : tie.Need-try-all-requires
 try-all-requires c κs =
@@ -105,9 +75,6 @@ try-all-requires c κs =
     let p = n .before .before .before .before .before .before .before .before .before .before .pre in
     let f = filled n in
     (p .1, f .slots, f .names, omega (arith, length-take-le (n .fill .result) (n .fill .last .1 .0) (f .many), f .few), shelf-accepted _ (p .0) f)
-
-enum-known-tried : tie.Need-enum-known-tried
-enum-known-tried c = search needs
 
 array-share-prefix-numbers : tie.Need-array-share-prefix-numbers
 array-share-prefix-numbers c = came (c .before) .0
@@ -120,15 +87,6 @@ write-numbers-requires c κs =
     let a = c .before .before .before in
     let h = came a in
     omega (arith, length-take-le (a .tried .given .0 .0) (a .before .before .before .try-all .last .1 .1 .1 .1 .1 .1 .0) (h .0), h .1)
-
-enum-told : tie.Need-enum-told
-enum-told c = search needs
-
-enum-told-2 : tie.Need-enum-told-2
-enum-told-2 c = search needs
-
-same-length : tie.Need-same-length
-same-length c = search needs
 
 returns : tie.Need-returns
 returns c =
@@ -154,30 +112,7 @@ returns-3 c =
 pub list-known-spec : {M : Type 1} → statement M
 list-known-spec =
     tie.close
-    (tie.spec
-    shared-slice-read-used
-    used-requires
-    add-end
-    sub-fill
-    part-fill-start
-    part-fill-end
-    slice-aggregate-fill
-    slice-aggregate-fill-2
-    slice-aggregate-fill-3
-    fill-requires
-    array-share-prefix-cards
-    slice-aggregate-try-all
-    slice-aggregate-try-all-2
-    slice-aggregate-try-all-3
-    slice-aggregate-try-all-4
-    try-all-requires
-    enum-known-tried
-    array-share-prefix-numbers
-    slice-aggregate-write-numbers
-    write-numbers-requires
-    enum-told
-    enum-told-2
-    same-length
-    returns
-    returns-2
-    returns-3)
+    (tie.spec shared-slice-read-used (λ c κs. search needs) add-end (λ c. search needs) (λ c. search needs) part-fill-end (λ c. search needs)
+    (λ c. search needs) (λ c. search needs) fill-requires (λ c. search needs) slice-aggregate-try-all (λ c. search needs) (λ c. search needs)
+    (λ c. search needs) try-all-requires (λ c. search needs) array-share-prefix-numbers slice-aggregate-write-numbers write-numbers-requires
+    (λ c. search needs) (λ c. search needs) (λ c. search needs) returns returns-2 returns-3)

@@ -12,23 +12,11 @@ use Rattle.merging.proofs.first_success.Tie as tie
 returns : tie.Need-returns
 returns c = let a = c .before .before .args in sym (ap (λ (d : Descent). d .holder) (descend-done (a .words .now) (a .at) (a .end) (omega arith) []))
 
-mul-key : tie.Need-mul-key
-mul-key c = search needs
-
-shared-slice-read-key : tie.Need-shared-slice-read-key
-shared-slice-read-key c = search needs
-
-key-requires : tie.Need-key-requires
-key-requires c κs = search needs
-
 returns-2 : tie.Need-returns-2
 returns-2 c =
     let a = c .before .before .before .before .before .args in
     sym (ap (λ (d : Descent). d .holder) (descend-found (a .words .now) (a .at) (a .end) (omega arith) (omega arith))
     ∙ not-success (keyAt (a .words .now) (a .at)) (omega (arith, c .before .key .ensures)))
-
-cast-t9 : tie.Need-cast-t9
-cast-t9 c = search needs
 
 returns-3 : tie.Need-returns-3
 returns-3 c =
@@ -39,4 +27,4 @@ returns-3 c =
 pub first-success-spec : {M : Type 1} → statement M
 first-success-spec =
     tie.close
-    (tie.spec returns mul-key shared-slice-read-key key-requires returns-2 cast-t9 returns-3)
+    (tie.spec returns (λ c. search needs) (λ c. search needs) (λ c κs. search needs) returns-2 (λ c. search needs) returns-3)

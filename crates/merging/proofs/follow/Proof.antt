@@ -22,50 +22,20 @@ abbrev μ-loop : tie.MeasureT-loop
 loop-holds : tie.Need-loop-holds Inv-loop μ-loop
 loop-holds c = c .before .before .pre
 
-mul-w : tie.Need-mul-w Inv-loop μ-loop
-mul-w c = search needs
-
-shared-slice-read-w : tie.Need-shared-slice-read-w Inv-loop μ-loop
-shared-slice-read-w c = search needs
-
-key-requires : tie.Need-key-requires Inv-loop μ-loop
-key-requires c κs = search needs
-
-mul-wanted : tie.Need-mul-wanted Inv-loop μ-loop
-mul-wanted c = search needs
-
-shared-slice-read-wanted : tie.Need-shared-slice-read-wanted Inv-loop μ-loop
-shared-slice-read-wanted c = search needs
-
 returns : tie.Need-returns Inv-loop μ-loop
 returns c =
     let s = c .before .before .before .before .before .before .loop .inv in
     leads s (at-stop s (omega arith) (omega (arith, ltb-true)) (omega arith)) Nobody refl
-
-extent-requires : tie.Need-extent-requires Inv-loop μ-loop
-extent-requires c κs = search needs
 
 add-end : tie.Need-add-end Inv-loop μ-loop
 add-end c =
     let s = c .before .before .before .before .before .before .before .before .loop .inv in
     omega (arith, c .extent .ensures, firm-fits s (omega arith), s .room)
 
-add-at : tie.Need-add-at Inv-loop μ-loop
-add-at c = search needs
-
-add-shared : tie.Need-add-shared Inv-loop μ-loop
-add-shared c = search needs
-
-loop-less : tie.Need-loop-less Inv-loop μ-loop
-loop-less c = search needs
-
 loop-again : tie.Need-loop-again Inv-loop μ-loop
 loop-again c =
     let s = c .before .before .before .before .before .before .before .before .loop .inv in
     descending-dive s (omega arith) (omega (arith, ltb-true)) _ (c .extent .ensures) (omega arith)
-
-extent-requires-2 : tie.Need-extent-requires-2 Inv-loop μ-loop
-extent-requires-2 c κs = search needs
 
 add-at-2 : tie.Need-add-at-2 Inv-loop μ-loop
 add-at-2 c =
@@ -95,25 +65,6 @@ returns-2 c =
 pub follow-spec : {M : Type 1} → statement M
 follow-spec =
     tie.close
-    (tie.spec
-    Inv-loop
-    μ-loop
-    loop-holds
-    mul-w
-    shared-slice-read-w
-    key-requires
-    mul-wanted
-    shared-slice-read-wanted
-    returns
-    extent-requires
-    add-end
-    add-at
-    add-shared
-    loop-less
-    loop-again
-    extent-requires-2
-    add-at-2
-    loop-less-2
-    loop-again-2
-    first-success-requires
-    returns-2)
+    (tie.spec Inv-loop μ-loop loop-holds (λ c. search needs) (λ c. search needs) (λ c κs. search needs) (λ c. search needs) (λ c. search needs)
+    returns (λ c κs. search needs) add-end (λ c. search needs) (λ c. search needs) (λ c. search needs) loop-again (λ c κs. search needs) add-at-2
+    loop-less-2 loop-again-2 first-success-requires returns-2)

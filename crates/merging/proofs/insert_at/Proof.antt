@@ -12,17 +12,8 @@ use Rattle.merging.proofs.insert_at.Tie as tie
 slice-read-header : tie.Need-slice-read-header
 slice-read-header c = omega (arith, slice-parts (c .before .before .before .pre .0) .room)
 
-used-requires : tie.Need-used-requires
-used-requires c κs = search needs
-
 add-end : tie.Need-add-end
 add-end c = omega (arith, slice-parts (c .before .before .before .before .pre .0) .room)
-
-sub-new : tie.Need-sub-new
-sub-new c = search needs
-
-add-new : tie.Need-add-new
-add-new c = search needs
 
 add-if1 : tie.Need-add-if1
 add-if1 c =
@@ -35,15 +26,6 @@ returns c =
     let s = c .before .before .before .before .before in
     insert-cramped (s .args .number) (s .args .shared) (s .pre .0) (s .pre .1) (omega (arith, c .if1 .taken, c .before .used .ensures))
 
-sub-raise : tie.Need-sub-raise
-sub-raise c = search needs
-
-part-raise-start : tie.Need-part-raise-start
-part-raise-start c = search needs
-
-part-raise-end : tie.Need-part-raise-end
-part-raise-end c = search needs
-
 raise-requires : tie.Need-raise-requires
 raise-requires c κs =
     let u = c .before .before in
@@ -54,9 +36,6 @@ raise-requires c κs =
 add-from : tie.Need-add-from
 add-from c =
     let s = c .before .before .before .before .before .before .before .before .before in omega (arith, place-inside (s .pre .0) (s .pre .1))
-
-add-to : tie.Need-add-to
-add-to c = search needs
 
 mul-put-in : tie.Need-mul-put-in
 mul-put-in c =
@@ -69,21 +48,6 @@ sub-put-in c =
 part-put-in-start : tie.Need-part-put-in-start
 part-put-in-start c =
     let s = c .before .before .before .before .before .before .before .before .before in omega (arith, place-inside (s .pre .0) (s .pre .1))
-
-part-put-in-end : tie.Need-part-put-in-end
-part-put-in-end c = search needs
-
-mul-put-in-2 : tie.Need-mul-put-in-2
-mul-put-in-2 c = search needs
-
-sub-put-in-2 : tie.Need-sub-put-in-2
-sub-put-in-2 c = search needs
-
-part-put-in-start-2 : tie.Need-part-put-in-start-2
-part-put-in-start-2 c = search needs
-
-part-put-in-end-2 : tie.Need-part-put-in-end-2
-part-put-in-end-2 c = search needs
 
 put-in-requires : tie.Need-put-in-requires
 put-in-requires c κs =
@@ -101,9 +65,6 @@ one-more-requires c κs =
     let i = c .before .before .before .before .before .before .before .before .before in
     let u = i .before in
     omega (arith, i .if1 .left, u .used .ensures, slice-parts (u .before .before .before .before .pre .0) .short)
-
-slice-write-tree : tie.Need-slice-write-tree
-slice-write-tree c = search needs
 
 same-length : tie.Need-same-length
 same-length c = simp length-set (c .before .before .tree2 .given .1 ∙ c .before .before .before .before .before .before .before .tree .given .1)
@@ -125,30 +86,7 @@ returns-2 c =
 pub insert-at-spec : {M : Type 1} → statement M
 insert-at-spec =
     tie.close
-    (tie.spec
-    slice-read-header
-    used-requires
-    add-end
-    sub-new
-    add-new
-    add-if1
-    returns
-    sub-raise
-    part-raise-start
-    part-raise-end
-    raise-requires
-    add-from
-    add-to
-    mul-put-in
-    sub-put-in
-    part-put-in-start
-    part-put-in-end
-    mul-put-in-2
-    sub-put-in-2
-    part-put-in-start-2
-    part-put-in-end-2
-    put-in-requires
-    one-more-requires
-    slice-write-tree
-    same-length
+    (tie.spec slice-read-header (λ c κs. search needs) add-end (λ c. search needs) (λ c. search needs) add-if1 returns (λ c. search needs)
+    (λ c. search needs) (λ c. search needs) raise-requires add-from (λ c. search needs) mul-put-in sub-put-in part-put-in-start (λ c. search needs)
+    (λ c. search needs) (λ c. search needs) (λ c. search needs) (λ c. search needs) put-in-requires one-more-requires (λ c. search needs) same-length
     returns-2)

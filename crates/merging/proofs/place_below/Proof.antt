@@ -15,9 +15,6 @@ shared-slice-read-extent : tie.Need-shared-slice-read-extent
 shared-slice-read-extent c =
     let b = leads-below (c .before .before .before .pre .0) (c .before .before .before .pre .1) in omega (arith, b .order, b .room)
 
-extent-requires : tie.Need-extent-requires
-extent-requires c κs = search needs
-
 add-follow-2 : tie.Need-add-follow-2
 add-follow-2 c =
     let p = c .before .before .before .before .pre in
@@ -27,8 +24,7 @@ add-follow-2 c =
 follow-requires : tie.Need-follow-requires
 follow-requires c κs = let p = c .before .before .before .before .pre in rw (c .extent .ensures) (leads-below (p .0) (p .1))
 
-returns : tie.Need-returns
-returns c = search needs
-
 pub place-below-spec : {M : Type 1} → statement M
-place-below-spec = tie.close (tie.spec add-follow mul-extent shared-slice-read-extent extent-requires add-follow-2 follow-requires returns)
+place-below-spec =
+    tie.close
+    (tie.spec add-follow mul-extent shared-slice-read-extent (λ c κs. search needs) add-follow-2 follow-requires (λ c. search needs))

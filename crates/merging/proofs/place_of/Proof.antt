@@ -7,8 +7,7 @@ use Rattle.merging.proofs.place_of.Tie as tie
 follow-requires : tie.Need-follow-requires
 follow-requires c κs = descending-start _ _ (c .before .before .pre)
 
-returns : tie.Need-returns
-returns c = search needs
-
 pub place-of-spec : {M : Type 1} → statement M
-place-of-spec = tie.close (tie.spec follow-requires returns)
+place-of-spec =
+    tie.close
+    (tie.spec follow-requires (λ c. search needs))

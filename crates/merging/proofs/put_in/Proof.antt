@@ -9,23 +9,11 @@ use borrow.Author.Needs.{needs}
 use Rattle.merging.proofs.put_in.Statement.{statement}
 use Rattle.merging.proofs.put_in.Tie as tie
 
-add-new : tie.Need-add-new
-add-new c = search needs
-
-open-up-requires : tie.Need-open-up-requires
-open-up-requires c κs = search needs
-
-slice-relend-prefix-write-chain : tie.Need-slice-relend-prefix-write-chain
-slice-relend-prefix-write-chain c = search needs
-
 slice-aggregate-write-chain : tie.Need-slice-aggregate-write-chain
 slice-aggregate-write-chain c = sym (length-take-le _ (c .before .before .before .open-up .last .0) (search needs))
 
 write-chain-requires : tie.Need-write-chain-requires
 write-chain-requires c κs = (c .before .before .before .before .before .before .before .pre .0, length-take-le _ (c .before .before .before .open-up .last .0) (search needs))
-
-same-length : tie.Need-same-length
-same-length c = search needs
 
 returns : tie.Need-returns
 returns c =
@@ -38,11 +26,5 @@ returns c =
 pub put-in-spec : {M : Type 1} → statement M
 put-in-spec =
     tie.close
-    (tie.spec
-    add-new
-    open-up-requires
-    slice-relend-prefix-write-chain
-    slice-aggregate-write-chain
-    write-chain-requires
-    same-length
+    (tie.spec (λ c. search needs) (λ c κs. search needs) (λ c. search needs) slice-aggregate-write-chain write-chain-requires (λ c. search needs)
     returns)

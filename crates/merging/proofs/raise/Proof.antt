@@ -19,24 +19,6 @@ abbrev μ-loop : tie.MeasureT-loop
 loop-holds : tie.Need-loop-holds Inv-loop μ-loop
 loop-holds c = raising-start _ _ _ (c .before .before .pre .0)
 
-mul-w : tie.Need-mul-w Inv-loop μ-loop
-mul-w c = search needs
-
-slice-read-w : tie.Need-slice-read-w Inv-loop μ-loop
-slice-read-w c = search needs
-
-key-requires : tie.Need-key-requires Inv-loop μ-loop
-key-requires c κs = search needs
-
-mul-wanted : tie.Need-mul-wanted Inv-loop μ-loop
-mul-wanted c = search needs
-
-shared-slice-read-wanted : tie.Need-shared-slice-read-wanted Inv-loop μ-loop
-shared-slice-read-wanted c = search needs
-
-same-length : tie.Need-same-length Inv-loop μ-loop
-same-length c = search needs
-
 returns : tie.Need-returns Inv-loop μ-loop
 returns c =
     let s = c .before .before .before .before .before .before .loop .inv in
@@ -47,36 +29,15 @@ add-words c =
     let s = c .before .before .before .before .before .before .before .loop .inv in
     omega (arith, as-was s (omega arith), firm-small (s .on) (omega arith) _ (c .before .before .before .before .before .before .before .before .before .before .pre .1))
 
-mul-words : tie.Need-mul-words Inv-loop μ-loop
-mul-words c = search needs
-
-slice-write-words : tie.Need-slice-write-words Inv-loop μ-loop
-slice-write-words c = search needs
-
-extent-requires : tie.Need-extent-requires Inv-loop μ-loop
-extent-requires c κs = search needs
-
 add-end : tie.Need-add-end Inv-loop μ-loop
 add-end c =
     let s = c .before .before .before .before .before .before .before .before .loop .inv in
     omega (arith, c .extent .ensures, as-was s (omega arith), firm-fits (s .on) (omega arith), s .on .room)
 
-add-at : tie.Need-add-at Inv-loop μ-loop
-add-at c = search needs
-
-add-shared : tie.Need-add-shared Inv-loop μ-loop
-add-shared c = search needs
-
-loop-less : tie.Need-loop-less Inv-loop μ-loop
-loop-less c = search needs
-
 loop-again : tie.Need-loop-again Inv-loop μ-loop
 loop-again c =
     let s = c .before .before .before .before .before .before .before .before .loop .inv in
     raising-dive s (omega arith) (omega (arith, ltb-true)) _ (c .extent .ensures) (omega arith)
-
-extent-requires-2 : tie.Need-extent-requires-2 Inv-loop μ-loop
-extent-requires-2 c κs = search needs
 
 add-at-2 : tie.Need-add-at-2 Inv-loop μ-loop
 add-at-2 c =
@@ -93,14 +54,8 @@ loop-again-2 c =
     let s = c .before .before .before .before .before .before .before .before .loop .inv in
     raising-hop s (omega arith) (omega (arith, ltb-true)) _ (c .extent2 .ensures) (lt-of-le-ne (omega arith) (λ e. c .before .if3 .left (omega arith)))
 
-same-length-2 : tie.Need-same-length-2 Inv-loop μ-loop
-same-length-2 c = search needs
-
 returns-2 : tie.Need-returns-2 Inv-loop μ-loop
 returns-2 c = let s = c .before .before .loop .inv in all-raised (s .on) (at-end (s .on) (inr (omega (arith, ltb-false)))) _ (s .words)
-
-same-length-3 : tie.Need-same-length-3 Inv-loop μ-loop
-same-length-3 c = search needs
 
 returns-3 : tie.Need-returns-3 Inv-loop μ-loop
 returns-3 c = let s = c .before .loop .inv in all-raised (s .on) (at-end (s .on) (inl (omega arith))) _ (s .words)
@@ -108,31 +63,7 @@ returns-3 c = let s = c .before .loop .inv in all-raised (s .on) (at-end (s .on)
 pub raise-spec : {M : Type 1} → statement M
 raise-spec =
     tie.close
-    (tie.spec
-    Inv-loop
-    μ-loop
-    loop-holds
-    mul-w
-    slice-read-w
-    key-requires
-    mul-wanted
-    shared-slice-read-wanted
-    same-length
-    returns
-    add-words
-    mul-words
-    slice-write-words
-    extent-requires
-    add-end
-    add-at
-    add-shared
-    loop-less
-    loop-again
-    extent-requires-2
-    add-at-2
-    loop-less-2
-    loop-again-2
-    same-length-2
-    returns-2
-    same-length-3
-    returns-3)
+    (tie.spec Inv-loop μ-loop loop-holds (λ c. search needs) (λ c. search needs) (λ c κs. search needs) (λ c. search needs) (λ c. search needs)
+    (λ c. search needs) returns add-words (λ c. search needs) (λ c. search needs) (λ c κs. search needs) add-end (λ c. search needs)
+    (λ c. search needs) (λ c. search needs) loop-again (λ c κs. search needs) add-at-2 loop-less-2 loop-again-2 (λ c. search needs) returns-2
+    (λ c. search needs) returns-3)

@@ -27,9 +27,6 @@ abbrev μ-loop : tie.MeasureT-loop
 loop-holds : tie.Need-loop-holds Inv-loop μ-loop
 loop-holds c = (search needs, λ h e. apart cc, refl)
 
-enum-known-argument : tie.Need-enum-known-argument Inv-loop μ-loop
-enum-known-argument c = search needs
-
 -- past an argument: what was read before it, and where it stands
 there : (c : tie.After-past Inv-loop μ-loop)
     → let x = c .before .before .before .before in
@@ -40,26 +37,11 @@ there c =
     let e = c .before .before .argument .given .1 in
     (x .loop .inv .1 _ e, x .loop .inv .2 ∙ ap (readOn (x .before .before .args .words .now) (x .loop .at) (x .loop .count)) e)
 
-past-requires : tie.Need-past-requires Inv-loop μ-loop
-past-requires c κs = search needs
-
-enum-known-passed : tie.Need-enum-known-passed Inv-loop μ-loop
-enum-known-passed c = search needs
-
-enum-told : tie.Need-enum-told Inv-loop μ-loop
-enum-told c = search needs
-
-position-requires : tie.Need-position-requires Inv-loop μ-loop
-position-requires c κs = search needs
-
 returns : tie.Need-returns Inv-loop μ-loop
 returns c =
     let p = c .before .before .before in
     let e = c .before .enum-told .given .1 in
     sym (there p .1 ∙ rw (c .position .ensures, e) (read-off _ _ _ _ (sym (p .past .ensures) ∙ e)))
-
-right-requires : tie.Need-right-requires Inv-loop μ-loop
-right-requires c κs = search needs
 
 loop-less : tie.Need-loop-less Inv-loop μ-loop
 loop-less c =
@@ -89,20 +71,8 @@ none c =
     let x = c .before .before in
     x .loop .inv .2 ∙ ap (readOn (x .before .before .args .words .now) (x .loop .at) (x .loop .count)) (c .enum-told2 .given .1)
 
-enum-told-2 : tie.Need-enum-told-2 Inv-loop μ-loop
-enum-told-2 c = search needs
-
 returns-2 : tie.Need-returns-2 Inv-loop μ-loop
 returns-2 c = sym (none (c .before) ∙ scan-none _ _ _ (c .if1 .taken))
-
-mul-is-head : tie.Need-mul-is-head Inv-loop μ-loop
-mul-is-head c = search needs
-
-shared-slice-read-is-head : tie.Need-shared-slice-read-is-head Inv-loop μ-loop
-shared-slice-read-is-head c = search needs
-
-is-head-requires : tie.Need-is-head-requires Inv-loop μ-loop
-is-head-requires c κs = search needs
 
 returns-3 : tie.Need-returns-3 Inv-loop μ-loop
 returns-3 c =
@@ -115,18 +85,6 @@ returns-4 c =
     let h = c .before .before in
     let i = h .before .before in
     sym (none (i .before) ∙ scan-ninth _ _ _ (i .if1 .left) (sym (h .is-head .ensures) ∙ not-false _ (c .before .if2 .left)) (c .if3 .taken))
-
-head-requires : tie.Need-head-requires Inv-loop μ-loop
-head-requires c κs = search needs
-
-down-requires : tie.Need-down-requires Inv-loop μ-loop
-down-requires c κs = search needs
-
-add-at : tie.Need-add-at Inv-loop μ-loop
-add-at c = search needs
-
-add-count : tie.Need-add-count Inv-loop μ-loop
-add-count c = search needs
 
 loop-less-2 : tie.Need-loop-less-2 Inv-loop μ-loop
 loop-less-2 c = omega (arith, c .before .before .before .before .before .before .if1 .left)
@@ -148,29 +106,6 @@ loop-again-2 c =
 pub literals-spec : {M : Type 1} → statement M
 literals-spec =
     tie.close
-    (tie.spec
-    Inv-loop
-    μ-loop
-    loop-holds
-    enum-known-argument
-    past-requires
-    enum-known-passed
-    enum-told
-    position-requires
-    returns
-    right-requires
-    loop-less
-    loop-again
-    enum-told-2
-    returns-2
-    mul-is-head
-    shared-slice-read-is-head
-    is-head-requires
-    returns-3
-    returns-4
-    head-requires
-    down-requires
-    add-at
-    add-count
-    loop-less-2
-    loop-again-2)
+    (tie.spec Inv-loop μ-loop loop-holds (λ c. search needs) (λ c κs. search needs) (λ c. search needs) (λ c. search needs) (λ c κs. search needs)
+    returns (λ c κs. search needs) loop-less loop-again (λ c. search needs) returns-2 (λ c. search needs) (λ c. search needs) (λ c κs. search needs)
+    returns-3 returns-4 (λ c κs. search needs) (λ c κs. search needs) (λ c. search needs) (λ c. search needs) loop-less-2 loop-again-2)

@@ -11,11 +11,10 @@ returns c = sym (shape-empty _ (c .if1 .taken))
 returns-2 : tie.Need-returns-2
 returns-2 c = sym (shape-long _ (c .if2 .taken))
 
-literals-requires : tie.Need-literals-requires
-literals-requires c κs = search needs
-
 returns-3 : tie.Need-returns-3
 returns-3 c = c .literals .ensures ∙ sym (shape-scan _ (c .before .before .if1 .left) (c .before .if2 .left))
 
 pub read-spec : {M : Type 1} → statement M
-read-spec = tie.close (tie.spec returns returns-2 literals-requires returns-3)
+read-spec =
+    tie.close
+    (tie.spec returns returns-2 (λ c κs. search needs) returns-3)

@@ -8,18 +8,9 @@ use borrow.Author.Needs.{needs}
 use Rattle.removal.proofs.remove.Statement.{statement}
 use Rattle.removal.proofs.remove.Tie as tie
 
-sized-requires : tie.Need-sized-requires
-sized-requires c κs = search needs
-
 returns : tie.Need-returns
 unfolding removal
 returns c = rw (← c .before .sized .ensures, not-true (c .before .sized .result) (c .if1 .taken))
-
-well-laid-requires : tie.Need-well-laid-requires
-well-laid-requires c κs = search needs
-
-same-length : tie.Need-same-length
-same-length c = search needs
 
 returns-2 : tie.Need-returns-2
 unfolding removal
@@ -32,9 +23,6 @@ remove-laid-requires c κs =
     let w = c .before .before in
     let s = w .before .before in
     (sym (s .before .sized .ensures) ∙ not-false _ (s .if1 .left), sym (w .well-laid .ensures) ∙ not-false _ (c .before .if2 .left))
-
-same-length-2 : tie.Need-same-length-2
-same-length-2 c = search needs
 
 returns-3 : tie.Need-returns-3
 returns-3 c =
@@ -50,12 +38,4 @@ returns-3 c =
 pub remove-spec : {M : Type 1} → statement M
 remove-spec =
     tie.close
-    (tie.spec
-    sized-requires
-    returns
-    well-laid-requires
-    same-length
-    returns-2
-    remove-laid-requires
-    same-length-2
-    returns-3)
+    (tie.spec (λ c κs. search needs) returns (λ c κs. search needs) (λ c. search needs) returns-2 remove-laid-requires (λ c. search needs) returns-3)

@@ -33,34 +33,13 @@ slice-read-used : tie.Need-slice-read-used
 slice-read-used c =
     let s = c .before .before in omega (arith, sized-low (s .args .tree .now) (s .pre .0))
 
-used-requires : tie.Need-used-requires
-used-requires c κs = search needs
-
 add-end : tie.Need-add-end
 add-end c =
     let s = c .before .before .before in omega (arith, laid-room (s .args .tree .now) (s .pre .1))
 
-sub-locate : tie.Need-sub-locate
-sub-locate c = search needs
-
-part-locate-start : tie.Need-part-locate-start
-part-locate-start c = search needs
-
 part-locate-end : tie.Need-part-locate-end
 part-locate-end c =
     let s = c .before .before .before .before in omega (arith, laid-room (s .args .tree .now) (s .pre .1))
-
-locate-requires : tie.Need-locate-requires
-locate-requires c κs = search needs
-
-enum-known-located : tie.Need-enum-known-located
-enum-known-located c = search needs
-
-enum-told : tie.Need-enum-told
-enum-told c = search needs
-
-same-length : tie.Need-same-length
-same-length c = search needs
 
 returns : tie.Need-returns
 returns c =
@@ -87,9 +66,6 @@ take-out-requires c κs =
     removable (s .args .tree .now) (s .args .number) (record { place = r .place; last = r .last }) _ (omega arith)
     (sized-high (s .args .tree .now) (s .pre .0)) (omega arith) (s .pre .1) (run l)
 
-same-length-2 : tie.Need-same-length-2
-same-length-2 c = search needs
-
 returns-2 : tie.Need-returns-2
 returns-2 c =
     let l = c .before .before .before .before .before .before in
@@ -99,20 +75,5 @@ returns-2 c =
 pub remove-laid-spec : {M : Type 1} → statement M
 remove-laid-spec =
     tie.close
-    (tie.spec
-    slice-read-used
-    used-requires
-    add-end
-    sub-locate
-    part-locate-start
-    part-locate-end
-    locate-requires
-    enum-known-located
-    enum-told
-    same-length
-    returns
-    add-take-out
-    sub-take-out
-    take-out-requires
-    same-length-2
-    returns-2)
+    (tie.spec slice-read-used (λ c κs. search needs) add-end (λ c. search needs) (λ c. search needs) part-locate-end (λ c κs. search needs)
+    (λ c. search needs) (λ c. search needs) (λ c. search needs) returns add-take-out sub-take-out take-out-requires (λ c. search needs) returns-2)

@@ -8,53 +8,11 @@ use borrow.Author.Needs.{needs}
 use Rattle.removal.proofs.take_out.Statement.{statement}
 use Rattle.removal.proofs.take_out.Tie as tie
 
-slice-read-header : tie.Need-slice-read-header
-slice-read-header c = search needs
-
-used-requires : tie.Need-used-requires
-used-requires c κs = search needs
-
-add-at : tie.Need-add-at
-add-at c = search needs
-
-sub-lower : tie.Need-sub-lower
-sub-lower c = search needs
-
-part-lower-start : tie.Need-part-lower-start
-part-lower-start c = search needs
-
-part-lower-end : tie.Need-part-lower-end
-part-lower-end c = search needs
-
 lower-requires : tie.Need-lower-requires
 lower-requires c κs =
     let s = c .before .before .before .before in
     let w : s .args .place + 1 - 1 ≡ s .args .place = omega arith in
     rw w (s .pre .high)
-
-mul-close-up : tie.Need-mul-close-up
-mul-close-up c = search needs
-
-sub-close-up : tie.Need-sub-close-up
-sub-close-up c = search needs
-
-part-close-up-start : tie.Need-part-close-up-start
-part-close-up-start c = search needs
-
-part-close-up-end : tie.Need-part-close-up-end
-part-close-up-end c = search needs
-
-sub-close-up-2 : tie.Need-sub-close-up-2
-sub-close-up-2 c = search needs
-
-close-up-requires : tie.Need-close-up-requires
-close-up-requires c κs = search needs
-
-one-less-requires : tie.Need-one-less-requires
-one-less-requires c κs = search needs
-
-slice-write-tree : tie.Need-slice-write-tree
-slice-write-tree c = search needs
 
 same-length : tie.Need-same-length
 same-length c =
@@ -72,21 +30,6 @@ returns c =
 pub take-out-spec : {M : Type 1} → statement M
 take-out-spec =
     tie.close
-    (tie.spec
-    slice-read-header
-    used-requires
-    add-at
-    sub-lower
-    part-lower-start
-    part-lower-end
-    lower-requires
-    mul-close-up
-    sub-close-up
-    part-close-up-start
-    part-close-up-end
-    sub-close-up-2
-    close-up-requires
-    one-less-requires
-    slice-write-tree
-    same-length
-    returns)
+    (tie.spec (λ c. search needs) (λ c κs. search needs) (λ c. search needs) (λ c. search needs) (λ c. search needs) (λ c. search needs)
+    lower-requires (λ c. search needs) (λ c. search needs) (λ c. search needs) (λ c. search needs) (λ c. search needs) (λ c κs. search needs)
+    (λ c κs. search needs) (λ c. search needs) same-length returns)

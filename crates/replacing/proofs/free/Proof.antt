@@ -20,12 +20,6 @@ abbrev μ-loop : tie.MeasureT-loop
 loop-holds : tie.Need-loop-holds Inv-loop μ-loop
 loop-holds c = freeing-none _ _ (c .pre .0)
 
-mul-at : tie.Need-mul-at Inv-loop μ-loop
-mul-at c = search needs
-
-shared-slice-read-at : tie.Need-shared-slice-read-at Inv-loop μ-loop
-shared-slice-read-at c = search needs
-
 cast-at : tie.Need-cast-at Inv-loop μ-loop
 cast-at c = record { fits = omega (arith, c .shared-slice-known .given (c .before .before .loop .i)) }
 
@@ -39,9 +33,6 @@ slice-write-marks c =
     let l = c .before .before .before .before in
     omega (arith, all-get (l .before .args .numbers .now) (l .before .pre .1) (l .loop .i) 0 (omega arith), l .loop .inv .many)
 
-add-i : tie.Need-add-i Inv-loop μ-loop
-add-i c = search needs
-
 loop-less : tie.Need-loop-less Inv-loop μ-loop
 loop-less c = omega arith
 
@@ -52,26 +43,11 @@ loop-again c =
     let n = getD (l .before .args .numbers .now) (l .loop .i) 0 in
     freeing-more (l .loop .inv) (omega arith) (⊎-elim (λ w. w .1 ∙ freed-marked m n (w .0 .taken)) (λ w. w .1 ∙ freed-free m n (w .0 .left)) (c .if1 .came))
 
-same-length : tie.Need-same-length Inv-loop μ-loop
-same-length c = search needs
-
 returns : tie.Need-returns Inv-loop μ-loop
 returns c = freeing-done (c .before .loop .inv) (omega arith)
 
 pub free-spec : {M : Type 1} → statement M
 free-spec =
     tie.close
-    (tie.spec
-    Inv-loop
-    μ-loop
-    loop-holds
-    mul-at
-    shared-slice-read-at
-    cast-at
-    slice-read-if1
-    slice-write-marks
-    add-i
-    loop-less
-    loop-again
-    same-length
-    returns)
+    (tie.spec Inv-loop μ-loop loop-holds (λ c. search needs) (λ c. search needs) cast-at slice-read-if1 slice-write-marks (λ c. search needs)
+    loop-less loop-again (λ c. search needs) returns)

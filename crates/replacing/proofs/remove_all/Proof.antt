@@ -24,18 +24,6 @@ abbrev μ-loop : tie.MeasureT-loop
 loop-holds : tie.Need-loop-holds Inv-loop μ-loop
 loop-holds c = (omega arith, refl, refl)
 
-mul-remove : tie.Need-mul-remove Inv-loop μ-loop
-mul-remove c = search needs
-
-shared-slice-read-remove : tie.Need-shared-slice-read-remove Inv-loop μ-loop
-shared-slice-read-remove c = search needs
-
-remove-requires : tie.Need-remove-requires Inv-loop μ-loop
-remove-requires c κs = search needs
-
-add-i : tie.Need-add-i Inv-loop μ-loop
-add-i c = search needs
-
 loop-less : tie.Need-loop-less Inv-loop μ-loop
 loop-less c = omega arith
 
@@ -64,15 +52,5 @@ returns c =
 pub remove-all-spec : {M : Type 1} → statement M
 remove-all-spec =
     tie.close
-    (tie.spec
-    Inv-loop
-    μ-loop
-    loop-holds
-    mul-remove
-    shared-slice-read-remove
-    remove-requires
-    add-i
-    loop-less
-    loop-again
-    same-length
-    returns)
+    (tie.spec Inv-loop μ-loop loop-holds (λ c. search needs) (λ c. search needs) (λ c κs. search needs) (λ c. search needs) loop-less loop-again
+    same-length returns)

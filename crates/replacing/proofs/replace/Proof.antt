@@ -14,51 +14,6 @@ use Rattle.replacing.proofs.Copying.{enters-kept, enters-refused}
 use Rattle.replacing.proofs.replace.Statement.{statement}
 use Rattle.replacing.proofs.replace.Tie as tie
 
-slice-aggregate-copy : tie.Need-slice-aggregate-copy
-slice-aggregate-copy c = search needs
-
-copy-requires : tie.Need-copy-requires
-copy-requires c κs = search needs
-
-slice-aggregate-remove-all : tie.Need-slice-aggregate-remove-all
-slice-aggregate-remove-all c = search needs
-
-remove-all-requires : tie.Need-remove-all-requires
-remove-all-requires c κs = search needs
-
-slice-aggregate-insert : tie.Need-slice-aggregate-insert
-slice-aggregate-insert c = search needs
-
-insert-requires : tie.Need-insert-requires
-insert-requires c κs = search needs
-
-enum-known-answer : tie.Need-enum-known-answer
-enum-known-answer c = search needs
-
-slice-aggregate-copy-2 : tie.Need-slice-aggregate-copy-2
-slice-aggregate-copy-2 c = search needs
-
-copy-requires-2 : tie.Need-copy-requires-2
-copy-requires-2 c κs = search needs
-
-free-requires : tie.Need-free-requires
-free-requires c κs = search needs
-
-slice-write-marks : tie.Need-slice-write-marks
-slice-write-marks c = search needs
-
-slice-read-used : tie.Need-slice-read-used
-slice-read-used c = search needs
-
-used-requires : tie.Need-used-requires
-used-requires c κs = search needs
-
-same-length : tie.Need-same-length
-same-length c = search needs
-
-same-length-2 : tie.Need-same-length-2
-same-length-2 c = search needs
-
 returns : tie.Need-returns
 returns c =
     let c4 = c .before .before .before .before in
@@ -73,12 +28,6 @@ returns c =
           (c13 .insert .ensures) (λ f e. miss (1 ∷ 2 ∷ 3 ∷ []) 0 tt (rw e at k)) (c8 .copy2 .ensures) (c .used .ensures),
       (ap (λ (m : List ℕ). set m (a .number) 1) (c4 .free .ensures ∙ ap (λ (l : List ℕ). freeing l (a .marks .now)) (sym (take-all (length ns) ns (omega arith)))), omega arith),
     )
-
-code-requires : tie.Need-code-requires
-code-requires c κs = search needs
-
-same-length-3 : tie.Need-same-length-3
-same-length-3 c = search needs
 
 returns-2 : tie.Need-returns-2
 returns-2 c =
@@ -96,23 +45,6 @@ returns-2 c =
 pub replace-spec : {M : Type 1} → statement M
 replace-spec =
     tie.close
-    (tie.spec
-    slice-aggregate-copy
-    copy-requires
-    slice-aggregate-remove-all
-    remove-all-requires
-    slice-aggregate-insert
-    insert-requires
-    enum-known-answer
-    slice-aggregate-copy-2
-    copy-requires-2
-    free-requires
-    slice-write-marks
-    slice-read-used
-    used-requires
-    same-length
-    same-length-2
-    returns
-    code-requires
-    same-length-3
-    returns-2)
+    (tie.spec (λ c. search needs) (λ c κs. search needs) (λ c. search needs) (λ c κs. search needs) (λ c. search needs) (λ c κs. search needs)
+    (λ c. search needs) (λ c. search needs) (λ c κs. search needs) (λ c κs. search needs) (λ c. search needs) (λ c. search needs)
+    (λ c κs. search needs) (λ c. search needs) (λ c. search needs) returns (λ c κs. search needs) (λ c. search needs) returns-2)

@@ -5,26 +5,11 @@ use borrow.Author.Needs.{needs}
 use Rattle.replay.proofs.number_at.Statement.{statement}
 use Rattle.replay.proofs.number_at.Tie as tie
 
-mul-result : tie.Need-mul-result
-mul-result c = search needs
-
-shared-slice-read-result : tie.Need-shared-slice-read-result
-shared-slice-read-result c = search needs
-
 cast-result : tie.Need-cast-result
 cast-result c = omega (arith, c .shared-slice-known .given (c .before .args .at))
 
 mul-result-2 : tie.Need-mul-result-2
 mul-result-2 c = omega (arith, c .shared-slice-known .given (c .before .args .at))
-
-add-result : tie.Need-add-result
-add-result c = search needs
-
-mul-result-3 : tie.Need-mul-result-3
-mul-result-3 c = search needs
-
-shared-slice-read-result-2 : tie.Need-shared-slice-read-result-2
-shared-slice-read-result-2 c = search needs
 
 cast-result-2 : tie.Need-cast-result-2
 cast-result-2 c = omega (arith, c .shared-slice-known2 .given (c .before .before .args .at + 1))
@@ -32,20 +17,8 @@ cast-result-2 c = omega (arith, c .shared-slice-known2 .given (c .before .before
 add-result-2 : tie.Need-add-result-2
 add-result-2 c = let a = c .before .before .args in omega (arith, c .shared-slice-known2 .given (a .at), c .shared-slice-known2 .given (a .at + 1))
 
-returns : tie.Need-returns
-returns c = search needs
-
 pub number-at-spec : {M : Type 1} → statement M
 number-at-spec =
     tie.close
-    (tie.spec
-    mul-result
-    shared-slice-read-result
-    cast-result
-    mul-result-2
-    add-result
-    mul-result-3
-    shared-slice-read-result-2
-    cast-result-2
-    add-result-2
-    returns)
+    (tie.spec (λ c. search needs) (λ c. search needs) cast-result mul-result-2 (λ c. search needs) (λ c. search needs) (λ c. search needs)
+    cast-result-2 add-result-2 (λ c. search needs))

@@ -30,17 +30,8 @@ Inv-loop tree₀ calls at₀ tree at =
 abbrev μ-loop : tie.MeasureT-loop
 μ-loop tree₀ calls at₀ tree at = length calls - at
 
-fresh-requires : tie.Need-fresh-requires Inv-loop μ-loop
-fresh-requires c κs = search needs
-
 loop-holds : tie.Need-loop-holds Inv-loop μ-loop
 loop-holds c = (refl, omega arith, (λ f. f), refl)
-
-add-loop : tie.Need-add-loop Inv-loop μ-loop
-add-loop c = search needs
-
-run-one-requires : tie.Need-run-one-requires Inv-loop μ-loop
-run-one-requires c κs = search needs
 
 loop-less : tie.Need-loop-less Inv-loop μ-loop
 loop-less c = let r = c .before .before .run-one .ensures in omega (arith, r .further, r .inside)
@@ -50,9 +41,6 @@ loop-again c =
     let r = c .before .before .run-one .ensures in
     let i = c .before .before .before .before .before .loop .inv in
     (search needs, r .inside, (λ f. i .2 (ran-fit r f)), i .3 ∙ ran-after r)
-
-same-length : tie.Need-same-length Inv-loop μ-loop
-same-length c = search needs
 
 -- the claims of saved slices
 saved : ReachSaved × PassedSaved × SavedIsMade × SavedDemand2 × SavedDemand3 × ReadsBook
@@ -74,14 +62,5 @@ returns c =
 pub run-spec : {M : Type 1} → statement M
 run-spec =
     tie.close
-    (tie.spec
-    Inv-loop
-    μ-loop
-    fresh-requires
-    loop-holds
-    add-loop
-    run-one-requires
-    loop-less
-    loop-again
-    same-length
+    (tie.spec Inv-loop μ-loop (λ c κs. search needs) loop-holds (λ c. search needs) (λ c κs. search needs) loop-less loop-again (λ c. search needs)
     returns)

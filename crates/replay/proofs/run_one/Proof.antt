@@ -10,27 +10,6 @@ use borrow.Author.Needs.{needs}
 use Rattle.replay.proofs.run_one.Statement.{statement}
 use Rattle.replay.proofs.run_one.Tie as tie
 
-add-from : tie.Need-add-from
-add-from c = search needs
-
-add-number-at : tie.Need-add-number-at
-add-number-at c = search needs
-
-number-at-requires : tie.Need-number-at-requires
-number-at-requires c κs = search needs
-
-mul-kind : tie.Need-mul-kind
-mul-kind c = search needs
-
-shared-slice-read-kind : tie.Need-shared-slice-read-kind
-shared-slice-read-kind c = search needs
-
-remove-requires : tie.Need-remove-requires
-remove-requires c κs = search needs
-
-same-length : tie.Need-same-length
-same-length c = search needs
-
 returns : tie.Need-returns
 returns c =
     let k = c .before .before .before .before in
@@ -48,32 +27,8 @@ returns c =
       inside = s .pre;
     }
 
-sub-clause-end : tie.Need-sub-clause-end
-sub-clause-end c = search needs
-
 cast-clause-end : tie.Need-cast-clause-end
 cast-clause-end c = omega (arith, c .before .shared-slice-known2 .given (c .before .before .before .before .before .args .at))
-
-clause-end-requires : tie.Need-clause-end-requires
-clause-end-requires c κs = search needs
-
-mul-insert : tie.Need-mul-insert
-mul-insert c = search needs
-
-sub-insert : tie.Need-sub-insert
-sub-insert c = search needs
-
-part-insert-start : tie.Need-part-insert-start
-part-insert-start c = search needs
-
-part-insert-end : tie.Need-part-insert-end
-part-insert-end c = search needs
-
-insert-requires : tie.Need-insert-requires
-insert-requires c κs = search needs
-
-same-length-2 : tie.Need-same-length-2
-same-length-2 c = search needs
 
 returns-2 : tie.Need-returns-2
 returns-2 c =
@@ -98,22 +53,6 @@ returns-2 c =
 pub run-one-spec : {M : Type 1} → statement M
 run-one-spec =
     tie.close
-    (tie.spec
-    add-from
-    add-number-at
-    number-at-requires
-    mul-kind
-    shared-slice-read-kind
-    remove-requires
-    same-length
-    returns
-    sub-clause-end
-    cast-clause-end
-    clause-end-requires
-    mul-insert
-    sub-insert
-    part-insert-start
-    part-insert-end
-    insert-requires
-    same-length-2
-    returns-2)
+    (tie.spec (λ c. search needs) (λ c. search needs) (λ c κs. search needs) (λ c. search needs) (λ c. search needs) (λ c κs. search needs)
+    (λ c. search needs) returns (λ c. search needs) cast-clause-end (λ c κs. search needs) (λ c. search needs) (λ c. search needs) (λ c. search needs)
+    (λ c. search needs) (λ c κs. search needs) (λ c. search needs) returns-2)

@@ -3,24 +3,6 @@ use borrow.Author.Needs.{needs}
 use Rattle.reply.proofs.hand_call.Statement.{statement}
 use Rattle.reply.proofs.hand_call.Tie as tie
 
-enum-known-answer : tie.Need-enum-known-answer
-enum-known-answer c = search needs
-
-refuse-requires : tie.Need-refuse-requires
-refuse-requires c κs = search needs
-
-enum-told : tie.Need-enum-told
-enum-told c = search needs
-
-enum-told-2 : tie.Need-enum-told-2
-enum-told-2 c = search needs
-
-enum-told-3 : tie.Need-enum-told-3
-enum-told-3 c = search needs
-
-same-length : tie.Need-same-length
-same-length c = search needs
-
 returns : tie.Need-returns
 returns c = rw (c .before .before .before .before .before .answer .given .1, c .before .before .refuse .ensures .0, c .before .before .refuse .ensures .1)
 
@@ -36,14 +18,5 @@ returns-4 c = rw (c .enum-told3 .given .1)
 pub hand-call-spec : {M : Type 1} → statement M
 hand-call-spec =
     tie.close
-    (tie.spec
-    enum-known-answer
-    refuse-requires
-    enum-told
-    enum-told-2
-    enum-told-3
-    same-length
-    returns
-    returns-2
-    returns-3
-    returns-4)
+    (tie.spec (λ c. search needs) (λ c κs. search needs) (λ c. search needs) (λ c. search needs) (λ c. search needs) (λ c. search needs) returns
+    returns-2 returns-3 returns-4)

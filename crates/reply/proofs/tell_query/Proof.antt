@@ -4,18 +4,6 @@ use borrow.Author.Needs.{needs}
 use Rattle.reply.proofs.tell_query.Statement.{statement}
 use Rattle.reply.proofs.tell_query.Tie as tie
 
-tell-requires : tie.Need-tell-requires
-tell-requires c κs = search needs
-
-tell-requires-2 : tie.Need-tell-requires-2
-tell-requires-2 c κs = search needs
-
-tell-requires-3 : tie.Need-tell-requires-3
-tell-requires-3 c κs = search needs
-
-same-length : tie.Need-same-length
-same-length c = search needs
-
 returns : tie.Need-returns
 returns c =
     let third = c .before .before in
@@ -25,4 +13,5 @@ returns c =
 
 pub tell-query-spec : {M : Type 1} → statement M
 tell-query-spec =
-    tie.close (tie.spec tell-requires tell-requires-2 tell-requires-3 same-length returns)
+    tie.close
+    (tie.spec (λ c κs. search needs) (λ c κs. search needs) (λ c κs. search needs) (λ c. search needs) returns)

@@ -6,9 +6,6 @@ use borrow.Author.Needs.{needs}
 use Rattle.running.proofs.run.Statement.{statement}
 use Rattle.running.proofs.run.Tie as tie
 
-write-listing-requires : tie.Need-write-listing-requires
-write-listing-requires c κs = search needs
-
 write-tally-requires : tie.Need-write-tally-requires
 write-tally-requires c κs =
     let c6 = c .before .before .before .before .before .before in
@@ -30,24 +27,6 @@ add-t30 c =
     let c22 = c13 .before .before .before .before .before .before .before .before .before in
     record { fits = omega (arith, c22 .write-listing .ensures .short, c4 .write-tally .ensures .1 .0) }
 
-same-length : tie.Need-same-length
-same-length c = search needs
-
-same-length-2 : tie.Need-same-length-2
-same-length-2 c = search needs
-
-same-length-3 : tie.Need-same-length-3
-same-length-3 c = search needs
-
-same-length-4 : tie.Need-same-length-4
-same-length-4 c = search needs
-
-same-length-5 : tie.Need-same-length-5
-same-length-5 c = search needs
-
-same-length-6 : tie.Need-same-length-6
-same-length-6 c = search needs
-
 returns : tie.Need-returns
 returns c =
     let c4 = c .before .before .before .before in
@@ -59,14 +38,5 @@ returns c =
 pub run-spec : {M : Type 1} → statement M
 run-spec =
     tie.close
-    (tie.spec
-    write-listing-requires
-    write-tally-requires
-    add-t30
-    same-length
-    same-length-2
-    same-length-3
-    same-length-4
-    same-length-5
-    same-length-6
-    returns)
+    (tie.spec (λ c κs. search needs) write-tally-requires add-t30 (λ c. search needs) (λ c. search needs) (λ c. search needs) (λ c. search needs)
+    (λ c. search needs) (λ c. search needs) returns)

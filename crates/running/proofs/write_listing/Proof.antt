@@ -7,12 +7,6 @@ use borrow.Author.Needs.{needs}
 use Rattle.running.proofs.write_listing.Statement.{statement}
 use Rattle.running.proofs.write_listing.Tie as tie
 
-feed-all-requires : tie.Need-feed-all-requires
-feed-all-requires c κs = search needs
-
-put-totals-requires : tie.Need-put-totals-requires
-put-totals-requires c κs = search needs
-
 slice-reshare-prefix-write-more : tie.Need-slice-reshare-prefix-write-more
 slice-reshare-prefix-write-more c =
     let c2 = c .before .before in
@@ -29,27 +23,6 @@ slice-aggregate-write-more c =
     let c32 = c20 .before .before .before .before .before .before .before .before .before .before .before .before in
     sym (length-take-le _ _ (omega (arith, c3 .put-totals .ensures .1, c .before .before .output2 .given, c8 .output .given, c32 .pre .0 .room)))
 
-write-more-requires : tie.Need-write-more-requires
-write-more-requires c κs = search needs
-
-same-length : tie.Need-same-length
-same-length c = search needs
-
-same-length-2 : tie.Need-same-length-2
-same-length-2 c = search needs
-
-same-length-3 : tie.Need-same-length-3
-same-length-3 c = search needs
-
-same-length-4 : tie.Need-same-length-4
-same-length-4 c = search needs
-
-same-length-5 : tie.Need-same-length-5
-same-length-5 c = search needs
-
-same-length-6 : tie.Need-same-length-6
-same-length-6 c = search needs
-
 returns : tie.Need-returns
 returns c =
     let c4 = c .before .before .before .before in
@@ -62,16 +35,5 @@ returns c =
 pub write-listing-spec : {M : Type 1} → statement M
 write-listing-spec =
     tie.close
-    (tie.spec
-    feed-all-requires
-    put-totals-requires
-    slice-reshare-prefix-write-more
-    slice-aggregate-write-more
-    write-more-requires
-    same-length
-    same-length-2
-    same-length-3
-    same-length-4
-    same-length-5
-    same-length-6
-    returns)
+    (tie.spec (λ c κs. search needs) (λ c κs. search needs) slice-reshare-prefix-write-more slice-aggregate-write-more (λ c κs. search needs)
+    (λ c. search needs) (λ c. search needs) (λ c. search needs) (λ c. search needs) (λ c. search needs) (λ c. search needs) returns)

@@ -8,21 +8,6 @@ use borrow.Author.Needs.{needs}
 use Rattle.subsume.proofs.main.Statement.{statement}
 use Rattle.subsume.proofs.main.Tie as tie
 
-slice-aggregate-arg : tie.Need-slice-aggregate-arg
-slice-aggregate-arg c = search needs
-
-arg-requires : tie.Need-arg-requires
-arg-requires c κs = search needs
-
-array-share-prefix-argument : tie.Need-array-share-prefix-argument
-array-share-prefix-argument c = search needs
-
-slice-aggregate-setting-of : tie.Need-slice-aggregate-setting-of
-slice-aggregate-setting-of c = search needs
-
-setting-of-requires : tie.Need-setting-of-requires
-setting-of-requires c κs = search needs
-
 slice-aggregate-run : tie.Need-slice-aggregate-run
 slice-aggregate-run c = sym (length-replicate {A = ℕ} 16_384 0)
 
@@ -44,23 +29,8 @@ slice-aggregate-run-6 c = sym (length-replicate {A = ℕ} 1_085_440 0)
 run-requires : tie.Need-run-requires
 run-requires c κs = (buffers 16_384 1_085_440 refl (omega arith), store-first)
 
-returns : tie.Need-returns
-returns c = search needs
-
 pub main-spec : {M : Type 1} → statement M
 main-spec =
     tie.close
-    (tie.spec
-    slice-aggregate-arg
-    arg-requires
-    array-share-prefix-argument
-    slice-aggregate-setting-of
-    setting-of-requires
-    slice-aggregate-run
-    slice-aggregate-run-2
-    slice-aggregate-run-3
-    slice-aggregate-run-4
-    slice-aggregate-run-5
-    slice-aggregate-run-6
-    run-requires
-    returns)
+    (tie.spec (λ c. search needs) (λ c κs. search needs) (λ c. search needs) (λ c. search needs) (λ c κs. search needs) slice-aggregate-run
+    slice-aggregate-run-2 slice-aggregate-run-3 slice-aggregate-run-4 slice-aggregate-run-5 slice-aggregate-run-6 run-requires (λ c. search needs))

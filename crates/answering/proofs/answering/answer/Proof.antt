@@ -13,18 +13,6 @@ use Rattle.answering.proofs.answering.answer.Tie as tie
 query-indexed-requires : tie.Need-query-indexed-requires
 query-indexed-requires c κs = let s = c .before .before .before .before .before .before .before in (steady-sized (s .pre .0), steady-laid (s .pre .0), s .pre .1)
 
-enum-known-refusal : tie.Need-enum-known-refusal
-enum-known-refusal c = search needs
-
-code-requires : tie.Need-code-requires
-code-requires c κs = search needs
-
-enum-known-covering : tie.Need-enum-known-covering
-enum-known-covering c = search needs
-
-enum-told : tie.Need-enum-told
-enum-told c = search needs
-
 go-in-requires : tie.Need-go-in-requires
 go-in-requires c κs =
     let q = c .before .before .before .before .before .before .before in
@@ -44,12 +32,6 @@ reindex-requires c κs =
     let o = asked-in (a .setting) (a .tree .now) (a .words .now) (a .number) (q .query-indexed .ensures) (g .0 .0) (g .1) (i .go-in .ensures) in
     outdated (a .setting) (s .pre .0) (of (a .words .now) (a .number)) w (s .pre .1) o
 
-same-length : tie.Need-same-length
-same-length c = search needs
-
-same-length-2 : tie.Need-same-length-2
-same-length-2 c = search needs
-
 returns : tie.Need-returns
 returns c =
     let q = c .before .before .before .before in
@@ -58,12 +40,6 @@ returns c =
     let g = c .before .before .refusal .given in
     (asked-refused (a .setting) (a .tree .now) (a .words .now) (a .number) (q .query-indexed .ensures) (g .0 .0) (g .1) (c .code .ensures), s .pre .1)
 
-same-length-3 : tie.Need-same-length-3
-same-length-3 c = search needs
-
-same-length-4 : tie.Need-same-length-4
-same-length-4 c = search needs
-
 returns-2 : tie.Need-returns-2
 returns-2 c =
     let q = c .before .before .before in
@@ -71,18 +47,6 @@ returns-2 c =
     let a = s .args in
     let g = c .before .covering .given in
     (asked-struck (a .setting) (a .tree .now) (a .words .now) (a .number) (q .query-indexed .ensures) (g .0 .0) (g .0 .1 .0) (g .1), s .pre .1)
-
-same-length-5 : tie.Need-same-length-5
-same-length-5 c = search needs
-
-same-length-6 : tie.Need-same-length-6
-same-length-6 c = search needs
-
-same-length-7 : tie.Need-same-length-7
-same-length-7 c = search needs
-
-same-length-8 : tie.Need-same-length-8
-same-length-8 c = search needs
 
 returns-3 : tie.Need-returns-3
 returns-3 c =
@@ -97,22 +61,6 @@ returns-3 c =
 pub answer-spec : {M : Type 1} → statement M
 answer-spec =
     tie.close
-    (tie.spec
-    query-indexed-requires
-    enum-known-refusal
-    code-requires
-    enum-known-covering
-    enum-told
-    go-in-requires
-    reindex-requires
-    same-length
-    same-length-2
-    returns
-    same-length-3
-    same-length-4
-    returns-2
-    same-length-5
-    same-length-6
-    same-length-7
-    same-length-8
-    returns-3)
+    (tie.spec query-indexed-requires (λ c. search needs) (λ c κs. search needs) (λ c. search needs) (λ c. search needs) go-in-requires
+    reindex-requires (λ c. search needs) (λ c. search needs) returns (λ c. search needs) (λ c. search needs) returns-2 (λ c. search needs)
+    (λ c. search needs) (λ c. search needs) (λ c. search needs) returns-3)

@@ -13,14 +13,8 @@ use Rattle.answering.proofs.indexing.reindex.Lts as lts
 use Rattle.heads.proofs.clear.Reads as clear-reads
 use Rattle.heads.proofs.renew.Reads as renew-reads
 
-enum-told : tie.Need-enum-told
-enum-told c = search needs
-
 returns : tie.Need-returns
 returns c = let s = c .before .before .before in s .pre .2 .stays (λ u e. let k = c .match .keys2 in miss (1 ∷ 2 ∷ []) 0 tt (rw e at k))
-
-clear-requires : tie.Need-clear-requires
-clear-requires c κs = search needs
 
 renew-requires : tie.Need-renew-requires
 renew-requires c κs =
@@ -31,12 +25,7 @@ renew-requires c κs =
       ⊎-elim (λ w. cleared-spare (s .args .tree .now) (o .tree) (w .5 ∙ w .2 .ensures)) (λ w. rw (w .1) (o .more (omega (arith, w .0 .left)))) (c .before .if1 .came),
     )
 
-same-length : tie.Need-same-length
-same-length c = search needs
-
-returns-2 : tie.Need-returns-2
-returns-2 c = search needs
-
 pub reindex-spec : {M : Type 1} → statement M
 reindex-spec =
-    tie.close (tie.spec enum-told returns clear-requires renew-requires same-length returns-2)
+    tie.close
+    (tie.spec (λ c. search needs) returns (λ c κs. search needs) renew-requires (λ c. search needs) (λ c. search needs))

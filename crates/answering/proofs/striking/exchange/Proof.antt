@@ -6,12 +6,6 @@ use borrow.Author.Needs.{needs}
 use Rattle.answering.proofs.striking.exchange.Statement.{statement}
 use Rattle.answering.proofs.striking.exchange.Tie as tie
 
-slice-read-if1 : tie.Need-slice-read-if1
-slice-read-if1 c = search needs
-
-code-requires : tie.Need-code-requires
-code-requires c κs = search needs
-
 returns : tie.Need-returns
 returns c =
     let c3 = c .before .before .before in
@@ -19,15 +13,6 @@ returns c =
     let a = s .args in
     let g = insertable (a .number) (s .pre .0) (s .pre .2) (λ i. omega (arith, c3 .shared-slice-known3 .given i)) (omega (arith, s .fits .number)) in
     (exchange-marked g (a .numbers .now) (c .before .if1 .taken) (c .code .ensures), (refl, omega arith))
-
-replace-requires : tie.Need-replace-requires
-replace-requires c κs = search needs
-
-same-length : tie.Need-same-length
-same-length c = search needs
-
-same-length-2 : tie.Need-same-length-2
-same-length-2 c = search needs
 
 returns-2 : tie.Need-returns-2
 returns-2 c =
@@ -37,18 +22,6 @@ returns-2 c =
     let a = s .args in
     let g = insertable (a .number) (s .pre .0) (s .pre .2) (λ i. omega (arith, c10 .shared-slice-known3 .given i)) (omega (arith, s .fits .number)) in
     (c4 .replace .ensures .0 ∙ exchange-free g (a .numbers .now) (c4 .before .before .before .before .if1 .left), c4 .replace .ensures .1)
-
-keep-requires : tie.Need-keep-requires
-keep-requires c κs = search needs
-
-same-length-3 : tie.Need-same-length-3
-same-length-3 c = search needs
-
-same-length-4 : tie.Need-same-length-4
-same-length-4 c = search needs
-
-same-length-5 : tie.Need-same-length-5
-same-length-5 c = search needs
 
 returns-3 : tie.Need-returns-3
 returns-3 c =
@@ -65,16 +38,5 @@ returns-3 c =
 pub exchange-spec : {M : Type 1} → statement M
 exchange-spec =
     tie.close
-    (tie.spec
-    slice-read-if1
-    code-requires
-    returns
-    replace-requires
-    same-length
-    same-length-2
-    returns-2
-    keep-requires
-    same-length-3
-    same-length-4
-    same-length-5
-    returns-3)
+    (tie.spec (λ c. search needs) (λ c κs. search needs) returns (λ c κs. search needs) (λ c. search needs) (λ c. search needs) returns-2
+    (λ c κs. search needs) (λ c. search needs) (λ c. search needs) (λ c. search needs) returns-3)

@@ -12,12 +12,6 @@ use borrow.Author.Needs.{needs}
 use Rattle.answering.proofs.striking.keep.Statement.{statement}
 use Rattle.answering.proofs.striking.keep.Tie as tie
 
-slice-read-if1 : tie.Need-slice-read-if1
-slice-read-if1 c = search needs
-
-code-requires : tie.Need-code-requires
-code-requires c κs = search needs
-
 returns : tie.Need-returns
 returns c =
     let c1 = c .before in
@@ -60,27 +54,6 @@ insert-below-requires c κs =
     let k = compiled-keys (c4 .compile .ensures) in
     (ready g k, number-new g (c6 .if1 .left), λ l. entry-begins (g .steady) (s .pre .1) (g .accepts) (g .words) k refl l)
 
-enum-known-answer : tie.Need-enum-known-answer
-enum-known-answer c = search needs
-
-slice-write-marks : tie.Need-slice-write-marks
-slice-write-marks c = search needs
-
-slice-read-used : tie.Need-slice-read-used
-slice-read-used c = search needs
-
-used-requires : tie.Need-used-requires
-used-requires c κs = search needs
-
-same-length : tie.Need-same-length
-same-length c = search needs
-
-same-length-2 : tie.Need-same-length-2
-same-length-2 c = search needs
-
-same-length-3 : tie.Need-same-length-3
-same-length-3 c = search needs
-
 returns-2 : tie.Need-returns-2
 returns-2 c =
     let c1 = c .before in
@@ -91,15 +64,6 @@ returns-2 c =
     let g = insertable (s .args .number) (s .pre .0) (s .pre .2) (λ i. omega (arith, c14 .shared-slice-known2 .given i)) (omega (arith, s .fits .number)) in
     let k = c1 .before .match .keys2 in
     (keep-kept g (compiled-keys (c10 .compile .ensures)) (c5 .insert-below .ensures) (λ f e. miss (1 ∷ 2 ∷ 3 ∷ []) 0 tt (rw e at k)) (c .used .ensures), refl)
-
-code-requires-2 : tie.Need-code-requires-2
-code-requires-2 c κs = search needs
-
-same-length-4 : tie.Need-same-length-4
-same-length-4 c = search needs
-
-same-length-5 : tie.Need-same-length-5
-same-length-5 c = search needs
 
 returns-3 : tie.Need-returns-3
 returns-3 c =
@@ -114,28 +78,7 @@ returns-3 c =
 pub keep-spec : {M : Type 1} → statement M
 keep-spec =
     tie.close
-    (tie.spec
-    slice-read-if1
-    code-requires
-    returns
-    compile-requires
-    shared-slice-read-head
-    cast-head
-    mul-at
-    shared-slice-read-at
-    cast-at
-    slice-reshare-prefix-insert-below
-    slice-aggregate-insert-below
-    insert-below-requires
-    enum-known-answer
-    slice-write-marks
-    slice-read-used
-    used-requires
-    same-length
-    same-length-2
-    same-length-3
-    returns-2
-    code-requires-2
-    same-length-4
-    same-length-5
-    returns-3)
+    (tie.spec (λ c. search needs) (λ c κs. search needs) returns compile-requires shared-slice-read-head cast-head mul-at shared-slice-read-at cast-at
+    slice-reshare-prefix-insert-below slice-aggregate-insert-below insert-below-requires (λ c. search needs) (λ c. search needs) (λ c. search needs)
+    (λ c κs. search needs) (λ c. search needs) (λ c. search needs) (λ c. search needs) returns-2 (λ c κs. search needs) (λ c. search needs)
+    (λ c. search needs) returns-3)

@@ -11,15 +11,6 @@ use Rattle.answering.proofs.striking.strike_back.Tie as tie
 list-known-requires : tie.Need-list-known-requires
 list-known-requires c κs = let s = c .before .before .before .before .before .before .before in (steady-passes (s .pre .0), s .pre .2)
 
-enum-known-refusal : tie.Need-enum-known-refusal
-enum-known-refusal c = search needs
-
-code-requires : tie.Need-code-requires
-code-requires c κs = search needs
-
-enum-known-count : tie.Need-enum-known-count
-enum-known-count c = search needs
-
 slice-reshare-prefix-exchange : tie.Need-slice-reshare-prefix-exchange
 slice-reshare-prefix-exchange c =
     let c8 = c .before .before .before .before .before .before .before .before in
@@ -47,12 +38,6 @@ exchange-requires c κs =
     let e = c .before .before .before .before .before .count .given in
     (s .pre .0, s .pre .1, s .pre .2, search needs, listed-small g (s .args .list .now) (s .pre .3) (c9 .list-known .ensures) (e .0 .0) (e .0 .1 .0) (e .1))
 
-same-length : tie.Need-same-length
-same-length c = search needs
-
-same-length-2 : tie.Need-same-length-2
-same-length-2 c = search needs
-
 returns : tie.Need-returns
 returns c =
     let c6 = c .before .before .before .before .before .before in
@@ -61,15 +46,6 @@ returns c =
     let g = insertable (s .args .number) (s .pre .0) (s .pre .2) (λ i. omega (arith, c9 .shared-slice-known2 .given i)) (omega (arith, s .fits .number)) in
     let e = c .before .before .refusal .given in
     back-refused g (s .args .list .now) (s .pre .3) (c6 .list-known .ensures) (e .0 .0) (e .1) (c .code .ensures)
-
-same-length-3 : tie.Need-same-length-3
-same-length-3 c = search needs
-
-same-length-4 : tie.Need-same-length-4
-same-length-4 c = search needs
-
-same-length-5 : tie.Need-same-length-5
-same-length-5 c = search needs
 
 returns-2 : tie.Need-returns-2
 returns-2 c =
@@ -87,18 +63,6 @@ returns-2 c =
 pub strike-back-spec : {M : Type 1} → statement M
 strike-back-spec =
     tie.close
-    (tie.spec
-    list-known-requires
-    enum-known-refusal
-    code-requires
-    enum-known-count
-    slice-reshare-prefix-exchange
-    slice-aggregate-exchange
-    exchange-requires
-    same-length
-    same-length-2
-    returns
-    same-length-3
-    same-length-4
-    same-length-5
-    returns-2)
+    (tie.spec list-known-requires (λ c. search needs) (λ c κs. search needs) (λ c. search needs) slice-reshare-prefix-exchange
+    slice-aggregate-exchange exchange-requires (λ c. search needs) (λ c. search needs) returns (λ c. search needs) (λ c. search needs)
+    (λ c. search needs) returns-2)

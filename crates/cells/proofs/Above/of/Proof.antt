@@ -13,4 +13,6 @@ unfolding aboveOf
 returns-2 c = rw (ne-eqb _ noPosition (c .if1 .left))
 
 pub of-spec : {M : Type 1} → statement M
-of-spec = tie.close (tie.spec returns returns-2)
+of-spec =
+    tie.close
+    (tie.spec returns returns-2)

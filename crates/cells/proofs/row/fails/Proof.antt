@@ -5,14 +5,10 @@ use Rattle.cells.proofs.Unlike.{unlike}
 use Rattle.cells.proofs.row.fails.Statement.{statement}
 use Rattle.cells.proofs.row.fails.Tie as tie
 
-mul-wrapping-sub-u64 : tie.Need-mul-wrapping-sub-u64
-mul-wrapping-sub-u64 c = search needs
-
-wrapping-sub-u64-requires : tie.Need-wrapping-sub-u64-requires
-wrapping-sub-u64-requires c κs = search needs
-
 returns : tie.Need-returns
 returns c e = unlike _ _ _ (c .before .pre) (c .wrapping-sub-u64 .ensures) (ltb-true _ _ e)
 
 pub fails-spec : {M : Type 1} → statement M
-fails-spec = tie.close (tie.spec mul-wrapping-sub-u64 wrapping-sub-u64-requires returns)
+fails-spec =
+    tie.close
+    (tie.spec (λ c. search needs) (λ c κs. search needs) returns)

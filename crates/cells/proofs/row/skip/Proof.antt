@@ -20,35 +20,14 @@ abbrev μ-loop : tie.MeasureT-loop
 loop-holds : tie.Need-loop-holds Inv-loop μ-loop
 loop-holds c = (skipped-none _ _ _ (c .before .pre .0), skipped-none _ _ _)
 
-mul-w : tie.Need-mul-w Inv-loop μ-loop
-mul-w c = search needs
-
-shared-slice-read-w : tie.Need-shared-slice-read-w Inv-loop μ-loop
-shared-slice-read-w c = search needs
-
 fails-requires : tie.Need-fails-requires Inv-loop μ-loop
 fails-requires c κs = c .before .before .before .before .pre .1
-
-sub-result : tie.Need-sub-result Inv-loop μ-loop
-sub-result c = search needs
 
 returns : tie.Need-returns Inv-loop μ-loop
 returns c = let c3 = c .before .before .before in skipped-left (c3 .before .loop .inv .1 (omega (arith, c3 .loop-test .taken)))
 
-extent-requires : tie.Need-extent-requires Inv-loop μ-loop
-extent-requires c κs = search needs
-
-sub-result-2 : tie.Need-sub-result-2 Inv-loop μ-loop
-sub-result-2 c = search needs
-
 returns-2 : tie.Need-returns-2 Inv-loop μ-loop
 returns-2 c = let c5 = c .before .before .before .before .before in skipped-left (c5 .before .loop .inv .1 (omega (arith, c5 .loop-test .taken)))
-
-add-to : tie.Need-add-to Inv-loop μ-loop
-add-to c = search needs
-
-loop-less : tie.Need-loop-less Inv-loop μ-loop
-loop-less c = search needs
 
 loop-again : tie.Need-loop-again Inv-loop μ-loop
 loop-again c =
@@ -73,21 +52,5 @@ returns-4 c =
 pub skip-spec : {M : Type 1} → statement M
 skip-spec =
     tie.close
-    (tie.spec
-    Inv-loop
-    μ-loop
-    loop-holds
-    mul-w
-    shared-slice-read-w
-    fails-requires
-    sub-result
-    returns
-    extent-requires
-    sub-result-2
-    returns-2
-    add-to
-    loop-less
-    loop-again
-    sub-result-3
-    returns-3
-    returns-4)
+    (tie.spec Inv-loop μ-loop loop-holds (λ c. search needs) (λ c. search needs) fails-requires (λ c. search needs) returns (λ c κs. search needs)
+    (λ c. search needs) returns-2 (λ c. search needs) (λ c. search needs) loop-again sub-result-3 returns-3 returns-4)

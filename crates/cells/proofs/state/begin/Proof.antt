@@ -7,12 +7,6 @@ use borrow.Author.Needs.{needs}
 use Rattle.cells.proofs.state.begin.Statement.{statement}
 use Rattle.cells.proofs.state.begin.Tie as tie
 
-enum-told : tie.Need-enum-told
-enum-told c = search needs
-
-element-copy-out-slot : tie.Need-element-copy-out-slot
-element-copy-out-slot c = search needs
-
 cast-slot : tie.Need-cast-slot
 cast-slot c = omega (arith, c .before .before .before .before .pre .3 (c .before .enum-told .given .1))
 
@@ -27,12 +21,6 @@ element-write-cells c = omega (arith, c .before .before .before .before .pre .3 
 
 element-copy-out-wide : tie.Need-element-copy-out-wide
 element-copy-out-wide c = omega (arith, c .before .before .before .before .pre .3 (c .before .enum-told .given .1), accepted _ (c .before .before .before .before .pre .0) .few)
-
-wide-requires : tie.Need-wide-requires
-wide-requires c κs = search needs
-
-enum-told-2 : tie.Need-enum-told-2
-enum-told-2 c = search needs
 
 returns : tie.Need-returns
 unfolding candidate passHead
@@ -49,15 +37,5 @@ returns-2 c = (rw (c .enum-told2 .given .1), rw (c .enum-told2 .given .1))
 pub begin-spec : {M : Type 1} → statement M
 begin-spec =
     tie.close
-    (tie.spec
-    enum-told
-    element-copy-out-slot
-    cast-slot
-    sub-slot
-    cast-cells
-    element-write-cells
-    element-copy-out-wide
-    wide-requires
-    enum-told-2
-    returns
-    returns-2)
+    (tie.spec (λ c. search needs) (λ c. search needs) cast-slot sub-slot cast-cells element-write-cells element-copy-out-wide (λ c κs. search needs)
+    (λ c. search needs) returns returns-2)

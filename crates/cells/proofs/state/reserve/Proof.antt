@@ -9,42 +9,12 @@ use Rattle.cells.proofs.Bits.{taken-low}
 use Rattle.cells.proofs.state.reserve.Statement.{statement}
 use Rattle.cells.proofs.state.reserve.Tie as tie
 
-enum-told : tie.Need-enum-told
-enum-told c = search needs
-
-used-requires : tie.Need-used-requires
-used-requires c κs = search needs
-
-element-copy-out-chosen : tie.Need-element-copy-out-chosen
-element-copy-out-chosen c = search needs
-
-cast-slot : tie.Need-cast-slot
-cast-slot c = search needs
-
-add-cells : tie.Need-add-cells
-add-cells c = search needs
-
-element-write-cells : tie.Need-element-write-cells
-element-write-cells c = search needs
-
-element-copy-out-wide : tie.Need-element-copy-out-wide
-element-copy-out-wide c = search needs
-
-wide-requires : tie.Need-wide-requires
-wide-requires c κs = search needs
-
 cast-result : tie.Need-cast-result
 cast-result c = record { fits = omega (arith, c .wide .ensures .1) }
-
-mul-result : tie.Need-mul-result
-mul-result c = search needs
 
 add-result : tie.Need-add-result
 add-result c = let s = c .before .before .before .before .before .before .before in
     record { fits = omega (arith, c .wide .ensures .1, c .before .before .before .used .ensures, taken-low (s .args .cells .now) (s .pre .0) (s .pre .1)) }
-
-enum-told-2 : tie.Need-enum-told-2
-enum-told-2 c = search needs
 
 returns : tie.Need-returns
 unfolding reserved keptIn usesOf
@@ -68,18 +38,5 @@ returns-2 c = let t = c .enum-told2 .given .1 in (rw t, rw t, rw t)
 pub reserve-spec : {M : Type 1} → statement M
 reserve-spec =
     tie.close
-    (tie.spec
-    enum-told
-    used-requires
-    element-copy-out-chosen
-    cast-slot
-    add-cells
-    element-write-cells
-    element-copy-out-wide
-    wide-requires
-    cast-result
-    mul-result
-    add-result
-    enum-told-2
-    returns
-    returns-2)
+    (tie.spec (λ c. search needs) (λ c κs. search needs) (λ c. search needs) (λ c. search needs) (λ c. search needs) (λ c. search needs)
+    (λ c. search needs) (λ c κs. search needs) cast-result (λ c. search needs) add-result (λ c. search needs) returns returns-2)

@@ -9,15 +9,11 @@ returns : tie.Need-returns
 unfolding restored
 returns c = rw (eq-eqb _ 0 (c .if1 .taken))
 
-cast-cells : tie.Need-cast-cells
-cast-cells c = search needs
-
-element-write-cells : tie.Need-element-write-cells
-element-write-cells c = search needs
-
 returns-2 : tie.Need-returns-2
 unfolding restored
 returns-2 c = rw (ne-eqb _ 0 (c .if1 .left))
 
 pub restore-spec : {M : Type 1} → statement M
-restore-spec = tie.close (tie.spec returns cast-cells element-write-cells returns-2)
+restore-spec =
+    tie.close
+    (tie.spec returns (λ c. search needs) (λ c. search needs) returns-2)

@@ -34,4 +34,5 @@ returns c = let z : c .before .loop .left ≡ 0 = omega arith in sym (c .before 
 
 pub unwind-spec : {M : Type 1} → statement M
 unwind-spec =
-    tie.close (tie.spec Inv-loop μ-loop loop-holds restore-requires loop-less loop-again returns)
+    tie.close
+    (tie.spec Inv-loop μ-loop loop-holds restore-requires loop-less loop-again returns)

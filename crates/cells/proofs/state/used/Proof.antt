@@ -18,17 +18,8 @@ Inv-loop cells bits₀ i₀ bits i = (i ≤ countIn cells) × (bits ≡ bitsOf (
 abbrev μ-loop : tie.MeasureT-loop
 μ-loop cells bits₀ i₀ bits i = i
 
-element-copy-out-i : tie.Need-element-copy-out-i Inv-loop μ-loop
-element-copy-out-i c = search needs
-
-cast-i : tie.Need-cast-i Inv-loop μ-loop
-cast-i c = search needs
-
 loop-holds : tie.Need-loop-holds Inv-loop μ-loop
 loop-holds c = let a = c .before in (omega arith, bits-none (a .args .cells .now) (a .pre .0) (a .pre .1))
-
-sub-i : tie.Need-sub-i Inv-loop μ-loop
-sub-i c = search needs
 
 element-copy-out-bits : tie.Need-element-copy-out-bits Inv-loop μ-loop
 element-copy-out-bits c = omega (arith, c .before .before .before .pre .1 .0, c .before .loop .inv .0)
@@ -46,9 +37,6 @@ cast-bits c = record { fits = omega (arith, small c) }
 shl-bits : tie.Need-shl-bits Inv-loop μ-loop
 shl-bits c = omega (arith, small c)
 
-loop-less : tie.Need-loop-less Inv-loop μ-loop
-loop-less c = search needs
-
 loop-again : tie.Need-loop-again Inv-loop μ-loop
 loop-again c =
     let l = c .before .before in
@@ -61,4 +49,5 @@ returns c = let z : c .before .loop .i ≡ 0 = omega arith in c .before .loop .i
 pub used-spec : {M : Type 1} → statement M
 used-spec =
     tie.close
-    (tie.spec Inv-loop μ-loop element-copy-out-i cast-i loop-holds sub-i element-copy-out-bits cast-bits shl-bits loop-less loop-again returns)
+    (tie.spec Inv-loop μ-loop (λ c. search needs) (λ c. search needs) loop-holds (λ c. search needs) element-copy-out-bits cast-bits shl-bits
+    (λ c. search needs) loop-again returns)

@@ -19,15 +19,6 @@ loop-holds c =
     let s = c .before .before .before .pre in
     record { further = omega arith; inside = s .1; few = s .2; keys-length = s .3; ends-length = s .4; rest = refl }
 
-mul-w : tie.Need-mul-w Inv-loop μ-loop
-mul-w c = search needs
-
-shared-slice-read-w : tie.Need-shared-slice-read-w Inv-loop μ-loop
-shared-slice-read-w c = search needs
-
-key-requires : tie.Need-key-requires Inv-loop μ-loop
-key-requires c κs = search needs
-
 still-open-requires : tie.Need-still-open-requires Inv-loop μ-loop
 still-open-requires c κs = let g = c .before .before .before .before .loop .inv in omega (arith, g .few, g .ends-length)
 
@@ -54,32 +45,14 @@ returns-2 c =
     let k = rw (c .before .before .before .before .key .ensures) at (c .before .if1 .left) in
     gone-deep (l .loop .inv) (omega arith) _ (c .before .before .still-open .ensures) (l .before .before .before .before .pre .0) (omega arith) (c .if2 .taken)
 
-extent-requires : tie.Need-extent-requires Inv-loop μ-loop
-extent-requires c κs = search needs
-
 add-end : tie.Need-add-end Inv-loop μ-loop
 add-end c = omega (arith, c .extent .ensures)
-
-mul-keys : tie.Need-mul-keys Inv-loop μ-loop
-mul-keys c = search needs
 
 slice-write-keys : tie.Need-slice-write-keys Inv-loop μ-loop
 slice-write-keys c = omega (arith, c .before .before .before .before .before .before .before .before .loop .inv .keys-length, c .before .if2 .left)
 
-mul-ends : tie.Need-mul-ends Inv-loop μ-loop
-mul-ends c = search needs
-
 slice-write-ends : tie.Need-slice-write-ends Inv-loop μ-loop
 slice-write-ends c = omega (arith, c .before .before .before .before .before .before .before .before .loop .inv .ends-length, c .before .if2 .left)
-
-add-above : tie.Need-add-above Inv-loop μ-loop
-add-above c = search needs
-
-add-at : tie.Need-add-at Inv-loop μ-loop
-add-at c = search needs
-
-loop-less : tie.Need-loop-less Inv-loop μ-loop
-loop-less c = search needs
 
 loop-again : tie.Need-loop-again Inv-loop μ-loop
 loop-again c =
@@ -101,6 +74,6 @@ returns-3 c = gone-end (c .before .loop .inv) (omega arith)
 pub next-success-spec : {M : Type 1} → statement M
 next-success-spec =
     tie.close
-    (tie.spec Inv-loop μ-loop loop-holds mul-w shared-slice-read-w key-requires still-open-requires same-length same-length-2 returns same-length-3
-    same-length-4 returns-2 extent-requires add-end mul-keys slice-write-keys mul-ends slice-write-ends add-above add-at loop-less loop-again same-length-5
-    same-length-6 returns-3)
+    (tie.spec Inv-loop μ-loop loop-holds (λ c. search needs) (λ c. search needs) (λ c κs. search needs) still-open-requires same-length same-length-2
+    returns same-length-3 same-length-4 returns-2 (λ c κs. search needs) add-end (λ c. search needs) slice-write-keys (λ c. search needs)
+    slice-write-ends (λ c. search needs) (λ c. search needs) (λ c. search needs) loop-again same-length-5 same-length-6 returns-3)

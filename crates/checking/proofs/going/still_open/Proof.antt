@@ -14,23 +14,11 @@ abbrev μ-loop : tie.MeasureT-loop
 loop-holds : tie.Need-loop-holds Inv-loop μ-loop
 loop-holds c = closing-first _ _ _
 
-sub-end : tie.Need-sub-end Inv-loop μ-loop
-sub-end c = search needs
-
-mul-end : tie.Need-mul-end Inv-loop μ-loop
-mul-end c = search needs
-
 shared-slice-read-end : tie.Need-shared-slice-read-end Inv-loop μ-loop
 shared-slice-read-end c = omega (arith, c .before .before .loop .inv .fewer, c .before .before .before .pre)
 
 returns : tie.Need-returns Inv-loop μ-loop
 returns c = let l = c .before .before .before .loop in closing-stops _ _ _ (l .above) (l .inv) (omega arith) (c .if1 .taken)
-
-sub-above : tie.Need-sub-above Inv-loop μ-loop
-sub-above c = search needs
-
-loop-less : tie.Need-loop-less Inv-loop μ-loop
-loop-less c = search needs
 
 loop-again : tie.Need-loop-again Inv-loop μ-loop
 loop-again c = let l = c .before .before .before .loop in closing-next _ _ _ (l .above) (l .inv) (omega arith) (omega (arith, c .if1 .left))
@@ -40,4 +28,6 @@ returns-2 c = let l = c .before .loop in closing-none _ _ _ (l .above) (l .inv) 
 
 pub still-open-spec : {M : Type 1} → statement M
 still-open-spec =
-    tie.close (tie.spec Inv-loop μ-loop loop-holds sub-end mul-end shared-slice-read-end returns sub-above loop-less loop-again returns-2)
+    tie.close
+    (tie.spec Inv-loop μ-loop loop-holds (λ c. search needs) (λ c. search needs) shared-slice-read-end returns (λ c. search needs) (λ c. search needs)
+    loop-again returns-2)

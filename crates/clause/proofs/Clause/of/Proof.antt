@@ -6,14 +6,10 @@ use borrow.Author.Needs.{needs}
 use Rattle.clause.proofs.Clause.of.Statement.{statement}
 use Rattle.clause.proofs.Clause.of.Tie as tie
 
-note-terms-requires : tie.Need-note-terms-requires
-note-terms-requires c κs = search needs
-
-note-literals-requires : tie.Need-note-literals-requires
-note-literals-requires c κs = search needs
-
 returns : tie.Need-returns
 returns c = ap (λ (t : List ℕ). record { tables = t }) (c .note-literals .ensures)
 
 pub of-spec : {M : Type 1} → statement M
-of-spec = tie.close (tie.spec note-terms-requires note-literals-requires returns)
+of-spec =
+    tie.close
+    (tie.spec (λ c κs. search needs) (λ c κs. search needs) returns)

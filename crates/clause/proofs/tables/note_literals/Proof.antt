@@ -18,21 +18,6 @@ abbrev μ-loop : tie.MeasureT-loop
 loop-holds : tie.Need-loop-holds Inv-loop μ-loop
 loop-holds c = (omega arith, omega arith, hopped-none _ _ (c .pre .1))
 
-cast-tables : tie.Need-cast-tables Inv-loop μ-loop
-cast-tables c = search needs
-
-element-write-tables : tie.Need-element-write-tables Inv-loop μ-loop
-element-write-tables c = search needs
-
-add-count : tie.Need-add-count Inv-loop μ-loop
-add-count c = search needs
-
-add-at : tie.Need-add-at Inv-loop μ-loop
-add-at c = search needs
-
-element-copy-out-at : tie.Need-element-copy-out-at Inv-loop μ-loop
-element-copy-out-at c = search needs
-
 cast-at : tie.Need-cast-at Inv-loop μ-loop
 cast-at c =
     let x = c .before .before in
@@ -57,12 +42,6 @@ loop-again c =
       rw (n .1) (n .2),
     )
 
-cast-tables-2 : tie.Need-cast-tables-2 Inv-loop μ-loop
-cast-tables-2 c = search needs
-
-element-write-tables-2 : tie.Need-element-write-tables-2 Inv-loop μ-loop
-element-write-tables-2 c = search needs
-
 returns : tie.Need-returns Inv-loop μ-loop
 returns c =
     let x = c .before in
@@ -71,18 +50,5 @@ returns c =
 pub note-literals-spec : {M : Type 1} → statement M
 note-literals-spec =
     tie.close
-    (tie.spec
-    Inv-loop
-    μ-loop
-    loop-holds
-    cast-tables
-    element-write-tables
-    add-count
-    add-at
-    element-copy-out-at
-    cast-at
-    loop-less
-    loop-again
-    cast-tables-2
-    element-write-tables-2
-    returns)
+    (tie.spec Inv-loop μ-loop loop-holds (λ c. search needs) (λ c. search needs) (λ c. search needs) (λ c. search needs) (λ c. search needs) cast-at
+    loop-less loop-again (λ c. search needs) (λ c. search needs) returns)

@@ -16,18 +16,6 @@ Inv-loop words tables₀ p at₀ left₀ tables at left = (at ≤ maxWords) × (
 abbrev μ-loop : tie.MeasureT-loop
 μ-loop words tables₀ p at₀ left₀ tables at left = left
 
-add-at : tie.Need-add-at Inv-loop μ-loop
-add-at c = search needs
-
-mul-arity : tie.Need-mul-arity Inv-loop μ-loop
-mul-arity c = search needs
-
-shared-slice-read-arity : tie.Need-shared-slice-read-arity Inv-loop μ-loop
-shared-slice-read-arity c = search needs
-
-arity-requires : tie.Need-arity-requires Inv-loop μ-loop
-arity-requires c κs = search needs
-
 loop-holds : tie.Need-loop-holds Inv-loop μ-loop
 unfolding arity
 loop-holds c =
@@ -35,24 +23,6 @@ loop-holds c =
     let a = x .args in
     let fits = accepted (a .words .now) (x .pre .0) .fits in
     (omega (arith, x .pre .1), omega (arith, c .arity .ensures), noting-none (a .words .now) (x .pre .0) (a .p) (x .pre .1) _ (c .arity .ensures) (x .pre .2))
-
-sub-left : tie.Need-sub-left Inv-loop μ-loop
-sub-left c = search needs
-
-add-rights : tie.Need-add-rights Inv-loop μ-loop
-add-rights c = search needs
-
-cast-tables : tie.Need-cast-tables Inv-loop μ-loop
-cast-tables c = search needs
-
-element-write-tables : tie.Need-element-write-tables Inv-loop μ-loop
-element-write-tables c = search needs
-
-add-at-2 : tie.Need-add-at-2 Inv-loop μ-loop
-add-at-2 c = search needs
-
-element-copy-out-at : tie.Need-element-copy-out-at Inv-loop μ-loop
-element-copy-out-at c = search needs
 
 cast-at : tie.Need-cast-at Inv-loop μ-loop
 cast-at c =
@@ -62,9 +32,6 @@ cast-at c =
     let m = noting-term (s .args .words .now) (s .pre .0) (s .args .p) (s .pre .1) (x .loop .at) (x .loop .left) (x .loop .left - 1) g refl (x .loop .inv .2) in
     record { fits = omega (arith, m .0, m .1 .high, accepted (s .args .words .now) (s .pre .0) .fits) }
 
-loop-less : tie.Need-loop-less Inv-loop μ-loop
-loop-less c = search needs
-
 loop-again : tie.Need-loop-again Inv-loop μ-loop
 loop-again c =
     let x = c .before .before in
@@ -72,12 +39,6 @@ loop-again c =
     let g : 0 < x .loop .left = omega (arith, c .before .loop-test .taken) in
     let m = noting-term (s .args .words .now) (s .pre .0) (s .args .p) (s .pre .1) (x .loop .at) (x .loop .left) (x .loop .left - 1) g refl (x .loop .inv .2) in
     (omega (arith, m .0, m .1 .high, accepted (s .args .words .now) (s .pre .0) .fits), omega (arith, x .loop .inv .1), rw (m .0) (m .1))
-
-add-end : tie.Need-add-end Inv-loop μ-loop
-add-end c = search needs
-
-cast-tables-2 : tie.Need-cast-tables-2 Inv-loop μ-loop
-cast-tables-2 c = search needs
 
 element-write-tables-2 : tie.Need-element-write-tables-2 Inv-loop μ-loop
 element-write-tables-2 c = omega (arith, c .before .before .before .before .before .pre .1, accepted _ (c .before .before .before .before .before .pre .0) .fits)
@@ -92,24 +53,6 @@ returns c =
 pub note-term-spec : {M : Type 1} → statement M
 note-term-spec =
     tie.close
-    (tie.spec
-    Inv-loop
-    μ-loop
-    add-at
-    mul-arity
-    shared-slice-read-arity
-    arity-requires
-    loop-holds
-    sub-left
-    add-rights
-    cast-tables
-    element-write-tables
-    add-at-2
-    element-copy-out-at
-    cast-at
-    loop-less
-    loop-again
-    add-end
-    cast-tables-2
-    element-write-tables-2
-    returns)
+    (tie.spec Inv-loop μ-loop (λ c. search needs) (λ c. search needs) (λ c. search needs) (λ c κs. search needs) loop-holds (λ c. search needs)
+    (λ c. search needs) (λ c. search needs) (λ c. search needs) (λ c. search needs) (λ c. search needs) cast-at (λ c. search needs) loop-again
+    (λ c. search needs) (λ c. search needs) element-write-tables-2 returns)

@@ -18,17 +18,11 @@ abbrev μ-loop : tie.MeasureT-loop
 loop-holds : tie.Need-loop-holds Inv-loop μ-loop
 loop-holds c = (omega arith, c .before .pre .1 ∙ noted-none _)
 
-sub-p : tie.Need-sub-p Inv-loop μ-loop
-sub-p c = search needs
-
 note-term-requires : tie.Need-note-term-requires Inv-loop μ-loop
 note-term-requires c κs =
     let x = c .before .before in
     let e : x .loop .p ≡ suc (x .loop .p - 1) = omega (arith, c .before .loop-test .taken) in
     (x .before .before .pre .0, omega arith, x .loop .inv .1 ∙ ap (tablesFrom (x .before .before .args .words .now)) e)
-
-loop-less : tie.Need-loop-less Inv-loop μ-loop
-loop-less c = search needs
 
 loop-again : tie.Need-loop-again Inv-loop μ-loop
 loop-again c = (omega arith, c .note-term .ensures)
@@ -42,4 +36,4 @@ returns c =
 pub note-terms-spec : {M : Type 1} → statement M
 note-terms-spec =
     tie.close
-    (tie.spec Inv-loop μ-loop loop-holds sub-p note-term-requires loop-less loop-again returns)
+    (tie.spec Inv-loop μ-loop loop-holds (λ c. search needs) note-term-requires (λ c. search needs) loop-again returns)

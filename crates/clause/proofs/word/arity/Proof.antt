@@ -4,12 +4,11 @@ use Rattle.clause.specs.Word.{arity}
 use Rattle.clause.proofs.word.arity.Statement.{statement}
 use Rattle.clause.proofs.word.arity.Tie as tie
 
-cast-result : tie.Need-cast-result
-cast-result c = search needs
-
 returns : tie.Need-returns
 unfolding arity
 returns c = search needs
 
 pub arity-spec : {M : Type 1} → statement M
-arity-spec = tie.close (tie.spec cast-result returns)
+arity-spec =
+    tie.close
+    (tie.spec (λ c. search needs) returns)

@@ -45,15 +45,6 @@ came c =
     ended (a .setting) (a .heading .number) (a .heading .count) (a .turn .session .totals) (storeOf (a .words .now) (a .tree .now) (a .marks .now) (a .counters .now))
     (s .pre .0 .steady) (omega (arith, s .good)) (λ i. omega (arith, c7 .shared-slice-known .given i)) (s .pre .0 .kept) (c .outcome-of .ensures .0)
 
-outcome-of-requires : tie.Need-outcome-of-requires
-outcome-of-requires c κs = search needs
-
-count-strike-requires : tie.Need-count-strike-requires
-count-strike-requires c κs = search needs
-
-slice-reshare-prefix-put-removals : tie.Need-slice-reshare-prefix-put-removals
-slice-reshare-prefix-put-removals c = search needs
-
 slice-aggregate-put-removals : tie.Need-slice-aggregate-put-removals
 slice-aggregate-put-removals c = sym (length-take-le _ _ (came (c .before .before .before .before .before .before .before .before .before .before .before .before .before .before) .out .many))
 
@@ -76,24 +67,6 @@ count-outcome-requires c κs =
     let c23 = c .before .before .before .before .before .before .before .before .before .before .before .before .before .before .before .before .before .before .before .before .before .before .before in
     (c23 .before .before .before .before .before .before .before .before .before .before .before .before .before .pre .0 .counts, removed-few (came c23))
 
-same-length : tie.Need-same-length
-same-length c = search needs
-
-same-length-2 : tie.Need-same-length-2
-same-length-2 c = search needs
-
-same-length-3 : tie.Need-same-length-3
-same-length-3 c = search needs
-
-same-length-4 : tie.Need-same-length-4
-same-length-4 c = search needs
-
-same-length-5 : tie.Need-same-length-5
-same-length-5 c = search needs
-
-same-length-6 : tie.Need-same-length-6
-same-length-6 c = search needs
-
 returns : tie.Need-returns
 returns c =
     let c5 = c .before .before .before .before .before in
@@ -108,18 +81,6 @@ returns c =
 pub finish-spec : {M : Type 1} → statement M
 finish-spec =
     tie.close
-    (tie.spec
-    outcome-of-requires
-    count-strike-requires
-    slice-reshare-prefix-put-removals
-    slice-aggregate-put-removals
-    put-removals-requires
-    put-line-requires
-    count-outcome-requires
-    same-length
-    same-length-2
-    same-length-3
-    same-length-4
-    same-length-5
-    same-length-6
+    (tie.spec (λ c κs. search needs) (λ c κs. search needs) (λ c. search needs) slice-aggregate-put-removals put-removals-requires put-line-requires
+    count-outcome-requires (λ c. search needs) (λ c. search needs) (λ c. search needs) (λ c. search needs) (λ c. search needs) (λ c. search needs)
     returns)

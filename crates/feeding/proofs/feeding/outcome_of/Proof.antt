@@ -9,12 +9,6 @@ use borrow.Author.Needs.{needs}
 use Rattle.feeding.proofs.feeding.outcome_of.Statement.{statement}
 use Rattle.feeding.proofs.feeding.outcome_of.Tie as tie
 
-cast-end : tie.Need-cast-end
-cast-end c = search needs
-
-code-requires : tie.Need-code-requires
-code-requires c κs = search needs
-
 returns : tie.Need-returns
 unfolding finishing
 returns c = (record { many = omega arith; answer = rw (lt-ltb maxWords _ (c .before .if1 .taken), c .code .ensures); marking = refl }, c .before .before .before .before .before .before .before .before .pre .1)
@@ -23,21 +17,6 @@ slice-aggregate-answer : tie.Need-slice-aggregate-answer
 slice-aggregate-answer c =
     let c6 = c .before .before .before .before .before .before in
     sym (length-take-le _ _ (omega (arith, c6 .before .before .before .before .before .before .before .pre .3, c6 .if1 .left)))
-
-answer-requires : tie.Need-answer-requires
-answer-requires c κs = search needs
-
-same-length : tie.Need-same-length
-same-length c = search needs
-
-same-length-2 : tie.Need-same-length-2
-same-length-2 c = search needs
-
-same-length-3 : tie.Need-same-length-3
-same-length-3 c = search needs
-
-same-length-4 : tie.Need-same-length-4
-same-length-4 c = search needs
 
 returns-2 : tie.Need-returns-2
 unfolding finishing
@@ -49,14 +28,5 @@ returns-2 c =
 pub outcome-of-spec : {M : Type 1} → statement M
 outcome-of-spec =
     tie.close
-    (tie.spec
-    cast-end
-    code-requires
-    returns
-    slice-aggregate-answer
-    answer-requires
-    same-length
-    same-length-2
-    same-length-3
-    same-length-4
-    returns-2)
+    (tie.spec (λ c. search needs) (λ c κs. search needs) returns slice-aggregate-answer (λ c κs. search needs) (λ c. search needs) (λ c. search needs)
+    (λ c. search needs) (λ c. search needs) returns-2)

@@ -5,29 +5,8 @@ use borrow.Author.Needs.{needs}
 use Rattle.intake.proofs.input.advance.Statement.{statement}
 use Rattle.intake.proofs.input.advance.Tie as tie
 
-enum-told : tie.Need-enum-told
-enum-told c = search needs
-
-enum-known-stage : tie.Need-enum-known-stage
-enum-known-stage c = search needs
-
 returns : tie.Need-returns
 returns c = rw (c .before .before .stage .given .1, ne-eqb (c .before .before .before .before .args .field) 0 (λ z. omega (arith, c .if1 .taken)))
-
-enum-known-stage-2 : tie.Need-enum-known-stage-2
-enum-known-stage-2 c = search needs
-
-cast-if2 : tie.Need-cast-if2
-cast-if2 c = search needs
-
-add-if2 : tie.Need-add-if2
-add-if2 c = search needs
-
-cast-if2-2 : tie.Need-cast-if2-2
-cast-if2-2 c = search needs
-
-add-t19 : tie.Need-add-t19
-add-t19 c = search needs
 
 returns-2 : tie.Need-returns-2
 returns-2 c = rw (c .before .before .stage2 .given .1, lt-ltb _ _ (c .if2 .taken))
@@ -44,16 +23,5 @@ returns-5 c = rw (c .before .before .stage2 .given .1, le-ltb _ _ (c .if2 .left)
 pub advance-spec : {M : Type 1} → statement M
 advance-spec =
     tie.close
-    (tie.spec
-    enum-told
-    enum-known-stage
-    returns
-    enum-known-stage-2
-    cast-if2
-    add-if2
-    cast-if2-2
-    add-t19
-    returns-2
-    returns-3
-    returns-4
-    returns-5)
+    (tie.spec (λ c. search needs) (λ c. search needs) returns (λ c. search needs) (λ c. search needs) (λ c. search needs) (λ c. search needs)
+    (λ c. search needs) returns-2 returns-3 returns-4 returns-5)

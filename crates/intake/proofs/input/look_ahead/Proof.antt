@@ -6,17 +6,8 @@ use borrow.Author.Needs.{needs}
 use Rattle.intake.proofs.input.look_ahead.Statement.{statement}
 use Rattle.intake.proofs.input.look_ahead.Tie as tie
 
-enum-told : tie.Need-enum-told
-enum-told c = search needs
-
-enum-told-2 : tie.Need-enum-told-2
-enum-told-2 c = search needs
-
 returns : tie.Need-returns
 returns c n e = apart cc
-
-enum-told-3 : tie.Need-enum-told-3
-enum-told-3 c = search needs
 
 returns-2 : tie.Need-returns-2
 returns-2 c n e = apart cc
@@ -24,20 +15,8 @@ returns-2 c n e = apart cc
 returns-3 : tie.Need-returns-3
 returns-3 c n e = apart cc
 
-field-at-requires : tie.Need-field-at-requires
-field-at-requires c κs = search needs
-
-cast-count : tie.Need-cast-count
-cast-count c = search needs
-
 returns-4 : tie.Need-returns-4
 returns-4 c n e = apart cc
-
-sub-if3 : tie.Need-sub-if3
-sub-if3 c = search needs
-
-mul-if3 : tie.Need-mul-if3
-mul-if3 c = search needs
 
 returns-5 : tie.Need-returns-5
 returns-5 c n e = apart cc
@@ -54,17 +33,5 @@ returns-6 c n e =
 pub look-ahead-spec : {M : Type 1} → statement M
 look-ahead-spec =
     tie.close
-    (tie.spec
-    enum-told
-    enum-told-2
-    returns
-    enum-told-3
-    returns-2
-    returns-3
-    field-at-requires
-    cast-count
-    returns-4
-    sub-if3
-    mul-if3
-    returns-5
-    returns-6)
+    (tie.spec (λ c. search needs) (λ c. search needs) returns (λ c. search needs) returns-2 returns-3 (λ c κs. search needs) (λ c. search needs)
+    returns-4 (λ c. search needs) (λ c. search needs) returns-5 returns-6)

@@ -6,28 +6,10 @@ use borrow.Author.Needs.{needs}
 use Rattle.intake.proofs.input.read_byte.Statement.{statement}
 use Rattle.intake.proofs.input.read_byte.Tie as tie
 
-enum-told : tie.Need-enum-told
-enum-told c = search needs
-
-enum-known-half : tie.Need-enum-known-half
-enum-known-half c = search needs
-
-field-of-requires : tie.Need-field-of-requires
-field-of-requires c κs = search needs
-
-store-requires : tie.Need-store-requires
-store-requires c κs = search needs
-
-advance-requires : tie.Need-advance-requires
-advance-requires c κs = search needs
-
 returns : tie.Need-returns
 returns c = λ v T m k.
     let a = c .before .before .before .args in
     first-byte v (a .session) (storeOf (a .words .now) T m k) (a .byte) (c .enum-told .given .1) refl
-
-same-length : tie.Need-same-length
-same-length c = search needs
 
 returns-2 : tie.Need-returns-2
 returns-2 c =
@@ -43,12 +25,5 @@ returns-2 c =
 pub read-byte-spec : {M : Type 1} → statement M
 read-byte-spec =
     tie.close
-    (tie.spec
-    enum-told
-    enum-known-half
-    field-of-requires
-    store-requires
-    advance-requires
-    returns
-    same-length
+    (tie.spec (λ c. search needs) (λ c. search needs) (λ c κs. search needs) (λ c κs. search needs) (λ c κs. search needs) returns (λ c. search needs)
     returns-2)

@@ -9,24 +9,6 @@ use borrow.Author.Needs.{needs}
 use Rattle.intake.proofs.input.read_some.Statement.{statement}
 use Rattle.intake.proofs.input.read_some.Tie as tie
 
-look-ahead-requires : tie.Need-look-ahead-requires
-look-ahead-requires c κs = search needs
-
-enum-known-ahead : tie.Need-enum-known-ahead
-enum-known-ahead c = search needs
-
-enum-told : tie.Need-enum-told
-enum-told c = search needs
-
-shared-slice-read-read-byte : tie.Need-shared-slice-read-read-byte
-shared-slice-read-read-byte c = search needs
-
-read-byte-requires : tie.Need-read-byte-requires
-read-byte-requires c κs = search needs
-
-same-length : tie.Need-same-length
-same-length c = search needs
-
 returns : tie.Need-returns
 returns c =
     let s = c .before .before .before .before .before .before .before .before .before .before in
@@ -55,9 +37,6 @@ part-read-words-start c =
     let g = c2 .ahead .given in
     omega (arith, c2 .before .before .look-ahead .ensures (g .0 .0) (g .1) .inside)
 
-part-read-words-end : tie.Need-part-read-words-end
-part-read-words-end c = search needs
-
 read-words-requires : tie.Need-read-words-requires
 read-words-requires c κs =
     let c4 = c .before .before .before .before in
@@ -84,9 +63,6 @@ cast-t20 c =
     let g = c7 .ahead .given in
     record { fits = omega (arith, c7 .before .before .look-ahead .ensures (g .0 .0) (g .1) .few) }
 
-same-length-2 : tie.Need-same-length-2
-same-length-2 c = search needs
-
 returns-2 : tie.Need-returns-2
 returns-2 c =
     let c5 = c .before .before .before .before .before in
@@ -100,21 +76,6 @@ returns-2 c =
 pub read-some-spec : {M : Type 1} → statement M
 read-some-spec =
     tie.close
-    (tie.spec
-    look-ahead-requires
-    enum-known-ahead
-    enum-told
-    shared-slice-read-read-byte
-    read-byte-requires
-    same-length
-    returns
-    field-at-requires
-    sub-read-words
-    part-read-words-start
-    part-read-words-end
-    read-words-requires
-    mul-t14
-    add-t19
-    cast-t20
-    same-length-2
+    (tie.spec (λ c κs. search needs) (λ c. search needs) (λ c. search needs) (λ c. search needs) (λ c κs. search needs) (λ c. search needs) returns
+    field-at-requires sub-read-words part-read-words-start (λ c. search needs) read-words-requires mul-t14 add-t19 cast-t20 (λ c. search needs)
     returns-2)

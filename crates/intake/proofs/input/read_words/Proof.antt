@@ -23,24 +23,6 @@ loop-holds c =
     let e : c .before .before .args .count - 0 ≡ c .before .before .args .count = omega arith in
     (refl, omega arith, refl, rw e)
 
-field-at-requires : tie.Need-field-at-requires Inv-loop μ-loop
-field-at-requires c κs = search needs
-
-mul-words : tie.Need-mul-words Inv-loop μ-loop
-mul-words c = search needs
-
-slice-write-words : tie.Need-slice-write-words Inv-loop μ-loop
-slice-write-words c = search needs
-
-add-i : tie.Need-add-i Inv-loop μ-loop
-add-i c = search needs
-
-add-at : tie.Need-add-at Inv-loop μ-loop
-add-at c = search needs
-
-loop-less : tie.Need-loop-less Inv-loop μ-loop
-loop-less c = search needs
-
 loop-again : tie.Need-loop-again Inv-loop μ-loop
 loop-again c =
     let l = c .before .before .loop in
@@ -48,9 +30,6 @@ loop-again c =
     let h : l .at + 1 < length (a .input .now) = omega (arith, c .before .before .before .before .before .pre .0, l .inv .2, c .before .loop-test .taken) in
     let m = read-more (a .input .now) (l .words) (l .at) (l .i) (a .count) h (c .before .loop-test .taken) in
     (simp length-set (l .inv .0), omega arith, omega arith, l .inv .3 ∙ m ∙ rw (c .field-at .ensures))
-
-same-length : tie.Need-same-length Inv-loop μ-loop
-same-length c = search needs
 
 returns : tie.Need-returns Inv-loop μ-loop
 returns c =
@@ -61,16 +40,5 @@ returns c =
 pub read-words-spec : {M : Type 1} → statement M
 read-words-spec =
     tie.close
-    (tie.spec
-    Inv-loop
-    μ-loop
-    loop-holds
-    field-at-requires
-    mul-words
-    slice-write-words
-    add-i
-    add-at
-    loop-less
-    loop-again
-    same-length
-    returns)
+    (tie.spec Inv-loop μ-loop loop-holds (λ c κs. search needs) (λ c. search needs) (λ c. search needs) (λ c. search needs) (λ c. search needs)
+    (λ c. search needs) loop-again (λ c. search needs) returns)

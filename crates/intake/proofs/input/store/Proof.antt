@@ -7,26 +7,11 @@ use borrow.Author.Needs.{needs}
 use Rattle.intake.proofs.input.store.Statement.{statement}
 use Rattle.intake.proofs.input.store.Tie as tie
 
-enum-known-stage : tie.Need-enum-known-stage
-enum-known-stage c = search needs
-
 returns : tie.Need-returns
 returns c =
     let a = c .before .args in
     let k = c .match .keys2 in
     no-word (a .stage) (a .words .now) (a .field) (λ n m i e. miss (0 ∷ 1 ∷ []) 2 tt (rw e at k))
-
-cast-at : tie.Need-cast-at
-cast-at c = search needs
-
-mul-words : tie.Need-mul-words
-mul-words c = search needs
-
-slice-write-words : tie.Need-slice-write-words
-slice-write-words c = search needs
-
-same-length : tie.Need-same-length
-same-length c = search needs
 
 returns-2 : tie.Need-returns-2
 returns-2 c = rw (c .before .before .stage .given .1)
@@ -37,12 +22,4 @@ returns-3 c = rw (c .before .before .stage .given .1, set-out _ _ _ (c .if1 .lef
 pub store-spec : {M : Type 1} → statement M
 store-spec =
     tie.close
-    (tie.spec
-    enum-known-stage
-    returns
-    cast-at
-    mul-words
-    slice-write-words
-    same-length
-    returns-2
-    returns-3)
+    (tie.spec (λ c. search needs) returns (λ c. search needs) (λ c. search needs) (λ c. search needs) (λ c. search needs) returns-2 returns-3)

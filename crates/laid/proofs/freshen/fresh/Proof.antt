@@ -4,15 +4,6 @@ use Rattle.tree.specs.Calls.{fresh}
 use Rattle.laid.proofs.freshen.fresh.Statement.{statement}
 use Rattle.laid.proofs.freshen.fresh.Tie as tie
 
-sized-requires : tie.Need-sized-requires
-sized-requires c κs = search needs
-
-clear-requires : tie.Need-clear-requires
-clear-requires c κs = search needs
-
-same-length : tie.Need-same-length
-same-length c = search needs
-
 returns : tie.Need-returns
 unfolding fresh
 returns c = rw (← c .before .before .before .before .before .sized .ensures, c .before .before .before .before .if1 .taken, c .before .before .clear .ensures)
@@ -22,4 +13,6 @@ unfolding fresh
 returns-2 c = rw (← c .before .sized .ensures, c .if1 .left)
 
 pub fresh-spec : {M : Type 1} → statement M
-fresh-spec = tie.close (tie.spec sized-requires clear-requires same-length returns returns-2)
+fresh-spec =
+    tie.close
+    (tie.spec (λ c κs. search needs) (λ c κs. search needs) (λ c. search needs) returns returns-2)

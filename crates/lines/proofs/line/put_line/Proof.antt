@@ -18,9 +18,6 @@ put-outcome-requires c κs =
     let n = s .args .number in
     omega (arith, s .pre, placed (decimal n) (s .args .output .now) (s .args .at) (c3 .put-decimal .ensures), decimal-length 4 n (search needs))
 
-slice-aggregate-put-text : tie.Need-slice-aggregate-put-text
-slice-aggregate-put-text c = search needs
-
 put-text-requires : tie.Need-put-text-requires
 put-text-requires c κs =
     let c4 = c .before .before .before .before in
@@ -31,9 +28,6 @@ put-text-requires c κs =
     let o = c4 .put-outcome .ensures in
     let k = placed (decimal n) (s .args .output .now) (s .args .at) (d .ensures) in
     omega (arith, s .pre, k, decimal-length 4 n (search needs), o .1, placed (saying (s .args .outcome)) (d .last .0) (d .result) (o .0))
-
-same-length : tie.Need-same-length
-same-length c = search needs
 
 returns : tie.Need-returns
 unfolding lineOf
@@ -55,10 +49,4 @@ returns c =
 pub put-line-spec : {M : Type 1} → statement M
 put-line-spec =
     tie.close
-    (tie.spec
-    put-decimal-requires
-    put-outcome-requires
-    slice-aggregate-put-text
-    put-text-requires
-    same-length
-    returns)
+    (tie.spec put-decimal-requires put-outcome-requires (λ c. search needs) put-text-requires (λ c. search needs) returns)

@@ -6,33 +6,15 @@ use borrow.Author.Needs.{needs}
 use Rattle.lines.proofs.line.put_outcome.Statement.{statement}
 use Rattle.lines.proofs.line.put_outcome.Tie as tie
 
-enum-known-outcome : tie.Need-enum-known-outcome
-enum-known-outcome c = search needs
-
-slice-aggregate-put-named : tie.Need-slice-aggregate-put-named
-slice-aggregate-put-named c = search needs
-
 put-named-requires : tie.Need-put-named-requires
 put-named-requires c κs =
     let c3 = c .before .before .before in
     omega (arith, c3 .before .before .before .pre, decimal-length 19 (c3 .outcome .given .0 .0) (search needs))
 
-enum-known-outcome-2 : tie.Need-enum-known-outcome-2
-enum-known-outcome-2 c = search needs
-
-slice-aggregate-put-named-2 : tie.Need-slice-aggregate-put-named-2
-slice-aggregate-put-named-2 c = search needs
-
-cast-put-named : tie.Need-cast-put-named
-cast-put-named c = search needs
-
 put-named-requires-2 : tie.Need-put-named-requires-2
 put-named-requires-2 c κs =
     let c3 = c .before .before .before in
     omega (arith, c3 .before .before .before .pre, decimal-length 9 (c3 .outcome2 .given .0 .0) (search needs))
-
-slice-aggregate-put-named-3 : tie.Need-slice-aggregate-put-named-3
-slice-aggregate-put-named-3 c = search needs
 
 put-named-requires-3 : tie.Need-put-named-requires-3
 put-named-requires-3 c κs =
@@ -43,22 +25,10 @@ put-named-requires-3 c κs =
     let k = named-put saysStruck 9 (g .0) (search needs) (s .args .output .now) (s .args .at) (c4 .put-named2 .ensures) in
     omega (arith, s .pre, k, decimal-length 19 (g .1 .0) (search needs))
 
-enum-known-outcome-3 : tie.Need-enum-known-outcome-3
-enum-known-outcome-3 c = search needs
-
-slice-aggregate-put-named-4 : tie.Need-slice-aggregate-put-named-4
-slice-aggregate-put-named-4 c = search needs
-
-cast-put-named-2 : tie.Need-cast-put-named-2
-cast-put-named-2 c = search needs
-
 put-named-requires-4 : tie.Need-put-named-requires-4
 put-named-requires-4 c κs =
     let c3 = c .before .before .before in
     omega (arith, c3 .before .before .before .pre, decimal-length 2 (c3 .outcome3 .given .0 .0) (search needs))
-
-same-length : tie.Need-same-length
-same-length c = search needs
 
 returns : tie.Need-returns
 returns c =
@@ -67,9 +37,6 @@ returns c =
     let g = c6 .outcome .given in
     let e = c .before .before .put-named .ensures in
     (rw (g .1) e, omega (arith, named-put saysKept 19 (g .0 .0) (search needs) (a .output .now) (a .at) e))
-
-same-length-2 : tie.Need-same-length-2
-same-length-2 c = search needs
 
 returns-2 : tie.Need-returns-2
 returns-2 c =
@@ -87,9 +54,6 @@ returns-2 c =
       omega (arith, k, named-put space 19 m (search needs) (p .last .0) (p .result) e),
     )
 
-same-length-3 : tie.Need-same-length-3
-same-length-3 c = search needs
-
 returns-3 : tie.Need-returns-3
 returns-3 c =
     let c6 = c .before .before .before .before .before .before in
@@ -101,23 +65,6 @@ returns-3 c =
 pub put-outcome-spec : {M : Type 1} → statement M
 put-outcome-spec =
     tie.close
-    (tie.spec
-    enum-known-outcome
-    slice-aggregate-put-named
-    put-named-requires
-    enum-known-outcome-2
-    slice-aggregate-put-named-2
-    cast-put-named
-    put-named-requires-2
-    slice-aggregate-put-named-3
-    put-named-requires-3
-    enum-known-outcome-3
-    slice-aggregate-put-named-4
-    cast-put-named-2
-    put-named-requires-4
-    same-length
-    returns
-    same-length-2
-    returns-2
-    same-length-3
-    returns-3)
+    (tie.spec (λ c. search needs) (λ c. search needs) put-named-requires (λ c. search needs) (λ c. search needs) (λ c. search needs)
+    put-named-requires-2 (λ c. search needs) put-named-requires-3 (λ c. search needs) (λ c. search needs) (λ c. search needs) put-named-requires-4
+    (λ c. search needs) returns (λ c. search needs) returns-2 (λ c. search needs) returns-3)

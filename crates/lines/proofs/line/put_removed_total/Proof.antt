@@ -5,15 +5,6 @@ use borrow.Author.Needs.{needs}
 use Rattle.lines.proofs.line.put_removed_total.Statement.{statement}
 use Rattle.lines.proofs.line.put_removed_total.Tie as tie
 
-enum-told : tie.Need-enum-told
-enum-told c = search needs
-
-enum-told-2 : tie.Need-enum-told-2
-enum-told-2 c = search needs
-
-slice-aggregate-put-named : tie.Need-slice-aggregate-put-named
-slice-aggregate-put-named c = search needs
-
 put-named-requires : tie.Need-put-named-requires
 put-named-requires c κs =
     let c2 = c .before .before in
@@ -24,9 +15,6 @@ returns c =
     let a = c .before .before .before .args in
     rw (c .enum-told .given .1) (sym (put-none (a .output .now) (a .at)))
 
-same-length : tie.Need-same-length
-same-length c = search needs
-
 returns-2 : tie.Need-returns-2
 returns-2 c =
     rw (c .before .before .before .before .before .enum-told2 .given .1) (c .before .before .put-named .ensures)
@@ -34,11 +22,4 @@ returns-2 c =
 pub put-removed-total-spec : {M : Type 1} → statement M
 put-removed-total-spec =
     tie.close
-    (tie.spec
-    enum-told
-    enum-told-2
-    slice-aggregate-put-named
-    put-named-requires
-    returns
-    same-length
-    returns-2)
+    (tie.spec (λ c. search needs) (λ c. search needs) (λ c. search needs) put-named-requires returns (λ c. search needs) returns-2)

@@ -7,16 +7,10 @@ use borrow.Author.Needs.{needs}
 use Rattle.lines.proofs.line.put_totals.Statement.{statement}
 use Rattle.lines.proofs.line.put_totals.Tie as tie
 
-slice-aggregate-put-named : tie.Need-slice-aggregate-put-named
-slice-aggregate-put-named c = search needs
-
 put-named-requires : tie.Need-put-named-requires
 put-named-requires c κs =
     let a = c .before .before .before .args in
     omega (arith, c .before .before .before .pre, decimal-length 19 (a .totals .kept) (search needs))
-
-slice-aggregate-put-named-2 : tie.Need-slice-aggregate-put-named-2
-slice-aggregate-put-named-2 c = search needs
 
 put-named-requires-2 : tie.Need-put-named-requires-2
 put-named-requires-2 c κs =
@@ -26,9 +20,6 @@ put-named-requires-2 c κs =
     let t = s .args .totals in
     let k = named-put saysFirst 19 (t .kept) (omega (arith, s .good)) o (s .args .at) (c4 .put-named .ensures) in
     omega (arith, s .pre, k, decimal-length 19 (t .struck) (omega (arith, s .good)))
-
-slice-aggregate-put-named-3 : tie.Need-slice-aggregate-put-named-3
-slice-aggregate-put-named-3 c = search needs
 
 put-named-requires-3 : tie.Need-put-named-requires-3
 put-named-requires-3 c κs =
@@ -57,9 +48,6 @@ put-removed-total-requires c κs =
     let m = named-put saysRefused 19 (t .refused) (omega (arith, s .good)) (q .last .0) (q .result) (c3 .put-named3 .ensures) in
     omega (arith, s .pre, k, l, m, removed-total-length (s .args .setting) (t .removed) (omega (arith, s .good)))
 
-slice-aggregate-put-text : tie.Need-slice-aggregate-put-text
-slice-aggregate-put-text c = search needs
-
 put-text-requires : tie.Need-put-text-requires
 put-text-requires c κs =
     let c4 = c .before .before .before .before in
@@ -77,9 +65,6 @@ put-text-requires c κs =
     let m = named-put saysRefused 19 (t .refused) (omega (arith, s .good)) (q .last .0) (q .result) (r .ensures) in
     let n = removed-total-length (s .args .setting) (t .removed) (omega (arith, s .good)) in
     omega (arith, s .pre, k, l, m, n, placed (removedTotal (s .args .setting) (t .removed)) (r .last .0) (r .result) (c4 .put-removed-total .ensures))
-
-same-length : tie.Need-same-length
-same-length c = search needs
 
 returns : tie.Need-returns
 unfolding totalsLine
@@ -113,15 +98,5 @@ returns c =
 pub put-totals-spec : {M : Type 1} → statement M
 put-totals-spec =
     tie.close
-    (tie.spec
-    slice-aggregate-put-named
-    put-named-requires
-    slice-aggregate-put-named-2
-    put-named-requires-2
-    slice-aggregate-put-named-3
-    put-named-requires-3
-    put-removed-total-requires
-    slice-aggregate-put-text
-    put-text-requires
-    same-length
-    returns)
+    (tie.spec (λ c. search needs) put-named-requires (λ c. search needs) put-named-requires-2 (λ c. search needs) put-named-requires-3
+    put-removed-total-requires (λ c. search needs) put-text-requires (λ c. search needs) returns)

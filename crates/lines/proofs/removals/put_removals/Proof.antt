@@ -22,12 +22,6 @@ abbrev μ-loop : tie.MeasureT-loop
 loop-holds : tie.Need-loop-holds Inv-loop μ-loop
 loop-holds c = (refl, omega arith, omega arith, refl)
 
-mul-put-removal : tie.Need-mul-put-removal Inv-loop μ-loop
-mul-put-removal c = search needs
-
-shared-slice-read-put-removal : tie.Need-shared-slice-read-put-removal Inv-loop μ-loop
-shared-slice-read-put-removal c = search needs
-
 put-removal-requires : tie.Need-put-removal-requires Inv-loop μ-loop
 put-removal-requires c κs =
     let c2 = c .before .before in
@@ -35,12 +29,6 @@ put-removal-requires c κs =
     let s = c2 .before .before .before .before in
     let h = c2 .loop-test .taken in
     (omega (arith, s .pre .0, l .inv .0, l .inv .2, h), all-get (s .args .numbers .now) (s .pre .1) (l .i) 0 h)
-
-add-i : tie.Need-add-i Inv-loop μ-loop
-add-i c = search needs
-
-loop-less : tie.Need-loop-less Inv-loop μ-loop
-loop-less c = search needs
 
 loop-again : tie.Need-loop-again Inv-loop μ-loop
 loop-again c =
@@ -57,9 +45,6 @@ loop-again c =
       l .inv .3 ∙ removals-more (a .by) n (l .output) (l .next) (l .i) h (e .0),
     )
 
-same-length : tie.Need-same-length Inv-loop μ-loop
-same-length c = search needs
-
 returns : tie.Need-returns Inv-loop μ-loop
 returns c =
     let l = c .before .loop in
@@ -71,15 +56,5 @@ returns c =
 pub put-removals-spec : {M : Type 1} → statement M
 put-removals-spec =
     tie.close
-    (tie.spec
-    Inv-loop
-    μ-loop
-    loop-holds
-    mul-put-removal
-    shared-slice-read-put-removal
-    put-removal-requires
-    add-i
-    loop-less
-    loop-again
-    same-length
-    returns)
+    (tie.spec Inv-loop μ-loop loop-holds (λ c. search needs) (λ c. search needs) put-removal-requires (λ c. search needs) (λ c. search needs)
+    loop-again (λ c. search needs) returns)

@@ -32,4 +32,5 @@ returns c = omega (arith, c .before .loop .inv, length-small (c .before .loop .l
 
 pub digits-spec : {M : Type 1} → statement M
 digits-spec =
-    tie.close (tie.spec Inv-loop μ-loop loop-holds add-count loop-less loop-again returns)
+    tie.close
+    (tie.spec Inv-loop μ-loop loop-holds add-count loop-less loop-again returns)

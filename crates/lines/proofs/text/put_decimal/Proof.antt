@@ -18,12 +18,6 @@ Inv-loop output₀ at number end left₀ last₀ output left last =
 abbrev μ-loop : tie.MeasureT-loop
 μ-loop output₀ at number end left₀ last₀ output left last = left
 
-digits-requires : tie.Need-digits-requires Inv-loop μ-loop
-digits-requires c κs = search needs
-
-add-end : tie.Need-add-end Inv-loop μ-loop
-add-end c = search needs
-
 sub-last : tie.Need-sub-last Inv-loop μ-loop
 sub-last c = omega (arith, c .digits .ensures, decimal-some (c .before .before .args .number))
 
@@ -32,20 +26,11 @@ loop-holds c =
     let s = decimal-some (c .before .before .args .number) in
     (refl, omega arith, omega (arith, c .digits .ensures, s), refl)
 
-cast-output : tie.Need-cast-output Inv-loop μ-loop
-cast-output c = search needs
-
-add-output : tie.Need-add-output Inv-loop μ-loop
-add-output c = search needs
-
 slice-write-output : tie.Need-slice-write-output Inv-loop μ-loop
 slice-write-output c = omega (arith, c .before .before .before .before .pre, c .before .before .digits .ensures, c .before .loop .inv .0, c .before .loop .inv .1)
 
 sub-last-2 : tie.Need-sub-last-2 Inv-loop μ-loop
 sub-last-2 c = omega (arith, c .before .loop .inv .2, length-large (c .before .loop .left) (c .loop-test .taken), decimal-some (c .before .loop .left / 10))
-
-loop-less : tie.Need-loop-less Inv-loop μ-loop
-loop-less c = search needs
 
 loop-again : tie.Need-loop-again Inv-loop μ-loop
 loop-again c =
@@ -54,12 +39,6 @@ loop-again c =
     let s = decimal-some (l .left / 10) in
     let p = put-last (l .left) (l .output) (c .before .before .before .before .args .at) (l .last) (c .loop-test .taken) (l .inv .2) in
     (simp length-set (l .inv .0), omega arith, omega (arith, l .inv .2, e, s), l .inv .3 ∙ p)
-
-cast-output-2 : tie.Need-cast-output-2 Inv-loop μ-loop
-cast-output-2 c = search needs
-
-add-output-2 : tie.Need-add-output-2 Inv-loop μ-loop
-add-output-2 c = search needs
 
 slice-write-output-2 : tie.Need-slice-write-output-2 Inv-loop μ-loop
 slice-write-output-2 c = omega (arith, c .before .before .before .before .pre, c .before .before .digits .ensures, c .before .loop .inv .0, c .before .loop .inv .1)
@@ -76,21 +55,5 @@ returns c =
 pub put-decimal-spec : {M : Type 1} → statement M
 put-decimal-spec =
     tie.close
-    (tie.spec
-    Inv-loop
-    μ-loop
-    digits-requires
-    add-end
-    sub-last
-    loop-holds
-    cast-output
-    add-output
-    slice-write-output
-    sub-last-2
-    loop-less
-    loop-again
-    cast-output-2
-    add-output-2
-    slice-write-output-2
-    same-length
-    returns)
+    (tie.spec Inv-loop μ-loop (λ c κs. search needs) (λ c. search needs) sub-last loop-holds (λ c. search needs) (λ c. search needs)
+    slice-write-output sub-last-2 (λ c. search needs) loop-again (λ c. search needs) (λ c. search needs) slice-write-output-2 same-length returns)

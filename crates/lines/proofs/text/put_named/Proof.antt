@@ -17,9 +17,6 @@ put-decimal-requires c κs =
     let a = s .args in
     rest-fits (a .text .now) (decimal (a .number)) (a .output .now) (a .at) (s .pre) (c3 .put-text .ensures)
 
-same-length : tie.Need-same-length
-same-length c = search needs
-
 returns : tie.Need-returns
 returns c =
     let c6 = c .before .before .before .before .before .before in
@@ -27,4 +24,6 @@ returns c =
     joined (a .text .now) (decimal (a .number)) (a .output .now) (a .at) (c6 .put-text .ensures) (c .before .before .put-decimal .ensures)
 
 pub put-named-spec : {M : Type 1} → statement M
-put-named-spec = tie.close (tie.spec put-text-requires put-decimal-requires same-length returns)
+put-named-spec =
+    tie.close
+    (tie.spec put-text-requires put-decimal-requires (λ c. search needs) returns)

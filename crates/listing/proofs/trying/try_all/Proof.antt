@@ -17,12 +17,6 @@ Inv-loop clause budget cards lengths rows room numbers₀ lone many₀ tried₀ 
 abbrev μ-loop : tie.MeasureT-loop
 μ-loop clause budget cards lengths rows room numbers₀ lone many₀ tried₀ i₀ numbers many tried i = length cards - i
 
-slice-aggregate-insert : tie.Need-slice-aggregate-insert Inv-loop μ-loop
-slice-aggregate-insert c = search needs
-
-insert-requires : tie.Need-insert-requires Inv-loop μ-loop
-insert-requires c κs = search needs
-
 loop-holds : tie.Need-loop-holds Inv-loop μ-loop
 loop-holds c =
     let s = c .before .before .before .before .before .before .before .before in
@@ -30,18 +24,6 @@ loop-holds c =
     let w = all-below (2 ^ 16) (s .args .clause .now) (λ j. omega (arith, c .before .before .before .before .before .before .before .shared-slice-known .given j)) in
     trying-first _ _ _
     record { accepts = p .0; words = w; slots = p .1; names = p .2; short = p .3; pairs = p .4; tree = lone-made _ (p .0) w (c .before .insert .ensures) }
-
-mul-card : tie.Need-mul-card Inv-loop μ-loop
-mul-card c = search needs
-
-shared-slice-read-card : tie.Need-shared-slice-read-card Inv-loop μ-loop
-shared-slice-read-card c = search needs
-
-mul-start : tie.Need-mul-start Inv-loop μ-loop
-mul-start c = search needs
-
-mul-end : tie.Need-mul-end Inv-loop μ-loop
-mul-end c = search needs
 
 shared-slice-read-end : tie.Need-shared-slice-read-end Inv-loop μ-loop
 shared-slice-read-end c =
@@ -55,12 +37,6 @@ add-end c = let h = trying-row (c .before .before .before .loop .inv) (c .before
 sub-left : tie.Need-sub-left Inv-loop μ-loop
 sub-left c = omega (arith, c .before .before .before .loop .inv .left)
 
-slice-aggregate-decide : tie.Need-slice-aggregate-decide Inv-loop μ-loop
-slice-aggregate-decide c = search needs
-
-mul-decide : tie.Need-mul-decide Inv-loop μ-loop
-mul-decide c = search needs
-
 sub-decide : tie.Need-sub-decide Inv-loop μ-loop
 sub-decide c = omega arith
 
@@ -73,9 +49,6 @@ part-decide-end c = trying-row (c .before .before .before .before .loop .inv) (c
 decide-requires : tie.Need-decide-requires Inv-loop μ-loop
 decide-requires c κs = trying-ready (c .before .before .before .before .before .loop .inv) (c .before .before .before .before .loop-test .taken)
 
-enum-told : tie.Need-enum-told Inv-loop μ-loop
-enum-told c = search needs
-
 same-length : tie.Need-same-length Inv-loop μ-loop
 same-length c = c .before .before .before .before .before .before .before .before .loop .inv .places
 
@@ -85,18 +58,12 @@ returns c =
     let l = a .before .before .before .before .before .before in
     trying-spent (l .loop .inv) (a .before .before .before .before .before .loop-test .taken) (a .decide .ensures) (c .enum-told .given .1)
 
-enum-known-answer : tie.Need-enum-known-answer Inv-loop μ-loop
-enum-known-answer c = search needs
-
 add-tried : tie.Need-add-tried Inv-loop μ-loop
 add-tried c =
     let a = c .before .before .before in
     let l = a .before .before .before .before .before .before in
     let h = other-few (l .loop .inv) (a .before .before .before .before .before .loop-test .taken) (a .decide .ensures) (c .before .answer .given .1) in
     search (needs, h)
-
-enum-known-answer-2 : tie.Need-enum-known-answer-2 Inv-loop μ-loop
-enum-known-answer-2 c = search needs
 
 add-tried-2 : tie.Need-add-tried-2 Inv-loop μ-loop
 add-tried-2 c =
@@ -118,20 +85,11 @@ cast-numbers : tie.Need-cast-numbers Inv-loop μ-loop
 cast-numbers c =
     let k = c .before .before .before .before .before .before .before .before in omega (arith, k .shared-slice-known5 .given (k .before .before .loop .i))
 
-mul-numbers : tie.Need-mul-numbers Inv-loop μ-loop
-mul-numbers c = search needs
-
 slice-write-numbers : tie.Need-slice-write-numbers Inv-loop μ-loop
 slice-write-numbers c =
     let t = c .before .before .before .before .before .before .before .before .before in
     let g = t .before .loop .inv in
     omega (arith, g .fewer, g .places, g .asking .short, t .loop-test .taken)
-
-add-many : tie.Need-add-many Inv-loop μ-loop
-add-many c = search needs
-
-add-i : tie.Need-add-i Inv-loop μ-loop
-add-i c = search needs
 
 loop-less : tie.Need-loop-less Inv-loop μ-loop
 loop-less c = omega arith
@@ -155,40 +113,7 @@ returns-3 c = trying-end (c .before .loop .inv) (omega arith)
 pub try-all-spec : {M : Type 1} → statement M
 try-all-spec =
     tie.close
-    (tie.spec
-    Inv-loop
-    μ-loop
-    slice-aggregate-insert
-    insert-requires
-    loop-holds
-    mul-card
-    shared-slice-read-card
-    mul-start
-    mul-end
-    shared-slice-read-end
-    add-end
-    sub-left
-    slice-aggregate-decide
-    mul-decide
-    sub-decide
-    part-decide-start
-    part-decide-end
-    decide-requires
-    enum-told
-    same-length
-    returns
-    enum-known-answer
-    add-tried
-    enum-known-answer-2
-    add-tried-2
-    same-length-2
-    returns-2
-    cast-numbers
-    mul-numbers
-    slice-write-numbers
-    add-many
-    add-i
-    loop-less
-    loop-again
-    same-length-3
-    returns-3)
+    (tie.spec Inv-loop μ-loop (λ c. search needs) (λ c κs. search needs) loop-holds (λ c. search needs) (λ c. search needs) (λ c. search needs)
+    (λ c. search needs) shared-slice-read-end add-end sub-left (λ c. search needs) (λ c. search needs) sub-decide part-decide-start part-decide-end
+    decide-requires (λ c. search needs) same-length returns (λ c. search needs) add-tried (λ c. search needs) add-tried-2 same-length-2 returns-2
+    cast-numbers (λ c. search needs) slice-write-numbers (λ c. search needs) (λ c. search needs) loop-less loop-again same-length-3 returns-3)

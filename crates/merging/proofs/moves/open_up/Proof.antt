@@ -15,32 +15,8 @@ Inv-loop words₀ gap at₀ words at = (length words ≡ length words₀) × (at
 abbrev μ-loop : tie.MeasureT-loop
 μ-loop words₀ gap at₀ words at = at
 
-sub-at : tie.Need-sub-at Inv-loop μ-loop
-sub-at c = search needs
-
 loop-holds : tie.Need-loop-holds Inv-loop μ-loop
 loop-holds c = (refl, search needs, sym (shifted-none _ _ c.pre))
-
-sub-at-2 : tie.Need-sub-at-2 Inv-loop μ-loop
-sub-at-2 c = search needs
-
-mul-words : tie.Need-mul-words Inv-loop μ-loop
-mul-words c = search needs
-
-slice-read-words : tie.Need-slice-read-words Inv-loop μ-loop
-slice-read-words c = search needs
-
-add-words : tie.Need-add-words Inv-loop μ-loop
-add-words c = search needs
-
-mul-words-2 : tie.Need-mul-words-2 Inv-loop μ-loop
-mul-words-2 c = search needs
-
-slice-write-words : tie.Need-slice-write-words Inv-loop μ-loop
-slice-write-words c = search needs
-
-loop-less : tie.Need-loop-less Inv-loop μ-loop
-loop-less c = search needs
 
 loop-again : tie.Need-loop-again Inv-loop μ-loop
 loop-again c =
@@ -69,18 +45,5 @@ returns c =
 pub open-up-spec : {M : Type 1} → statement M
 open-up-spec =
     tie.close
-    (tie.spec
-    Inv-loop
-    μ-loop
-    sub-at
-    loop-holds
-    sub-at-2
-    mul-words
-    slice-read-words
-    add-words
-    mul-words-2
-    slice-write-words
-    loop-less
-    loop-again
-    same-length
-    returns)
+    (tie.spec Inv-loop μ-loop (λ c. search needs) loop-holds (λ c. search needs) (λ c. search needs) (λ c. search needs) (λ c. search needs)
+    (λ c. search needs) (λ c. search needs) (λ c. search needs) loop-again same-length returns)

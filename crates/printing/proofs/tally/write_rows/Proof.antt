@@ -13,23 +13,11 @@ use borrow.Author.Needs.{needs}
 use Rattle.printing.proofs.tally.write_rows.Statement.{statement}
 use Rattle.printing.proofs.tally.write_rows.Tie as tie
 
-put-rows-requires : tie.Need-put-rows-requires
-put-rows-requires c κs = search needs
-
-slice-reshare-prefix-write-more : tie.Need-slice-reshare-prefix-write-more
-slice-reshare-prefix-write-more c = search needs
-
 slice-aggregate-write-more : tie.Need-slice-aggregate-write-more
 slice-aggregate-write-more c =
     let c3 = c .before .before .before in
     let s = c3 .before .before .before .before .before in
     sym (length-take-le _ _ (omega (arith, c3 .put-rows .ensures .1, s .pre .room, c .before .before .output .given)))
-
-write-more-requires : tie.Need-write-more-requires
-write-more-requires c κs = search needs
-
-same-length : tie.Need-same-length
-same-length c = search needs
 
 returns : tie.Need-returns
 returns c =
@@ -44,10 +32,4 @@ returns c =
 pub write-rows-spec : {M : Type 1} → statement M
 write-rows-spec =
     tie.close
-    (tie.spec
-    put-rows-requires
-    slice-reshare-prefix-write-more
-    slice-aggregate-write-more
-    write-more-requires
-    same-length
-    returns)
+    (tie.spec (λ c κs. search needs) (λ c. search needs) slice-aggregate-write-more (λ c κs. search needs) (λ c. search needs) returns)

@@ -44,9 +44,6 @@ add-bytes c =
 add-from : tie.Need-add-from Inv-loop μ-loop
 add-from c = record { fits = omega (arith, c .before .before .before .before .before .before .loop .inv .inside) }
 
-loop-less : tie.Need-loop-less Inv-loop μ-loop
-loop-less c = search needs
-
 loop-again : tie.Need-loop-again Inv-loop μ-loop
 loop-again c =
     let c3 = c .before .before .before in
@@ -74,9 +71,6 @@ slice-aggregate-write-more c =
     let p = c3 .put-records .ensures in
     let l = c3 .before .before .before .loop in
     sym (length-take-le _ _ (omega (arith, placed (recordsLine (s .args .records)) (l .output) 0 (p .0), p .1, l .inv .output, s .pre .room)))
-
-write-more-requires : tie.Need-write-more-requires Inv-loop μ-loop
-write-more-requires c κs = search needs
 
 add-t20 : tie.Need-add-t20 Inv-loop μ-loop
 add-t20 c =
@@ -109,19 +103,5 @@ returns c =
 pub write-tally-spec : {M : Type 1} → statement M
 write-tally-spec =
     tie.close
-    (tie.spec
-    Inv-loop
-    μ-loop
-    loop-holds
-    write-rows-requires
-    add-bytes
-    add-from
-    loop-less
-    loop-again
-    put-records-requires
-    slice-reshare-prefix-write-more
-    slice-aggregate-write-more
-    write-more-requires
-    add-t20
-    same-length
-    returns)
+    (tie.spec Inv-loop μ-loop loop-holds write-rows-requires add-bytes add-from (λ c. search needs) loop-again put-records-requires
+    slice-reshare-prefix-write-more slice-aggregate-write-more (λ c κs. search needs) add-t20 same-length returns)

@@ -29,12 +29,6 @@ shows : (b : ℕ) (W : List ℕ) {e : End} (k : ℕ) (l : List ℕ) {n : ℕ} �
 unfolding outBy toldOut
 shows b W k l f = rw f
 
-enum-told : tie.Need-enum-told
-enum-told c = search needs
-
-told-requires : tie.Need-told-requires
-told-requires c κs = search needs
-
 returns : tie.Need-returns
 returns c =
     let m = c .before in
@@ -42,15 +36,6 @@ returns c =
     let k = m .match .keys2 in
     ap (λ (r : QueryAnswer). record { answer = r; witness = a .witness .now }) (c .told .ensures (a .witness .now) (a .cells .now))
     ∙ stays (a .budget) (a .witness .now) (a .finding .end) (a .finding .count) (a .cells .now) (λ n e. miss (0 ∷ 2 ∷ 3 ∷ []) 1 tt (rw e at k))
-
-show-requires : tie.Need-show-requires
-show-requires c κs = search needs
-
-told-requires-2 : tie.Need-told-requires-2
-told-requires-2 c κs = search needs
-
-same-length : tie.Need-same-length
-same-length c = search needs
 
 returns-2 : tie.Need-returns-2
 returns-2 c =
@@ -63,11 +48,4 @@ returns-2 c =
 pub answer-spec : {M : Type 1} → statement M
 answer-spec =
     tie.close
-    (tie.spec
-    enum-told
-    told-requires
-    returns
-    show-requires
-    told-requires-2
-    same-length
-    returns-2)
+    (tie.spec (λ c. search needs) (λ c κs. search needs) returns (λ c κs. search needs) (λ c κs. search needs) (λ c. search needs) returns-2)

@@ -9,29 +9,11 @@ use borrow.Author.Needs.{needs}
 use Rattle.query.proofs.ask.decide.Statement.{statement}
 use Rattle.query.proofs.ask.decide.Tie as tie
 
-of-requires : tie.Need-of-requires
-of-requires c κs = search needs
-
-cast-cells : tie.Need-cast-cells
-cast-cells c = search needs
-
-array-write-cells : tie.Need-array-write-cells
-array-write-cells c = search needs
-
 shared-slice-read-used : tie.Need-shared-slice-read-used
 shared-slice-read-used c = let s = c .before .before .before .before .before in omega (arith, sized-low (s .args .tree .now) (s .pre .0))
 
-used-requires : tie.Need-used-requires
-used-requires c κs = search needs
-
 add-end : tie.Need-add-end
 add-end c = record { fits = let s = c .before .before .before .before .before .before in omega (arith, c .used .ensures, laid-room (s .args .tree .now) (s .pre .1), sized-high (s .args .tree .now) (s .pre .0)) }
-
-sub-walk-top : tie.Need-sub-walk-top
-sub-walk-top c = search needs
-
-part-walk-top-start : tie.Need-part-walk-top-start
-part-walk-top-start c = search needs
 
 part-walk-top-end : tie.Need-part-walk-top-end
 part-walk-top-end c = let s = c .before .before .before .before .before .before in omega (arith, c .used .ensures, laid-room (s .args .tree .now) (s .pre .1))
@@ -41,9 +23,6 @@ walk-top-requires c κs =
     let o = c .before .before .before .before .before .before in
     let s = o .before .before .before in
     fresh-ready (s .pre .2) (clause-read (s .args .words .now) (s .pre .2) _ (o .of .ensures))
-
-told-requires : tie.Need-told-requires
-told-requires c κs = search needs
 
 returns : tie.Need-returns
 returns c =
@@ -56,16 +35,5 @@ returns c =
 pub decide-spec : {M : Type 1} → statement M
 decide-spec =
     tie.close
-    (tie.spec
-    of-requires
-    cast-cells
-    array-write-cells
-    shared-slice-read-used
-    used-requires
-    add-end
-    sub-walk-top
-    part-walk-top-start
-    part-walk-top-end
-    walk-top-requires
-    told-requires
-    returns)
+    (tie.spec (λ c κs. search needs) (λ c. search needs) (λ c. search needs) shared-slice-read-used (λ c κs. search needs) add-end (λ c. search needs)
+    (λ c. search needs) part-walk-top-end walk-top-requires (λ c κs. search needs) returns)

@@ -7,26 +7,11 @@ use borrow.Author.Needs.{needs}
 use Rattle.query.proofs.ask.query.Statement.{statement}
 use Rattle.query.proofs.ask.query.Tie as tie
 
-sized-requires : tie.Need-sized-requires
-sized-requires c κs = search needs
-
 returns : tie.Need-returns
 returns c =
     let z = c .before in
     let a = z .before .before .before .before .args in
     query-unsized (a .tree .now) (a .words .now) (a .budget) (a .witness .now) (z .sized .ensures) (not-true _ (c .if1 .taken))
-
-read-requires : tie.Need-read-requires
-read-requires c κs = search needs
-
-enum-told : tie.Need-enum-told
-enum-told c = search needs
-
-enum-told-2 : tie.Need-enum-told-2
-enum-told-2 c = search needs
-
-refusal-requires : tie.Need-refusal-requires
-refusal-requires c κs = search needs
 
 returns-2 : tie.Need-returns-2
 returns-2 c =
@@ -51,9 +36,6 @@ shared-slice-read-header c =
     let a = z .before .before .before .before .args in
     let n = some-words (a .tree .now) (a .words .now) (a .budget) (a .witness .now) (z .sized .ensures) (not-false _ (r .before .if1 .left)) in
     search needs
-
-header-requires : tie.Need-header-requires
-header-requires c κs = search needs
 
 sub-if3 : tie.Need-sub-if3
 sub-if3 c =
@@ -83,9 +65,6 @@ search-requires c κs =
     let n = some-words (a .tree .now) (a .words .now) (a .budget) (a .witness .now) (z .sized .ensures) (not-false _ (r .before .if1 .left)) in
     ((_, sym (r .read .ensures) ∙ e .before .enum-told .given .1), omega arith, omega (arith, h .header .ensures .0, c .before .if3 .left), e .if2 .left)
 
-same-length : tie.Need-same-length
-same-length c = search needs
-
 returns-5 : tie.Need-returns-5
 returns-5 c =
     let o = c .before .before .before .before in
@@ -101,19 +80,5 @@ returns-5 c =
 pub query-spec : {M : Type 1} → statement M
 query-spec =
     tie.close
-    (tie.spec
-    sized-requires
-    returns
-    read-requires
-    enum-told
-    enum-told-2
-    refusal-requires
-    returns-2
-    returns-3
-    shared-slice-read-header
-    header-requires
-    sub-if3
-    returns-4
-    search-requires
-    same-length
-    returns-5)
+    (tie.spec (λ c κs. search needs) returns (λ c κs. search needs) (λ c. search needs) (λ c. search needs) (λ c κs. search needs) returns-2 returns-3
+    shared-slice-read-header (λ c κs. search needs) sub-if3 returns-4 search-requires (λ c. search needs) returns-5)

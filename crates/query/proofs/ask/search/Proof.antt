@@ -8,44 +8,11 @@ use borrow.Author.Needs.{needs}
 use Rattle.query.proofs.ask.search.Statement.{statement}
 use Rattle.query.proofs.ask.search.Tie as tie
 
-of-requires : tie.Need-of-requires
-of-requires c κs = search needs
-
-cast-cells : tie.Need-cast-cells
-cast-cells c = search needs
-
-array-write-cells : tie.Need-array-write-cells
-array-write-cells c = search needs
-
-shared-slice-read-header : tie.Need-shared-slice-read-header
-shared-slice-read-header c = search needs
-
-header-requires : tie.Need-header-requires
-header-requires c κs = search needs
-
-add-end : tie.Need-add-end
-add-end c = search needs
-
-sub-walk-top : tie.Need-sub-walk-top
-sub-walk-top c = search needs
-
-part-walk-top-start : tie.Need-part-walk-top-start
-part-walk-top-start c = search needs
-
-part-walk-top-end : tie.Need-part-walk-top-end
-part-walk-top-end c = search needs
-
 walk-top-requires : tie.Need-walk-top-requires
 walk-top-requires c κs =
     let o = c .before .before .before .before .before .before .before in
     let s = o .before .before .before .before in
     fresh-ready (s .pre .0) (clause-read (s .args .words .now) (s .pre .0) _ (o .of .ensures))
-
-answer-requires : tie.Need-answer-requires
-answer-requires c κs = search needs
-
-same-length : tie.Need-same-length
-same-length c = search needs
 
 returns : tie.Need-returns
 returns c =
@@ -59,17 +26,5 @@ returns c =
 pub search-spec : {M : Type 1} → statement M
 search-spec =
     tie.close
-    (tie.spec
-    of-requires
-    cast-cells
-    array-write-cells
-    shared-slice-read-header
-    header-requires
-    add-end
-    sub-walk-top
-    part-walk-top-start
-    part-walk-top-end
-    walk-top-requires
-    answer-requires
-    same-length
-    returns)
+    (tie.spec (λ c κs. search needs) (λ c. search needs) (λ c. search needs) (λ c. search needs) (λ c κs. search needs) (λ c. search needs)
+    (λ c. search needs) (λ c. search needs) (λ c. search needs) walk-top-requires (λ c κs. search needs) (λ c. search needs) returns)

@@ -21,27 +21,6 @@ abbrev μ-loop : tie.MeasureT-loop
 loop-holds : tie.Need-loop-holds Inv-loop μ-loop
 loop-holds c = (search needs, refl, refl)
 
-shows-requires : tie.Need-shows-requires Inv-loop μ-loop
-shows-requires c κs = search needs
-
-element-copy-out-word : tie.Need-element-copy-out-word Inv-loop μ-loop
-element-copy-out-word c = search needs
-
-word-requires : tie.Need-word-requires Inv-loop μ-loop
-word-requires c κs = search needs
-
-mul-witness : tie.Need-mul-witness Inv-loop μ-loop
-mul-witness c = search needs
-
-slice-write-witness : tie.Need-slice-write-witness Inv-loop μ-loop
-slice-write-witness c = search needs
-
-add-i : tie.Need-add-i Inv-loop μ-loop
-add-i c = search needs
-
-loop-less : tie.Need-loop-less Inv-loop μ-loop
-loop-less c = search needs
-
 loop-again : tie.Need-loop-again Inv-loop μ-loop
 loop-again c = let a = c .before .before .before .before .before .args in
     let i = c .before .before .before .loop .i in
@@ -55,26 +34,11 @@ loop-again c = let a = c .before .before .before .before .before .args in
     (c .if1 .came) in
     (search needs, ap (λ (l : List ℕ). length l) q ∙ length-withShown (take (i + 1) os) (a .witness .now), q)
 
-same-length : tie.Need-same-length Inv-loop μ-loop
-same-length c = search needs
-
 returns : tie.Need-returns Inv-loop μ-loop
 returns c = let i = c .before .loop .inv in rw (shown-all (c .before .before .before .args .cells .now) (c .before .loop .i) (c .loop-test .left)) at (i .2)
 
 pub show-spec : {M : Type 1} → statement M
 show-spec =
     tie.close
-    (tie.spec
-    Inv-loop
-    μ-loop
-    loop-holds
-    shows-requires
-    element-copy-out-word
-    word-requires
-    mul-witness
-    slice-write-witness
-    add-i
-    loop-less
-    loop-again
-    same-length
-    returns)
+    (tie.spec Inv-loop μ-loop loop-holds (λ c κs. search needs) (λ c. search needs) (λ c κs. search needs) (λ c. search needs) (λ c. search needs)
+    (λ c. search needs) (λ c. search needs) loop-again (λ c. search needs) returns)

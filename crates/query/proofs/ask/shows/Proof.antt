@@ -4,18 +4,6 @@ use Rattle.query.proofs.Showing.{shows-front, shows-back}
 use Rattle.query.proofs.ask.shows.Statement.{statement}
 use Rattle.query.proofs.ask.shows.Tie as tie
 
-element-copy-out-wide : tie.Need-element-copy-out-wide
-element-copy-out-wide c = search needs
-
-wide-requires : tie.Need-wide-requires
-wide-requires c κs = search needs
-
-element-copy-out-wide-2 : tie.Need-element-copy-out-wide-2
-element-copy-out-wide-2 c = search needs
-
-wide-requires-2 : tie.Need-wide-requires-2
-wide-requires-2 c κs = search needs
-
 returns : tie.Need-returns
 returns c = let a = c .before .before .before .args in shows-front (a .cells .now) (c .before .before .before .pre .0) (a .i) (c .before .before .if1 .taken) (c .wide .ensures .0)
 
@@ -25,4 +13,6 @@ returns-2 c =
     shows-back (s .args .cells .now) (s .pre .0) (s .args .i) (c .before .before .if1 .left) (s .pre .1) (c .wide2 .ensures .0)
 
 pub shows-spec : {M : Type 1} → statement M
-shows-spec = tie.close (tie.spec element-copy-out-wide wide-requires element-copy-out-wide-2 wide-requires-2 returns returns-2)
+shows-spec =
+    tie.close
+    (tie.spec (λ c. search needs) (λ c κs. search needs) (λ c. search needs) (λ c κs. search needs) returns returns-2)

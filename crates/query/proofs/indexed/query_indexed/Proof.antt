@@ -12,18 +12,9 @@ use Rattle.query.proofs.Packed.{clause-read}
 use Rattle.query.proofs.indexed.query_indexed.Statement.{statement}
 use Rattle.query.proofs.indexed.query_indexed.Tie as tie
 
-is-whole-requires : tie.Need-is-whole-requires
-is-whole-requires c κs = search needs
-
 -- the clause is accepted
 whole : (c : tie.Else1) → Accepted (c .before .before .before .before .before .args .words .now)
 whole c = whole-accepted (c .before .before .before .before .before .args .words .now) (c .before .is-whole .ensures) (not-false _ (c .if1 .left))
-
-read-requires : tie.Need-read-requires
-read-requires c κs = search needs
-
-refusal-requires : tie.Need-refusal-requires
-refusal-requires c κs = search needs
 
 returns : tie.Need-returns
 returns c =
@@ -35,30 +26,15 @@ returns c =
 of-requires : tie.Need-of-requires
 of-requires c κs = whole c
 
-cast-cells : tie.Need-cast-cells
-cast-cells c = search needs
-
-array-write-cells : tie.Need-array-write-cells
-array-write-cells c = search needs
-
 shared-slice-read-used : tie.Need-shared-slice-read-used
 shared-slice-read-used c =
     let s = c .before .before .before .before .before .before .before .before in
     omega (arith, sized-low (s .args .tree .now) (s .pre .0))
 
-used-requires : tie.Need-used-requires
-used-requires c κs = search needs
-
 add-end : tie.Need-add-end
 add-end c =
     let s = c .before .before .before .before .before .before .before .before .before in
     record { fits = omega (arith, c .used .ensures, laid-room (s .args .tree .now) (s .pre .1), sized-high (s .args .tree .now) (s .pre .0)) }
-
-sub-walk-heads : tie.Need-sub-walk-heads
-sub-walk-heads c = search needs
-
-part-walk-heads-start : tie.Need-part-walk-heads-start
-part-walk-heads-start c = search needs
 
 part-walk-heads-end : tie.Need-part-walk-heads-end
 part-walk-heads-end c =
@@ -79,9 +55,6 @@ walk-heads-requires c κs =
       refl,
     )
 
-told-requires : tie.Need-told-requires
-told-requires c κs = search needs
-
 returns-2 : tie.Need-returns-2
 returns-2 c =
     let w = c .before in
@@ -94,20 +67,6 @@ returns-2 c =
 pub query-indexed-spec : {M : Type 1} → statement M
 query-indexed-spec =
     tie.close
-    (tie.spec
-    is-whole-requires
-    read-requires
-    refusal-requires
-    returns
-    of-requires
-    cast-cells
-    array-write-cells
-    shared-slice-read-used
-    used-requires
-    add-end
-    sub-walk-heads
-    part-walk-heads-start
-    part-walk-heads-end
-    walk-heads-requires
-    told-requires
-    returns-2)
+    (tie.spec (λ c κs. search needs) (λ c κs. search needs) (λ c κs. search needs) returns of-requires (λ c. search needs) (λ c. search needs)
+    shared-slice-read-used (λ c κs. search needs) add-end (λ c. search needs) (λ c. search needs) part-walk-heads-end walk-heads-requires
+    (λ c κs. search needs) returns-2)

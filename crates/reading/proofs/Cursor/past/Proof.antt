@@ -25,36 +25,15 @@ loop-holds c = (search needs, refl)
 returns : tie.Need-returns Inv-loop μ-loop
 returns c = sym (c .before .before .loop .inv .1 ∙ past-end _ _ _ _ (c .before .loop-test .taken) (c .if1 .taken))
 
-mul-word : tie.Need-mul-word Inv-loop μ-loop
-mul-word c = search needs
-
-shared-slice-read-word : tie.Need-shared-slice-read-word Inv-loop μ-loop
-shared-slice-read-word c = search needs
-
-is-inside-requires : tie.Need-is-inside-requires Inv-loop μ-loop
-is-inside-requires c κs = search needs
-
 returns-2 : tie.Need-returns-2 Inv-loop μ-loop
 returns-2 c =
     let f = c .before .before .before in
     let l = f .before in
     sym (l .before .loop .inv .1 ∙ past-off _ _ _ (f .if1 .left) _ (l .loop-test .taken) (sym (c .before .is-inside .ensures) ∙ not-true _ (c .if2 .taken)))
 
-sub-need : tie.Need-sub-need Inv-loop μ-loop
-sub-need c = search needs
-
-arity-requires : tie.Need-arity-requires Inv-loop μ-loop
-arity-requires c κs = search needs
-
 add-need : tie.Need-add-need Inv-loop μ-loop
 unfolding arity
 add-need c = omega arith
-
-add-at : tie.Need-add-at Inv-loop μ-loop
-add-at c = search needs
-
-loop-less : tie.Need-loop-less Inv-loop μ-loop
-loop-less c = search needs
 
 loop-again : tie.Need-loop-again Inv-loop μ-loop
 unfolding arity
@@ -74,19 +53,5 @@ returns-3 c = let z : c .before .loop .need ≡ 0 = omega arith in sym (c .befor
 pub past-spec : {M : Type 1} → statement M
 past-spec =
     tie.close
-    (tie.spec
-    Inv-loop
-    μ-loop
-    loop-holds
-    returns
-    mul-word
-    shared-slice-read-word
-    is-inside-requires
-    returns-2
-    sub-need
-    arity-requires
-    add-need
-    add-at
-    loop-less
-    loop-again
-    returns-3)
+    (tie.spec Inv-loop μ-loop loop-holds returns (λ c. search needs) (λ c. search needs) (λ c κs. search needs) returns-2 (λ c. search needs)
+    (λ c κs. search needs) add-need (λ c. search needs) (λ c. search needs) loop-again returns-3)

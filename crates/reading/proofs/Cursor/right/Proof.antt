@@ -4,14 +4,10 @@ use Rattle.reading.proofs.Past.{first-some}
 use Rattle.reading.proofs.Cursor.right.Statement.{statement}
 use Rattle.reading.proofs.Cursor.right.Tie as tie
 
-returns : tie.Need-returns
-returns c = search needs
-
-sub-t4 : tie.Need-sub-t4
-sub-t4 c = search needs
-
 returns-2 : tie.Need-returns-2
 returns-2 c = first-some _ _ (c .before .if1 .left)
 
 pub right-spec : {M : Type 1} → statement M
-right-spec = tie.close (tie.spec returns sub-t4 returns-2)
+right-spec =
+    tie.close
+    (tie.spec (λ c. search needs) (λ c. search needs) returns-2)

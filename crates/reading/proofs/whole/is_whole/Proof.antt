@@ -29,27 +29,12 @@ returns-2 c = sym (ap isWhole (shape-long _ (c .if2 .taken)))
 loop-holds : tie.Need-loop-holds Inv-loop μ-loop
 loop-holds c = (search needs, search needs, shape-counted _ (c .before .if1 .left) (c .if2 .left))
 
-mul-word : tie.Need-mul-word Inv-loop μ-loop
-mul-word c = search needs
-
-shared-slice-read-word : tie.Need-shared-slice-read-word Inv-loop μ-loop
-shared-slice-read-word c = search needs
-
-is-head-requires : tie.Need-is-head-requires Inv-loop μ-loop
-is-head-requires c κs = search needs
-
 returns-3 : tie.Need-returns-3 Inv-loop μ-loop
 returns-3 c =
     let f = c .before .before in
     let l = f .before .before in
     let e = sym (c .before .is-head .ensures) ∙ not-true _ (c .if4 .taken) in
     sym (l .before .loop .inv .2 ∙ counted-head _ _ (l .loop-test .taken) _ _ _ (f .if3 .taken) e)
-
-add-count : tie.Need-add-count Inv-loop μ-loop
-add-count c = search needs
-
-is-inside-requires : tie.Need-is-inside-requires Inv-loop μ-loop
-is-inside-requires c κs = search needs
 
 returns-4 : tie.Need-returns-4 Inv-loop μ-loop
 returns-4 c =
@@ -58,21 +43,9 @@ returns-4 c =
     let e = sym (c .before .is-inside .ensures) ∙ not-true _ (c .if5 .taken) in
     sym (l .before .loop .inv .2 ∙ counted-inside _ _ (l .loop-test .taken) _ _ _ (f .if3 .left) e)
 
-sub-need : tie.Need-sub-need Inv-loop μ-loop
-sub-need c = search needs
-
-arity-requires : tie.Need-arity-requires Inv-loop μ-loop
-arity-requires c κs = search needs
-
 add-need : tie.Need-add-need Inv-loop μ-loop
 unfolding arity
 add-need c = ⊎-elim (λ w. omega arith) (λ w. omega arith) (c .before .before .if3 .came)
-
-add-at : tie.Need-add-at Inv-loop μ-loop
-add-at c = search needs
-
-loop-less : tie.Need-loop-less Inv-loop μ-loop
-loop-less c = search needs
 
 loop-again : tie.Need-loop-again Inv-loop μ-loop
 unfolding arity
@@ -107,24 +80,6 @@ returns-6 c =
 pub is-whole-spec : {M : Type 1} → statement M
 is-whole-spec =
     tie.close
-    (tie.spec
-    Inv-loop
-    μ-loop
-    returns
-    returns-2
-    loop-holds
-    mul-word
-    shared-slice-read-word
-    is-head-requires
-    returns-3
-    add-count
-    is-inside-requires
-    returns-4
-    sub-need
-    arity-requires
-    add-need
-    add-at
-    loop-less
-    loop-again
-    returns-5
-    returns-6)
+    (tie.spec Inv-loop μ-loop returns returns-2 loop-holds (λ c. search needs) (λ c. search needs) (λ c κs. search needs) returns-3
+    (λ c. search needs) (λ c κs. search needs) returns-4 (λ c. search needs) (λ c κs. search needs) add-need (λ c. search needs) (λ c. search needs)
+    loop-again returns-5 returns-6)

@@ -8,4 +8,6 @@ returns : tie.Need-returns
 returns c = head-test (c .args .word) (omega arith)
 
 pub is-head-spec : {M : Type 1} → statement M
-is-head-spec = tie.close (tie.spec returns)
+is-head-spec =
+    tie.close
+    (tie.spec returns)

@@ -8,4 +8,6 @@ returns : tie.Need-returns
 returns c = inside-test (c .args .word) (omega arith)
 
 pub is-inside-spec : {M : Type 1} → statement M
-is-inside-spec = tie.close (tie.spec returns)
+is-inside-spec =
+    tie.close
+    (tie.spec returns)

@@ -5,12 +5,6 @@ use borrow.Author.Needs.{needs}
 use Rattle.running.proofs.settings.setting_of.Statement.{statement}
 use Rattle.running.proofs.settings.setting_of.Tie as tie
 
-slice-aggregate-same : tie.Need-slice-aggregate-same
-slice-aggregate-same c = search needs
-
-same-requires : tie.Need-same-requires
-same-requires c κs = search needs
-
 returns : tie.Need-returns
 returns c = sym (ap settingIf (sym (c .before .same .ensures) ∙ c .if1 .taken))
 
@@ -18,4 +12,6 @@ returns-2 : tie.Need-returns-2
 returns-2 c = sym (ap settingIf (sym (c .before .same .ensures) ∙ c .if1 .left))
 
 pub setting-of-spec : {M : Type 1} → statement M
-setting-of-spec = tie.close (tie.spec slice-aggregate-same same-requires returns returns-2)
+setting-of-spec =
+    tie.close
+    (tie.spec (λ c. search needs) (λ c κs. search needs) returns returns-2)

@@ -7,35 +7,11 @@ use borrow.Author.Needs.{needs}
 use Rattle.stepping.proofs.step.act.Statement.{statement}
 use Rattle.stepping.proofs.step.act.Tie as tie
 
-success-requires : tie.Need-success-requires
-success-requires c κs = search needs
-
-tries-requires : tie.Need-tries-requires
-tries-requires c κs = search needs
-
 down-requires : tie.Need-down-requires
 down-requires c κs = (c .before .before .pre .1, few-words (c .before .before .pre .0))
 
-sibling-requires : tie.Need-sibling-requires
-sibling-requires c κs = search needs
-
 put-requires : tie.Need-put-requires
 put-requires c κs = (c .before .before .before .pre .0 .few, omega (arith, few-words (c .before .before .before .pre .0)))
-
-right-requires : tie.Need-right-requires
-right-requires c κs = search needs
-
-push-requires : tie.Need-push-requires
-push-requires c κs = search needs
-
-pop-requires : tie.Need-pop-requires
-pop-requires c κs = search needs
-
-check-requires : tie.Need-check-requires
-check-requires c κs = search needs
-
-compare-requires : tie.Need-compare-requires
-compare-requires c κs = search needs
 
 returns : tie.Need-returns
 returns c =
@@ -142,24 +118,6 @@ returns-10 c =
 pub act-spec : {M : Type 1} → statement M
 act-spec =
     tie.close
-    (tie.spec
-    success-requires
-    tries-requires
-    down-requires
-    sibling-requires
-    put-requires
-    right-requires
-    push-requires
-    pop-requires
-    check-requires
-    compare-requires
-    returns
-    returns-2
-    returns-3
-    returns-4
-    returns-5
-    returns-6
-    returns-7
-    returns-8
-    returns-9
-    returns-10)
+    (tie.spec (λ c κs. search needs) (λ c κs. search needs) down-requires (λ c κs. search needs) put-requires (λ c κs. search needs)
+    (λ c κs. search needs) (λ c κs. search needs) (λ c κs. search needs) (λ c κs. search needs) returns returns-2 returns-3 returns-4 returns-5
+    returns-6 returns-7 returns-8 returns-9 returns-10)

@@ -5,15 +5,6 @@ use borrow.Author.Needs.{needs}
 use Rattle.stepping.proofs.step.check.Statement.{statement}
 use Rattle.stepping.proofs.step.check.Tie as tie
 
-mul-word : tie.Need-mul-word
-mul-word c = search needs
-
-shared-slice-read-word : tie.Need-shared-slice-read-word
-shared-slice-read-word c = search needs
-
-word-requires : tie.Need-word-requires
-word-requires c κs = search needs
-
 returns : tie.Need-returns
 returns c = λ l. stays _ _ l refl (check-same _ _ _ (sym (c .before .word .ensures) ∙ c .if1 .taken))
 
@@ -21,4 +12,6 @@ returns-2 : tie.Need-returns-2
 returns-2 c = λ l. misses l (check-other _ _ _ (λ e. c .if1 .left (c .before .word .ensures ∙ e)))
 
 pub check-spec : {M : Type 1} → statement M
-check-spec = tie.close (tie.spec mul-word shared-slice-read-word word-requires returns returns-2)
+check-spec =
+    tie.close
+    (tie.spec (λ c. search needs) (λ c. search needs) (λ c κs. search needs) returns returns-2)

@@ -7,35 +7,11 @@ use borrow.Author.Needs.{needs}
 use Rattle.stepping.proofs.step.compare.Statement.{statement}
 use Rattle.stepping.proofs.step.compare.Tie as tie
 
-cast-m : tie.Need-cast-m
-cast-m c = search needs
-
-cast-k : tie.Need-cast-k
-cast-k c = search needs
-
 returns : tie.Need-returns
 returns c = sticks _ (compare-over-m _ _ _ _ (c .before .before .pre) _ _ (c .if1 .taken))
 
 returns-2 : tie.Need-returns-2
 returns-2 c = sticks _ (compare-over-k _ _ _ _ (c .before .before .before .pre) _ _ (c .before .if1 .left) (c .if2 .taken))
-
-add-m-cell : tie.Need-add-m-cell
-add-m-cell c = search needs
-
-add-k-cell : tie.Need-add-k-cell
-add-k-cell c = search needs
-
-element-copy-out-wide : tie.Need-element-copy-out-wide
-element-copy-out-wide c = search needs
-
-wide-requires : tie.Need-wide-requires
-wide-requires c κs = search needs
-
-element-copy-out-wide-2 : tie.Need-element-copy-out-wide-2
-element-copy-out-wide-2 c = search needs
-
-wide-requires-2 : tie.Need-wide-requires-2
-wide-requires-2 c κs = search needs
 
 returns-3 : tie.Need-returns-3
 returns-3 c =
@@ -94,19 +70,5 @@ returns-6 c =
 pub compare-spec : {M : Type 1} → statement M
 compare-spec =
     tie.close
-    (tie.spec
-    cast-m
-    cast-k
-    returns
-    returns-2
-    add-m-cell
-    add-k-cell
-    element-copy-out-wide
-    wide-requires
-    element-copy-out-wide-2
-    wide-requires-2
-    returns-3
-    returns-4
-    same-terms-requires
-    returns-5
-    returns-6)
+    (tie.spec (λ c. search needs) (λ c. search needs) returns returns-2 (λ c. search needs) (λ c. search needs) (λ c. search needs)
+    (λ c κs. search needs) (λ c. search needs) (λ c κs. search needs) returns-3 returns-4 same-terms-requires returns-5 returns-6)

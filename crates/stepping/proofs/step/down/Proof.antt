@@ -6,15 +6,6 @@ use borrow.Author.Needs.{needs}
 use Rattle.stepping.proofs.step.down.Statement.{statement}
 use Rattle.stepping.proofs.step.down.Tie as tie
 
-mul-if1 : tie.Need-mul-if1
-mul-if1 c = search needs
-
-shared-slice-read-if1 : tie.Need-shared-slice-read-if1
-shared-slice-read-if1 c = search needs
-
-add-to : tie.Need-add-to
-add-to c = search needs
-
 returns : tie.Need-returns
 unfolding arity
 returns c = λ l. sticks l (down-stuck _ _ l (c .if1 .taken))
@@ -24,4 +15,6 @@ unfolding arity
 returns-2 c = λ l. stays _ _ l refl (down-below _ _ l (c .before .before .pre) (c .if1 .left))
 
 pub down-spec : {M : Type 1} → statement M
-down-spec = tie.close (tie.spec mul-if1 shared-slice-read-if1 add-to returns returns-2)
+down-spec =
+    tie.close
+    (tie.spec (λ c. search needs) (λ c. search needs) (λ c. search needs) returns returns-2)

@@ -8,9 +8,6 @@ use borrow.Author.Needs.{needs}
 use Rattle.stepping.proofs.step.meet.Statement.{statement}
 use Rattle.stepping.proofs.step.meet.Tie as tie
 
-extent-requires : tie.Need-extent-requires
-extent-requires c κs = search needs
-
 returns : tie.Need-returns
 unfolding metOf
 returns c =
@@ -25,15 +22,6 @@ returns-2 c =
     sticks _ (sym (met-unfit _ (a .w) (a .room) _ (extends-long (a .w) (a .room) (c .before .before .before .before .pre .1)
     (omega (arith, e, c .before .if1 .left)) (omega (arith, e, c .if2 .taken)))))
 
-operation-requires : tie.Need-operation-requires
-operation-requires c κs = search needs
-
-operand-requires : tie.Need-operand-requires
-operand-requires c κs = search needs
-
-act-requires : tie.Need-act-requires
-act-requires c κs = search needs
-
 returns-3 : tie.Need-returns-3
 returns-3 c =
     let c4 = c .before .before .before .before in
@@ -45,11 +33,4 @@ returns-3 c =
 pub meet-spec : {M : Type 1} → statement M
 meet-spec =
     tie.close
-    (tie.spec
-    extent-requires
-    returns
-    returns-2
-    operation-requires
-    operand-requires
-    act-requires
-    returns-3)
+    (tie.spec (λ c κs. search needs) returns returns-2 (λ c κs. search needs) (λ c κs. search needs) (λ c κs. search needs) returns-3)

@@ -11,9 +11,6 @@ use borrow.Author.Needs.{needs}
 use Rattle.stepping.proofs.step.meet_top.Statement.{statement}
 use Rattle.stepping.proofs.step.meet_top.Tie as tie
 
-extent-requires : tie.Need-extent-requires
-extent-requires c κs = search needs
-
 returns : tie.Need-returns
 unfolding metOf
 returns c =
@@ -31,17 +28,11 @@ returns-2 c =
     let f = extends-long (a .w) (a .room) (c4 .pre .1) (omega (arith, e, c .before .if1 .left)) (omega (arith, e, c .if2 .taken)) in
     (sticks _ (sym (met-unfit _ (a .w) (a .room) _ f)), inr refl)
 
-operation-requires : tie.Need-operation-requires
-operation-requires c κs = search needs
-
 returns-3 : tie.Need-returns-3
 unfolding metOf
 returns-3 c =
     let a = c .before .before .before .before .before .before .args in
     (sticks _ (sym (met-early _ (a .w) (a .room) _ (c .before .operation .ensures) (c .if3 .taken) (place-none refl))), inr refl)
-
-tries-requires : tie.Need-tries-requires
-tries-requires c κs = search needs
 
 returns-4 : tie.Need-returns-4
 returns-4 c =
@@ -58,11 +49,4 @@ returns-4 c =
 pub meet-top-spec : {M : Type 1} → statement M
 meet-top-spec =
     tie.close
-    (tie.spec
-    extent-requires
-    returns
-    returns-2
-    operation-requires
-    returns-3
-    tries-requires
-    returns-4)
+    (tie.spec (λ c κs. search needs) returns returns-2 (λ c κs. search needs) returns-3 (λ c κs. search needs) returns-4)

@@ -11,4 +11,6 @@ returns-2 : tie.Need-returns-2
 returns-2 c = λ l. stays _ _ l refl (moved-some (c .before .args .head) l (c .if1 .left))
 
 pub moved-spec : {M : Type 1} → statement M
-moved-spec = tie.close (tie.spec returns returns-2)
+moved-spec =
+    tie.close
+    (tie.spec returns returns-2)

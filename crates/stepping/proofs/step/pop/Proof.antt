@@ -7,18 +7,6 @@ use Rattle.stepping.proofs.step.pop.Tie as tie
 returns : tie.Need-returns
 returns c = sticks _ (over _ _ (c .if1 .taken))
 
-add-slot : tie.Need-add-slot
-add-slot c = search needs
-
-element-copy-out-wide : tie.Need-element-copy-out-wide
-element-copy-out-wide c = search needs
-
-wide-requires : tie.Need-wide-requires
-wide-requires c κs = search needs
-
-moved-requires : tie.Need-moved-requires
-moved-requires c κs = search needs
-
 returns-2 : tie.Need-returns-2
 returns-2 c =
     let c3 = c .before .before .before in
@@ -30,4 +18,4 @@ returns-2 c =
 pub pop-spec : {M : Type 1} → statement M
 pop-spec =
     tie.close
-    (tie.spec returns add-slot element-copy-out-wide wide-requires moved-requires returns-2)
+    (tie.spec returns (λ c. search needs) (λ c. search needs) (λ c κs. search needs) (λ c κs. search needs) returns-2)

@@ -15,4 +15,6 @@ unfolding metOf withWords
 returns-2 c = λ l. sticks l (rw (ne-eqb _ 1 (c .if1 .left)))
 
 pub success-spec : {M : Type 1} → statement M
-success-spec = tie.close (tie.spec returns returns-2)
+success-spec =
+    tie.close
+    (tie.spec returns returns-2)

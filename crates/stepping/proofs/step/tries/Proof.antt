@@ -11,12 +11,6 @@ use borrow.Author.Needs.{needs}
 use Rattle.stepping.proofs.step.tries.Statement.{statement}
 use Rattle.stepping.proofs.step.tries.Tie as tie
 
-element-copy-out-wide : tie.Need-element-copy-out-wide
-element-copy-out-wide c = search needs
-
-wide-requires : tie.Need-wide-requires
-wide-requires c κs = search needs
-
 returns : tie.Need-returns
 unfolding metOf
 returns c =
@@ -29,4 +23,6 @@ returns-2 c =
     (sticks _ (rw (le-ltb n maxLiterals (omega (arith, c .before .wide .ensures .0, c .if1 .left)))), inr refl)
 
 pub tries-spec : {M : Type 1} → statement M
-tries-spec = tie.close (tie.spec element-copy-out-wide wide-requires returns returns-2)
+tries-spec =
+    tie.close
+    (tie.spec (λ c. search needs) (λ c κs. search needs) returns returns-2)

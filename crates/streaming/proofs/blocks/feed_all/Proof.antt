@@ -101,23 +101,6 @@ returns c = c .before .loop .inv .0 .stands
 pub feed-all-spec : {M : Type 1} → statement M
 feed-all-spec =
     tie.close
-    (tie.spec
-    Inv-loop
-    μ-loop
-    begin-requires
-    loop-holds
-    read-block-requires
-    slice-reshare-prefix-feed-block
-    slice-aggregate-feed-block
-    slice-aggregate-feed-block-2
-    feed-block-requires
-    left-after-requires
-    loop-less
-    loop-again
-    same-length
-    same-length-2
-    same-length-3
-    same-length-4
-    same-length-5
-    same-length-6
-    returns)
+    (tie.spec Inv-loop μ-loop begin-requires loop-holds read-block-requires slice-reshare-prefix-feed-block slice-aggregate-feed-block
+    slice-aggregate-feed-block-2 feed-block-requires left-after-requires loop-less loop-again same-length same-length-2 same-length-3 same-length-4
+    same-length-5 same-length-6 returns)

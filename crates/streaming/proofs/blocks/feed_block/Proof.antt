@@ -9,9 +9,6 @@ use borrow.Author.Needs.{needs}
 use Rattle.streaming.proofs.blocks.feed_block.Statement.{statement}
 use Rattle.streaming.proofs.blocks.feed_block.Tie as tie
 
-feed-requires : tie.Need-feed-requires
-feed-requires c κs = search needs
-
 slice-reshare-prefix-write-text : tie.Need-slice-reshare-prefix-write-text
 slice-reshare-prefix-write-text c =
     let c12 = c .before .before .before .before .before .before .before .before .before .before .before .before in
@@ -23,27 +20,6 @@ slice-aggregate-write-text c =
     let c13 = c .before .before .before .before .before .before .before .before .before .before .before .before .before in
     let c27 = c13 .before .before .before .before .before .before .before .before .before .before .before .before .before .before in
     sym (length-take-le _ _ (omega (arith, c13 .feed .ensures .0 .short, c27 .pre .0 .room, c .before .before .output .given)))
-
-write-text-requires : tie.Need-write-text-requires
-write-text-requires c κs = search needs
-
-same-length : tie.Need-same-length
-same-length c = search needs
-
-same-length-2 : tie.Need-same-length-2
-same-length-2 c = search needs
-
-same-length-3 : tie.Need-same-length-3
-same-length-3 c = search needs
-
-same-length-4 : tie.Need-same-length-4
-same-length-4 c = search needs
-
-same-length-5 : tie.Need-same-length-5
-same-length-5 c = search needs
-
-same-length-6 : tie.Need-same-length-6
-same-length-6 c = search needs
 
 returns : tie.Need-returns
 returns c =
@@ -59,15 +35,5 @@ returns c =
 pub feed-block-spec : {M : Type 1} → statement M
 feed-block-spec =
     tie.close
-    (tie.spec
-    feed-requires
-    slice-reshare-prefix-write-text
-    slice-aggregate-write-text
-    write-text-requires
-    same-length
-    same-length-2
-    same-length-3
-    same-length-4
-    same-length-5
-    same-length-6
-    returns)
+    (tie.spec (λ c κs. search needs) slice-reshare-prefix-write-text slice-aggregate-write-text (λ c κs. search needs) (λ c. search needs)
+    (λ c. search needs) (λ c. search needs) (λ c. search needs) (λ c. search needs) (λ c. search needs) returns)

@@ -9,32 +9,11 @@ use borrow.Author.Needs.{needs}
 use Rattle.tallying.proofs.counting.count_strike.Statement.{statement}
 use Rattle.tallying.proofs.counting.count_strike.Tie as tie
 
-enum-known-outcome : tie.Need-enum-known-outcome
-enum-known-outcome c = search needs
-
 returns : tie.Need-returns
 returns c =
     let a = c .before .before .args in
     let k = c .match .keys2 in
     no-strike (a .outcome) (a .counters .now) (λ n m e. miss (0 ∷ 2 ∷ []) 1 tt (rw e at k))
-
-cast-at : tie.Need-cast-at
-cast-at c = search needs
-
-mul-at : tie.Need-mul-at
-mul-at c = search needs
-
-raise-requires : tie.Need-raise-requires
-raise-requires c κs = search needs
-
-add-raise : tie.Need-add-raise
-add-raise c = search needs
-
-raise-requires-2 : tie.Need-raise-requires-2
-raise-requires-2 c κs = search needs
-
-same-length : tie.Need-same-length
-same-length c = search needs
 
 returns-2 : tie.Need-returns-2
 returns-2 c =
@@ -47,13 +26,5 @@ returns-2 c =
 pub count-strike-spec : {M : Type 1} → statement M
 count-strike-spec =
     tie.close
-    (tie.spec
-    enum-known-outcome
-    returns
-    cast-at
-    mul-at
-    raise-requires
-    add-raise
-    raise-requires-2
-    same-length
-    returns-2)
+    (tie.spec (λ c. search needs) returns (λ c. search needs) (λ c. search needs) (λ c κs. search needs) (λ c. search needs) (λ c κs. search needs)
+    (λ c. search needs) returns-2)

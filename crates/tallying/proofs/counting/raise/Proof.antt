@@ -6,24 +6,6 @@ use borrow.Author.Needs.{needs}
 use Rattle.tallying.proofs.counting.raise.Statement.{statement}
 use Rattle.tallying.proofs.counting.raise.Tie as tie
 
-mul-sum : tie.Need-mul-sum
-mul-sum c = search needs
-
-slice-read-sum : tie.Need-slice-read-sum
-slice-read-sum c = search needs
-
-sum-requires : tie.Need-sum-requires
-sum-requires c κs = search needs
-
-mul-counters : tie.Need-mul-counters
-mul-counters c = search needs
-
-slice-write-counters : tie.Need-slice-write-counters
-slice-write-counters c = search needs
-
-same-length : tie.Need-same-length
-same-length c = search needs
-
 returns : tie.Need-returns
 unfolding raised
 returns c = rw (c .sum .ensures)
@@ -35,12 +17,5 @@ returns-2 c = sym (set-out _ _ _ (c .if1 .left))
 pub raise-spec : {M : Type 1} → statement M
 raise-spec =
     tie.close
-    (tie.spec
-    mul-sum
-    slice-read-sum
-    sum-requires
-    mul-counters
-    slice-write-counters
-    same-length
-    returns
+    (tie.spec (λ c. search needs) (λ c. search needs) (λ c κs. search needs) (λ c. search needs) (λ c. search needs) (λ c. search needs) returns
     returns-2)

@@ -10,18 +10,12 @@ use Rattle.tallying.proofs.sheet.put_records.Tie as tie
 put-decimal-requires : tie.Need-put-decimal-requires
 put-decimal-requires c κs = omega (arith, c .before .before .pre, decimal-length 19 (c .before .before .args .records) (search needs))
 
-slice-aggregate-put-text : tie.Need-slice-aggregate-put-text
-slice-aggregate-put-text c = search needs
-
 put-text-requires : tie.Need-put-text-requires
 put-text-requires c κs =
     let c4 = c .before .before .before .before in
     let s = c4 .before .before .before in
     let n = s .args .records in
     omega (arith, s .pre, placed (decimal n) (s .args .output .now) 0 (c4 .put-decimal .ensures), decimal-length 19 n (search needs))
-
-same-length : tie.Need-same-length
-same-length c = search needs
 
 returns : tie.Need-returns
 unfolding recordsLine
@@ -38,4 +32,4 @@ returns c =
 pub put-records-spec : {M : Type 1} → statement M
 put-records-spec =
     tie.close
-    (tie.spec put-decimal-requires slice-aggregate-put-text put-text-requires same-length returns)
+    (tie.spec put-decimal-requires (λ c. search needs) put-text-requires (λ c. search needs) returns)

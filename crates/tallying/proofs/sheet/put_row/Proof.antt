@@ -13,9 +13,6 @@ put-decimal-requires c κs =
     let s = c .before .before in
     omega (arith, s .pre .0, decimal-length 4 (s .args .number) (omega (arith, s .pre .1)))
 
-slice-aggregate-put-named : tie.Need-slice-aggregate-put-named
-slice-aggregate-put-named c = search needs
-
 put-named-requires : tie.Need-put-named-requires
 put-named-requires c κs =
     let c4 = c .before .before .before .before in
@@ -23,9 +20,6 @@ put-named-requires c κs =
     let n = s .args .number in
     let k = placed (decimal n) (s .args .output .now) (s .args .at) (c4 .put-decimal .ensures) in
     omega (arith, s .pre .0, k, decimal-length 4 n (omega (arith, s .pre .1)), decimal-length 19 (s .args .strikes) (search needs))
-
-slice-aggregate-put-named-2 : tie.Need-slice-aggregate-put-named-2
-slice-aggregate-put-named-2 c = search needs
 
 put-named-requires-2 : tie.Need-put-named-requires-2
 put-named-requires-2 c κs =
@@ -37,9 +31,6 @@ put-named-requires-2 c κs =
     let k = placed (decimal n) (s .args .output .now) (s .args .at) (d .ensures) in
     let l = named-put space 19 (s .args .strikes) (search needs) (d .last .0) (d .result) (c4 .put-named .ensures) in
     omega (arith, s .pre .0, k, l, decimal-length 4 n (omega (arith, s .pre .1)), decimal-length 19 (s .args .candidates) (search needs))
-
-slice-aggregate-put-text : tie.Need-slice-aggregate-put-text
-slice-aggregate-put-text c = search needs
 
 put-text-requires : tie.Need-put-text-requires
 put-text-requires c κs =
@@ -54,9 +45,6 @@ put-text-requires c κs =
     let l = named-put space 19 (s .args .strikes) (search needs) (d .last .0) (d .result) (p .ensures) in
     let m = named-put space 19 (s .args .candidates) (search needs) (p .last .0) (p .result) (c4 .put-named2 .ensures) in
     omega (arith, s .pre .0, k, l, m, decimal-length 4 n (omega (arith, s .pre .1)))
-
-same-length : tie.Need-same-length
-same-length c = search needs
 
 returns : tie.Need-returns
 unfolding tallyLine
@@ -85,13 +73,5 @@ returns c =
 pub put-row-spec : {M : Type 1} → statement M
 put-row-spec =
     tie.close
-    (tie.spec
-    put-decimal-requires
-    slice-aggregate-put-named
-    put-named-requires
-    slice-aggregate-put-named-2
-    put-named-requires-2
-    slice-aggregate-put-text
-    put-text-requires
-    same-length
-    returns)
+    (tie.spec put-decimal-requires (λ c. search needs) put-named-requires (λ c. search needs) put-named-requires-2 (λ c. search needs)
+    put-text-requires (λ c. search needs) returns)

@@ -26,9 +26,6 @@ loop-holds c =
     let a = c .before .before .before .args in
     (refl, omega arith, omega arith, rw (shown-zero (a .marks .now) (a .counters .now) (a .from)))
 
-add-put-marked : tie.Need-add-put-marked Inv-loop μ-loop
-add-put-marked c = search needs
-
 put-marked-requires : tie.Need-put-marked-requires Inv-loop μ-loop
 put-marked-requires c κs =
     let s = c .before .before .before .before .before .before in
@@ -40,12 +37,6 @@ put-marked-requires c κs =
       numbers = omega (arith, p .numbers, c .before .loop-test .taken);
       room = omega (arith, p .room, c .before .loop-test .taken, l .0, l .2);
     }
-
-add-i : tie.Need-add-i Inv-loop μ-loop
-add-i c = search needs
-
-loop-less : tie.Need-loop-less Inv-loop μ-loop
-loop-less c = search needs
 
 loop-again : tie.Need-loop-again Inv-loop μ-loop
 loop-again c =
@@ -62,9 +53,6 @@ loop-again c =
       rw e (joined (tallyLines (shownFrom (a .marks .now) (a .counters .now) (a .from) (l .i))) _ (a .output .now) 0 (l .inv .3) (p .0)),
     )
 
-same-length : tie.Need-same-length Inv-loop μ-loop
-same-length c = search needs
-
 returns : tie.Need-returns Inv-loop μ-loop
 returns c =
     let l = c .before .loop in
@@ -75,14 +63,5 @@ returns c =
 pub put-rows-spec : {M : Type 1} → statement M
 put-rows-spec =
     tie.close
-    (tie.spec
-    Inv-loop
-    μ-loop
-    loop-holds
-    add-put-marked
-    put-marked-requires
-    add-i
-    loop-less
-    loop-again
-    same-length
-    returns)
+    (tie.spec Inv-loop μ-loop loop-holds (λ c. search needs) put-marked-requires (λ c. search needs) (λ c. search needs) loop-again
+    (λ c. search needs) returns)

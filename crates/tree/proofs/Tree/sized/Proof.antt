@@ -12,4 +12,6 @@ returns-2 : tie.Need-returns-2
 returns-2 c = rw (le-leb leastWords (c .before .args .words) (omega arith))
 
 pub sized-spec : {M : Type 1} → statement M
-sized-spec = tie.close (tie.spec returns returns-2)
+sized-spec =
+    tie.close
+    (tie.spec returns returns-2)

@@ -87,14 +87,8 @@ called c = call-fits (met (word c) _ (c .extent .ensures)) (inl (first c))
 loop-holds : tie.Need-loop-holds Inv-loop μ-loop
 loop-holds c = walking-whole _ _ _ _ _ _ (c .before .before .pre) 0
 
-shared-slice-read-w : tie.Need-shared-slice-read-w Inv-loop μ-loop
-shared-slice-read-w c = search needs
-
 meet-top-requires : tie.Need-meet-top-requires Inv-loop μ-loop
 meet-top-requires c κs = (c .before .before .before .loop .inv .ready, c .before .before .loop-test .taken)
-
-enum-told : tie.Need-enum-told Inv-loop μ-loop
-enum-told c = search needs
 
 returns : tie.Need-returns Inv-loop μ-loop
 returns c =
@@ -102,9 +96,6 @@ returns c =
     let g : w .meet-top .result .go ≡ Stuck =
     ⊎-elim (λ e. let h = c .match .keys2 in absurd (miss (0 ∷ 1 ∷ 2 ∷ 4 ∷ 5 ∷ []) 3 tt (rw e at h))) (λ e. e) (w .meet-top .ensures .1) in
     walked-broken _ (node-stuck (met w _ refl) g) (same-size (row w))
-
-extent-requires : tie.Need-extent-requires Inv-loop μ-loop
-extent-requires c κs = search needs
 
 sub-walk : tie.Need-sub-walk Inv-loop μ-loop
 sub-walk c = called c .0
@@ -118,9 +109,6 @@ part-walk-end c = called c .1
 walk-requires : tie.Need-walk-requires Inv-loop μ-loop
 walk-requires c κs = let d = c .before .before in call-ready (met (word d) _ (d .extent .ensures)) (inl (first d))
 
-enum-told-2 : tie.Need-enum-told-2 Inv-loop μ-loop
-enum-told-2 c = search needs
-
 returns-2 : tie.Need-returns-2 Inv-loop μ-loop
 returns-2 c =
     let w = c .before .walk .ensures in
@@ -128,17 +116,11 @@ returns-2 c =
     let nm : (c .before .walk .result .end ≡ Missed → ⊥) = λ m. let h = c .match2 .keys2 in miss (1 ∷ 2 ∷ 3 ∷ []) 0 tt (rw m at h) in
     walked-same nm (node-ends (met (word d) _ (d .extent .ensures)) (inl (first d)) w nm) w (same-size (row (word d)))
 
-mul-rest : tie.Need-mul-rest Inv-loop μ-loop
-mul-rest c = search needs
-
 sub-rest : tie.Need-sub-rest Inv-loop μ-loop
 sub-rest c = called (call (back c)) .1
 
 part-rest-start : tie.Need-part-rest-start Inv-loop μ-loop
 part-rest-start c = called (call (back c)) .1
-
-part-rest-end : tie.Need-part-rest-end Inv-loop μ-loop
-part-rest-end c = search needs
 
 loop-less : tie.Need-loop-less Inv-loop μ-loop
 loop-less c = let d = call (back (c .before)) in let f = called d in tail-less _ (row (word d) .loop .rest .now) (f .0) (f .1)
@@ -158,25 +140,6 @@ returns-3 c = walked-missed (walking-end (c .before .loop .inv) (c .loop-test .l
 pub walk-top-spec : {M : Type 1} → statement M
 walk-top-spec =
     tie.close
-    (tie.spec
-    Inv-loop
-    μ-loop
-    loop-holds
-    shared-slice-read-w
-    meet-top-requires
-    enum-told
-    returns
-    extent-requires
-    sub-walk
-    part-walk-start
-    part-walk-end
-    walk-requires
-    enum-told-2
-    returns-2
-    mul-rest
-    sub-rest
-    part-rest-start
-    part-rest-end
-    loop-less
-    loop-again
-    returns-3)
+    (tie.spec Inv-loop μ-loop loop-holds (λ c. search needs) meet-top-requires (λ c. search needs) returns (λ c κs. search needs) sub-walk
+    part-walk-start part-walk-end walk-requires (λ c. search needs) returns-2 (λ c. search needs) sub-rest part-rest-start (λ c. search needs)
+    loop-less loop-again returns-3)

@@ -124,9 +124,6 @@ returns c =
     let a = c .before .before .before .before .args in
     walked-missed (top-none (a .words .now) (a .query .now) (upTo (a .budget)) (stateOf noPosition (a .cells .now)) 0 (c .if1 .taken)) refl
 
-passes-requires : tie.Need-passes-requires Inv-loop μ-loop
-passes-requires c κs = search needs
-
 reserve-requires : tie.Need-reserve-requires Inv-loop μ-loop
 reserve-requires c κs =
     let s = c .before .before .before .before .before .before in
@@ -140,9 +137,6 @@ returns-2 c =
     let l = c .before .before in
     let e = l .before in
     top e (between-spent (entry e) (l .loop .inv) refl (c .before .loop-test .taken) (unused e (c .before .loop-test .taken)) (omega (arith, c .if2 .taken)))
-
-add-n : tie.Need-add-n Inv-loop μ-loop
-add-n c = search needs
 
 begin-requires : tie.Need-begin-requires Inv-loop μ-loop
 begin-requires c κs =
@@ -158,21 +152,12 @@ walk-head-requires c κs =
     let r = begun-ready (begun p) in
     (s .pre .0, s .pre .1, r .0, r .1, some-words e)
 
-enum-told : tie.Need-enum-told Inv-loop μ-loop
-enum-told c = search needs
-
 returns-3 : tie.Need-returns-3 Inv-loop μ-loop
 returns-3 c =
     let b = c .before in
     let p = b .before .before in
     let nm : (b .walk-head .result .end ≡ Missed → ⊥) = λ m. let h = c .match .keys2 in miss (1 ∷ 2 ∷ 3 ∷ []) 0 tt (rw m at h) in
     top (passes p .before) (pass-ends (begun p) (begun-ready (begun p) .0 .size) nm refl (b .walk-head .ensures))
-
-add-j : tie.Need-add-j Inv-loop μ-loop
-add-j c = search needs
-
-loop-less : tie.Need-loop-less Inv-loop μ-loop
-loop-less c = search needs
 
 loop-again : tie.Need-loop-again Inv-loop μ-loop
 loop-again c =
@@ -194,21 +179,5 @@ returns-4 c =
 pub walk-heads-spec : {M : Type 1} → statement M
 walk-heads-spec =
     tie.close
-    (tie.spec
-    Inv-loop
-    μ-loop
-    returns
-    passes-requires
-    reserve-requires
-    loop-holds
-    returns-2
-    add-n
-    begin-requires
-    walk-head-requires
-    enum-told
-    returns-3
-    add-j
-    loop-less
-    loop-again
-    release-requires
-    returns-4)
+    (tie.spec Inv-loop μ-loop returns (λ c κs. search needs) reserve-requires loop-holds returns-2 (λ c. search needs) begin-requires
+    walk-head-requires (λ c. search needs) returns-3 (λ c. search needs) (λ c. search needs) loop-again release-requires returns-4)

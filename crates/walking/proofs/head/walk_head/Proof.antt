@@ -25,12 +25,6 @@ use Rattle.walking.proofs.below.walk.Reads as walk-reads
 abbrev rs : lts.Claims
 rs = (extent-reads.Asked, extent-reads.Learnt, walk-reads.Asked, walk-reads.Learnt)
 
-mul-head : tie.Need-mul-head
-mul-head c = search needs
-
-shared-slice-read-head : tie.Need-shared-slice-read-head
-shared-slice-read-head c = search needs
-
 cast-head : tie.Need-cast-head
 cast-head c = let s = c .before .before .before .before in omega (arith, c .shared-slice-known4 .given (s .args .here))
 
@@ -96,9 +90,6 @@ mul-extent c = let s = start c in omega (arith, found c refl .1, s .pre .0 .few)
 shared-slice-read-extent : tie.Need-shared-slice-read-extent
 shared-slice-read-extent c = omega (arith, found (c .before) refl .0, found (c .before) refl .1)
 
-extent-requires : tie.Need-extent-requires
-extent-requires c κs = search needs
-
 add-to : tie.Need-add-to
 add-to c = let e = c .before .before in omega (arith, found e (c .extent .ensures) .1, start e .pre .0 .few)
 
@@ -129,22 +120,5 @@ returns-2 c =
 pub walk-head-spec : {M : Type 1} → statement M
 walk-head-spec =
     tie.close
-    (tie.spec
-    mul-head
-    shared-slice-read-head
-    cast-head
-    mul-at
-    shared-slice-read-at
-    cast-at
-    returns
-    add-from
-    mul-extent
-    shared-slice-read-extent
-    extent-requires
-    add-to
-    mul-walk
-    sub-walk
-    part-walk-start
-    part-walk-end
-    walk-requires
-    returns-2)
+    (tie.spec (λ c. search needs) (λ c. search needs) cast-head mul-at shared-slice-read-at cast-at returns add-from mul-extent
+    shared-slice-read-extent (λ c κs. search needs) add-to mul-walk sub-walk part-walk-start part-walk-end walk-requires returns-2)
