@@ -57,8 +57,8 @@ fn show(cells: &[u8; Path::CELLS], witness: &mut [u16])
     }
 }
 
-// What a reading that finds no whole clause is refused with.
-pub(crate) fn refusal(shape: Shape) -> Refusal
+// What a reading that finds no whole clause is refused with: for query and (crate index) query_indexed.
+pub fn refusal(shape: Shape) -> Refusal
     ensures { λ r. ⌜ r ≡ refusalOf shape ⌝ }
 {
     match shape {
@@ -67,8 +67,8 @@ pub(crate) fn refusal(shape: Shape) -> Refusal
     }
 }
 
-// The answer that a finding comes to, without a witness.
-pub(crate) fn told(finding: Finding, budget: u64) -> QueryAnswer
+// The answer that a finding comes to, without a witness: for the queries here and (crate index) query_indexed.
+pub fn told(finding: Finding, budget: u64) -> QueryAnswer
     ensures { λ r. ⌜ ((W cells : List ℕ) → r ≡ toldOut budget W (outBy (finding .end) (finding .count) cells) .answer) ⌝ }
 {
     let end = finding.end;

@@ -26,6 +26,7 @@ ghost use Rattle.walking.specs.inner.Findings.{walkBelow, walkTop, Walke
 // Walks the words below a node: from each candidate of a First, which hands on no head, or once, siblings in order. After a miss the cells are as before.
 // A First passes over the literals that are used on its path, before it looks at the budget.
 // The last word of a row needs no call: what stands below it is the row from there on, and the trail brings its cell back.
+// Beside walk_top only the index's walk (crate index) begins it.
 pub fn walk(
     words: &[u64],
     query: &[u16],
