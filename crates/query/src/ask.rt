@@ -1,4 +1,5 @@
 // The query: what is asked of a tree.
+use crate::top::walk_top;
 use cells::Path;
 use cells::wide;
 use clause::Clause;
@@ -9,7 +10,6 @@ use walk::QueryAnswer;
 use walk::Witness;
 use walking::End;
 use walking::Finding;
-use walking::walk_top;
 ghost use mathlib.Core.Path.{_≡_};
 ghost use mathlib.Core.Bool.{cond, true};
 ghost use mathlib.Core.List.{List};

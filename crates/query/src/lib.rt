@@ -1,5 +1,6 @@
 // The query: what is asked of a tree, and the answer (docs/REFERENCE.md, "Calls").
 mod ask;
+mod top;
 
 pub use ask::decide;
 pub use ask::query;

@@ -2,7 +2,6 @@
 mod below;
 
 pub use below::walk;
-pub use below::walk_top;
 
 // How a walk ends: without a find, at the clause with this number, at a broken word, at the budget.
 pub enum End {

@@ -7,6 +7,7 @@ use lib.ListN.{length, drop, set, replicate, length-set}
 use lib.Seq.{drop-length}
 use borrow.Author.Fill.{fill-more}
 use borrow.Author.Needs.{needs}
+use Rattle.index.specs.inner.Heads.{entryCount}
 use Rattle.index.proofs.entries.clear.Statement.{statement}
 use Rattle.index.proofs.entries.clear.Tie as tie
 
@@ -28,10 +29,15 @@ loop-again c =
 same-length : tie.Need-same-length Inv-loop μ-loop
 same-length c = c .before .loop .inv .0
 
+-- after the last one
+filled : (n i : ℕ) (l₀ l : List ℕ) → length l₀ ≡ n → i ≡ length l₀ → l ≡ replicate i 0 ++ drop i l₀ → l ≡ replicate n 0
+filled n i l₀ l long e f = f ∙ rw (e, drop-length, append-nil) (ap (λ (m : ℕ). replicate m 0) long)
+
 returns : tie.Need-returns Inv-loop μ-loop
 returns c =
-    let e : c .before .loop .i ≡ length (c .before .before .args .heads .now) = omega arith in
-    c .before .loop .inv .3 ∙ rw (e, drop-length, append-nil) (ap (λ (n : ℕ). replicate n 0) (c .before .before .pre))
+    let l = c .before .loop in
+    let s = c .before .before in
+    filled entryCount (l .i) (s .args .heads .now) (l .heads) (s .pre) (omega arith) (l .inv .3)
 
 pub clear-spec : {M : Type 1} → statement M
 clear-spec =

@@ -8,19 +8,19 @@ use lib.ListN.{length, getD}
 use borrow.Author.Needs.{needs}
 use Rattle.tree.specs.Laid.{extentOf}
 use Rattle.cells.specs.inner.Cells.{noPosition, stateOf, restored}
 use Rattle.walking.specs.declared.End.the-variants.{Missed}
 use Rattle.stepping.specs.declared.Go.the-variants.{Tries, Stuck}
 use Rattle.walking.proofs.Passes.{walked-missed, walked-broken, walked-same}
 use Rattle.cells.proofs.Places.{restored-none, unwound-none}
 use Rattle.walking.proofs.Walking.{Walking, Meeting, tail-less, walking-whole, walking-end, node-stuck, node-ends, call-fits, call-ready, node-next}
 use Rattle.stepping.proofs.Undoing.{undoable-zero}
-use Rattle.walking.proofs.below.walk_top.Statement.{statement}
-use Rattle.walking.proofs.below.walk_top.Tie as tie
-use Rattle.walking.proofs.below.walk_top.Reads as reads
-use Rattle.walking.proofs.below.walk_top.Lts as lts
+use Rattle.query.proofs.top.walk_top.Statement.{statement}
+use Rattle.query.proofs.top.walk_top.Tie as tie
+use Rattle.query.proofs.top.walk_top.Reads as reads
+use Rattle.query.proofs.top.walk_top.Lts as lts
 use Rattle.tree.proofs.extent.Reads as extent-reads
 use Rattle.stepping.proofs.meet_top.Reads as meet-top-reads
-use Rattle.walking.proofs.below.walk.Reads as walk-reads
+use Rattle.walking.proofs.walk.Reads as walk-reads
 
 -- what the callees ask and tell
 abbrev rs : lts.Claims
