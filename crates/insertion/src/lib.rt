@@ -24,7 +24,7 @@ ghost use Rattle.merging.specs.inner.Inserting.{LeadsTo, Mergeable};
 ghost use Rattle.insertion.specs.inner.Taken.{isSome};
 
 // Inserts a sequence whose place is found, under a number that no Success has.
-// The caller, insert_new or (crate index) insert_below, holds the slice well laid, and knows the numbers in it.
+// The caller (insert_new; in the crate index insert_below) holds the slice well laid, and knows the numbers in it.
 pub fn insert_placed(tree: &mut [u64], keys: &[u64], number: u32, place: Place) -> CallAnswer
     requires { ⌜ Mergeable (now tree) (now keys) × (locate (region (now tree)) number 0 0 0 ≡ none) × LeadsTo (region (now tree)) (now keys) place ⌝ }
     ensures { λ r. ⌜ record { answer = r; slice = now (tree .exit) }

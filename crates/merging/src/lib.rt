@@ -49,7 +49,7 @@ fn first_success(words: &[u64], at: usize, end: usize) -> Holder
 }
 
 // Follows the keys from `known` on down the tree: in each row it hops over the siblings with smaller keys, and goes below the one with the key.
-// The caller has come to the row from `from` up to `to`: the topmost row, or (crate index) the one below the Check of a head.
+// The caller (place_of; in the crate index place_below) has come to the row from `from` up to `to`.
 pub fn follow(words: &[u64], keys: &[u64], from: usize, to: usize, known: usize) -> Place
     requires { ⌜ Descending (now words) (now keys) from to known ⌝ }
     ensures { λ r. ⌜ LeadsTo (now (words .entry)) (now (keys .entry)) r ⌝ }

@@ -57,7 +57,7 @@ fn show(cells: &[u8; Path::CELLS], witness: &mut [u16])
     }
 }
 
-// What a reading that finds no whole clause is refused with: for query and (crate index) query_indexed.
+// What a reading that finds no whole clause is refused with. The caller is query, or in the crate index query_indexed.
 pub fn refusal(shape: Shape) -> Refusal
     ensures { λ r. ⌜ r ≡ refusalOf shape ⌝ }
 {
@@ -67,7 +67,7 @@ pub fn refusal(shape: Shape) -> Refusal
     }
 }
 
-// The answer that a finding comes to, without a witness: for the queries here and (crate index) query_indexed.
+// The answer that a finding comes to, without a witness. The caller is a query of this crate, or in the crate index query_indexed.
 pub fn told(finding: Finding, budget: u64) -> QueryAnswer
     ensures { λ r. ⌜ ((W cells : List ℕ) → r ≡ toldOut budget W (outBy (finding .end) (finding .count) cells) .answer) ⌝ }
 {

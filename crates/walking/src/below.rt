@@ -25,7 +25,7 @@ ghost use Rattle.walking.specs.inner.Findings.{walkBelow, Walked};
 // Walks the words below a node: from each candidate of a First, which hands on no head, or once, siblings in order. After a miss the cells are as before.
 // A First passes over the literals that are used on its path, before it looks at the budget.
 // The last word of a row needs no call: what stands below it is the row from there on, and the trail brings its cell back.
-// It is begun by the walk of the topmost row (crate query, walk_top) and by that of the row of heads (crate index, walk_head).
+// The caller (walk_top in the crate query, walk_head in the crate index) holds the cells as that node leaves them.
 pub fn walk(
     words: &[u64],
     query: &[u16],

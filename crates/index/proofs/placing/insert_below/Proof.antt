@@ -1,4 +1,4 @@
--- `insertion::insert_below` meets its contract.
+-- `insert_below` meets its contract.
 use native.Mathlib.Omega.{arith}
 use Rattle.merging.proofs.Putting.{slice-parts}
 use Rattle.insertion.proofs.InsertCases.{in-region}

@@ -1,4 +1,4 @@
--- `merging::place_below` meets its contract.
+-- `place_below` meets its contract.
 use native.Mathlib.Omega.{arith}
 use borrow.Author.Needs.{needs}
 use Rattle.index.proofs.Below.{leads-below}
