@@ -11,11 +11,11 @@ use Rattle.tree.specs.Forest.{Has}
 use Rattle.tree.specs.Laid.{sized, wellLaid, decode, region}
 use Rattle.tree.specs.Entries.{Pair, entry}
 use Rattle.tree.proofs.Pairs.{kept-pair, pair-kept}
-use Rattle.heads.specs.inner.Heads.{entryCount, placeOf, topRow, headAt, Headed, Indexed, Renewable}
-use Rattle.heads.proofs.Paths.{begins, more-heads}
-use Rattle.walk.proofs.Heads.{kept-headed}
-use Rattle.merging.specs.inner.Inserting.{Leading}
-use Rattle.merging.proofs.Below.{entry-leads}
+use Rattle.index.specs.inner.Heads.{entryCount, placeOf, topRow, headAt, Headed, Indexed, Renewable}
+use Rattle.index.proofs.Paths.{begins, more-heads}
+use Rattle.index.proofs.Rows.{kept-headed}
+use Rattle.index.specs.inner.Following.{Leading}
+use Rattle.index.proofs.Below.{entry-leads}
 use Rattle.book.specs.Book.{bookFrom, treeOf}
 use Rattle.record.specs.Answer.{treeWords, Record, answerTo, callsFor}
 use Rattle.record.specs.Ruled.{withoutAll}

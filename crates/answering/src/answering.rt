@@ -3,8 +3,8 @@ use crate::Budget;
 use crate::indexing::reindex;
 use crate::striking::keep;
 use crate::striking::strike_back;
+use index::query_indexed;
 use machine::Sequence;
-use query::query_indexed;
 use record::Came;
 use record::Outcome;
 use record::Setting;
@@ -12,7 +12,7 @@ use walk::QueryAnswer;
 ghost use mathlib.Core.Path.{_≡_};
 ghost use lib.ListN.{length};
 ghost use Rattle.clause.specs.Clause.{Accepted};
-ghost use Rattle.heads.specs.inner.Heads.{Indexed};
+ghost use Rattle.index.specs.inner.Heads.{Indexed};
 ghost use Rattle.record.specs.Answer.{listWords, goesIn, answerTo};
 ghost use Rattle.answering.specs.inner.Steady.{Steady, CameOut};
 

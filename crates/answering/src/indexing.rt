@@ -1,11 +1,11 @@
 // The index of heads, from record to record.
-use heads::clear;
-use heads::renew;
+use index::clear;
+use index::renew;
 use record::Outcome;
 ghost use mathlib.Core.Path.{_≡_};
 ghost use mathlib.Core.Bool.{true};
 ghost use Rattle.tree.specs.Laid.{sized, wellLaid};
-ghost use Rattle.heads.specs.inner.Heads.{Indexed};
+ghost use Rattle.index.specs.inner.Heads.{Indexed};
 ghost use Rattle.answering.specs.inner.Steady.{Outdated};
 
 // Makes the index anew where a record has gone in; where clauses went out for it, a head may have gone with them.

@@ -2,7 +2,7 @@
 use crate::Budget;
 use backward::BackAnswer;
 use compiling::compile;
-use insertion::insert_below;
+use index::insert_below;
 use listing::list_known;
 use machine::Sequence;
 use record::Came;
@@ -21,7 +21,7 @@ ghost use Rattle.clause.specs.Lists.{All};
 ghost use Rattle.machine.specs.Compiled.{maxKeys};
 ghost use Rattle.tree.specs.Forest.{find};
 ghost use Rattle.tree.specs.Laid.{decode};
-ghost use Rattle.heads.specs.inner.Heads.{Indexed};
+ghost use Rattle.index.specs.inner.Heads.{Indexed};
 ghost use Rattle.record.specs.Answer.{listWords, entered, unlessTaken, replaced};
 ghost use Rattle.record.specs.Marks.{numberCount, marked};
 ghost use Rattle.answering.specs.inner.Steady.{Steady, CameOut};

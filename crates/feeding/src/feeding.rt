@@ -23,7 +23,7 @@ ghost use mathlib.Core.Path.{_≡_};
 ghost use Prim.Native.Nat.{_≤_};
 ghost use lib.ListN.{length};
 ghost use Rattle.clause.specs.Clause.{maxWords};
-ghost use Rattle.heads.specs.inner.Heads.{Indexed};
+ghost use Rattle.index.specs.inner.Heads.{Indexed};
 ghost use Rattle.record.specs.Answer.{listWords};
 ghost use Rattle.record.specs.Counters.{mostCounted};
 ghost use Rattle.record.specs.Output.{counted};

@@ -6,7 +6,6 @@ use machine::Sequence;
 use merging::Holder;
 use merging::Place;
 use merging::insert_at;
-use merging::place_below;
 use merging::place_of;
 use reading::read;
 use tree::CallAnswer;
@@ -16,18 +15,17 @@ use tree::key;
 ghost use mathlib.Core.Path.{_≡_};
 ghost use mathlib.Core.Bool.{true};
 ghost use mathlib.Core.Option.{none};
-ghost use Prim.Native.Nat.{_≤_};
 ghost use Rattle.tree.specs.Laid.{sized, wellLaid, region};
 ghost use Rattle.tree.specs.inner.Cut.{locate};
 ghost use Rattle.clause.specs.Clause.{Accepted};
 ghost use Rattle.tree.specs.Calls.{insertion};
 ghost use Rattle.tree.specs.inner.ByWords.{insertByWords};
-ghost use Rattle.merging.specs.inner.Inserting.{LeadsTo, Leading, Mergeable};
+ghost use Rattle.merging.specs.inner.Inserting.{LeadsTo, Mergeable};
 ghost use Rattle.insertion.specs.inner.Taken.{isSome};
 
 // Inserts a sequence whose place is found, under a number that no Success has.
-// The caller holds the slice well laid, and knows the numbers in it.
-fn insert_placed(tree: &mut [u64], keys: &[u64], number: u32, place: Place) -> CallAnswer
+// The caller (insert_new; in the crate index insert_below) holds the slice well laid, and knows the numbers in it.
+pub fn insert_placed(tree: &mut [u64], keys: &[u64], number: u32, place: Place) -> CallAnswer
     requires { ⌜ Mergeable (now tree) (now keys) × (locate (region (now tree)) number 0 0 0 ≡ none) × LeadsTo (region (now tree)) (now keys) place ⌝ }
     ensures { λ r. ⌜ record { answer = r; slice = now (tree .exit) }
         ≡ insertByWords (now (tree .entry)) (record { number = number; keys = now (keys .entry) }) ⌝ }
@@ -52,20 +50,6 @@ pub fn insert_new(tree: &mut [u64], keys: &[u64], number: u32) -> CallAnswer
 {
     let end = Tree::used(tree[0]) + 1;
     let place = place_of(&tree[1..end], keys);
-    insert_placed(tree, keys, number, place)
-}
-
-// The same, by the entry of the index for the sequence's first head: 0 where it leads nowhere.
-pub fn insert_below(tree: &mut [u64], keys: &[u64], number: u32, at: usize) -> CallAnswer
-    requires { ⌜ Mergeable (now tree) (now keys) × (locate (region (now tree)) number 0 0 0 ≡ none) × (1 ≤ at → Leading (region (now tree)) (now keys) at) ⌝ }
-    ensures { λ r. ⌜ record { answer = r; slice = now (tree .exit) }
-        ≡ insertByWords (now (tree .entry)) (record { number = number; keys = now (keys .entry) }) ⌝ }
-{
-    if at == 0 {
-        return insert_new(tree, keys, number);
-    }
-    let end = Tree::used(tree[0]) + 1;
-    let place = place_below(&tree[1..end], keys, at);
     insert_placed(tree, keys, number, place)
 }
 

@@ -5,4 +5,3 @@ pub mod UsedWords
 pub mod Fitted
 pub mod Putting
 pub mod KeysOf
-pub mod Below

@@ -13,7 +13,7 @@ ghost use lib.ListN.{length, take, drop};
 ghost use Rattle.tree.specs.Laid.{mostWords, region};
 ghost use Rattle.tree.specs.inner.Merge.{descend, fromTop, newWords};
 ghost use Rattle.tree.specs.inner.ByWords.{insertAt};
-ghost use Rattle.merging.specs.inner.Inserting.{holderOf, Nested, LeadsTo, Descending, Leading, Mergeable, Writable};
+ghost use Rattle.merging.specs.inner.Inserting.{holderOf, Nested, LeadsTo, Descending, Mergeable, Writable};
 
 mod moves;
 
@@ -49,8 +49,8 @@ fn first_success(words: &[u64], at: usize, end: usize) -> Holder
 }
 
 // Follows the keys from `known` on down the tree: in each row it hops over the siblings with smaller keys, and goes below the one with the key.
-// The caller has come to the row from `from` up to `to`.
-fn follow(words: &[u64], keys: &[u64], from: usize, to: usize, known: usize) -> Place
+// The caller (place_of; in the crate index place_below) has come to the row from `from` up to `to`.
+pub fn follow(words: &[u64], keys: &[u64], from: usize, to: usize, known: usize) -> Place
     requires { ⌜ Descending (now words) (now keys) from to known ⌝ }
     ensures { λ r. ⌜ LeadsTo (now (words .entry)) (now (keys .entry)) r ⌝ }
 {
@@ -89,14 +89,6 @@ pub fn place_of(words: &[u64], keys: &[u64]) -> Place
     ensures { λ r. ⌜ LeadsTo (now (words .entry)) (now (keys .entry)) r ⌝ }
 {
     follow(words, keys, 0, words.len(), 0)
-}
-
-// The same from below the Check of the second key on, whose place the caller knows from the index.
-pub fn place_below(words: &[u64], keys: &[u64], at: usize) -> Place
-    requires { ⌜ Nested (now words) × Leading (now words) (now keys) at ⌝ }
-    ensures { λ r. ⌜ LeadsTo (now (words .entry)) (now (keys .entry)) r ⌝ }
-{
-    follow(words, keys, at + 1, at + extent(words[at]), 2)
 }
 
 // Raises the extents on the way of the keys by `new`.

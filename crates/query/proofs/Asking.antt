@@ -2,7 +2,7 @@
 use Prim.Native.Nat.{ℕ, _+_, _-_, _≤_, _<_}
 use mathlib.Core.Path.{_≡_, refl, sym, ap, _∙_}
 use mathlib.Core.Bool.{Bool, true, false}
-use mathlib.Core.List.{List}
+use mathlib.Core.List.{List, [], _∷_}
 use native.Mathlib.Omega.{arith}
 use lib.Dec.{T, leb→le}
 use lib.ListN.{length, getD, take, drop, set, replicate, length-replicate}
@@ -12,17 +12,13 @@ use Rattle.clause.proofs.Tests.{and-l, and-r}
 use Rattle.clause.specs.declared.Fault.{Fault}
 use Rattle.clause.specs.declared.Shape.{Shape}
 use Rattle.clause.specs.declared.Shape.the-variants.{Faulty, Whole}
-use Rattle.clause.proofs.Apart.{apart}
-use Rattle.reading.specs.inner.Whole.{isWhole}
 use Rattle.machine.specs.Machine.{State, initial, unfilled}
 use Rattle.machine.proofs.Safe.{initial-safe}
 use Rattle.tree.specs.declared.Refusal.{Refusal}
 use Rattle.tree.specs.declared.Refusal.the-variants.{BadSlice, Broken, ShortWitness}
-use Rattle.tree.specs.Laid.{usedOf, sized, wellLaid}
+use Rattle.tree.specs.Laid.{usedOf, region, sized, wellLaid}
 use Rattle.tree.proofs.Grow.{sized-low, laid-room}
-use Rattle.heads.proofs.Noting.{used-part}
 use Rattle.walk.specs.declared.QueryAnswer.{QueryAnswer}
-use Rattle.walk.specs.declared.QueryAnswer.the-variants.{Unanswered}
 use Rattle.walk.specs.Walk.{Answer, covered, notCovered, spent, broken, upTo}
 use Rattle.walk.specs.Words.{walkWords}
 use Rattle.walk.specs.Query.{witnessWords, machine, Asked, unanswered, answerBy, walkSlice, queryAs, query}
@@ -48,6 +44,12 @@ told-seen b W (covered n s c) = refl
 told-seen b W (notCovered c) = refl
 told-seen b W spent = refl
 told-seen b W broken = refl
+
+-- the part that the used words make up
+pub used-part : (T : List ℕ) → 1 ≤ length T → {e : ℕ} → e ≡ usedOf (getD T 0 0) + 1 → take (e - 1) (drop 1 T) ≡ region T
+unfolding region
+used-part [] h e = absurd (omega arith)
+used-part (w ∷ ws) h {e} f = let n : e - 1 ≡ usedOf w = omega arith in rw n
 
 pub searched : (T d : List ℕ) (b : ℕ) (W : List ℕ) → 1 ≤ length T → {e : ℕ} → e ≡ usedOf (getD T 0 0) + 1
     → toldOut b W (seen (walkWords (machine d) (upTo b) (take (e - 1) (drop 1 T)) (stateOf noPosition fresh) 0)) ≡ answerBy b W (walkSlice T d b)
@@ -93,22 +95,3 @@ decided T d b s l A e f g =
     g ∙ ap (λ (x : Out). toldOut b W x .answer) f
     ∙ ap (λ (x : Asked). x .answer)
     (searched T d b W (omega arith) e ∙ query-walk T d b W (sym s) refl (A .1) long refl (omega (arith, laid-room T l)))
-
--- a clause is whole and so accepted, or it has a fault
-pub whole-accepted : (d : List ℕ) {w : Bool} → w ≡ isWhole (shape d) → w ≡ true → Accepted d
-whole-accepted d e t = go (shape d) (sym e ∙ t)
-  where
-    go : (s : Shape) → isWhole s ≡ true → (n : ℕ) × (s ≡ Whole n)
-    go (Faulty f) e = apart cc
-    go (Whole n) e = (n, refl)
-
-faulty-fault : (s : Shape) → isWhole s ≡ false → (f : Fault) × (s ≡ Faulty f)
-faulty-fault (Faulty f) e = (f, refl)
-faulty-fault (Whole n) e = apart cc
-
--- which it is refused with, whatever the witness
-pub undecided : (T d : List ℕ) (b : ℕ) → sized T ≡ true → {w : Bool} → w ≡ isWhole (shape d) → w ≡ false → {s : Shape} {r : Refusal} → s ≡ shape d → r ≡ refusalOf s
-    → Unanswered r ≡ query T d b (replicate witnessWords 0) .answer
-undecided T d b z e n h g =
-    let (f, i) = faulty-fault (shape d) (sym e ∙ n) in
-    ap (λ (x : Asked). x .answer) (query-fault T d b (replicate witnessWords 0) (sym z) refl (h ∙ i) h g)

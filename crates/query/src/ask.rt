@@ -1,4 +1,5 @@
 // The query: what is asked of a tree.
+use crate::top::walk_top;
 use cells::Path;
 use cells::wide;
 use clause::Clause;
@@ -9,7 +10,6 @@ use walk::QueryAnswer;
 use walk::Witness;
 use walking::End;
 use walking::Finding;
-use walking::walk_top;
 ghost use mathlib.Core.Path.{_≡_};
 ghost use mathlib.Core.Bool.{cond, true};
 ghost use mathlib.Core.List.{List};
@@ -57,8 +57,8 @@ fn show(cells: &[u8; Path::CELLS], witness: &mut [u16])
     }
 }
 
-// What a reading that finds no whole clause is refused with.
-pub(crate) fn refusal(shape: Shape) -> Refusal
+// What a reading that finds no whole clause is refused with. The caller is query, or in the crate index query_indexed.
+pub fn refusal(shape: Shape) -> Refusal
     ensures { λ r. ⌜ r ≡ refusalOf shape ⌝ }
 {
     match shape {
@@ -67,8 +67,8 @@ pub(crate) fn refusal(shape: Shape) -> Refusal
     }
 }
 
-// The answer that a finding comes to, without a witness.
-pub(crate) fn told(finding: Finding, budget: u64) -> QueryAnswer
+// The answer that a finding comes to, without a witness. The caller is a query of this crate, or in the crate index query_indexed.
+pub fn told(finding: Finding, budget: u64) -> QueryAnswer
     ensures { λ r. ⌜ ((W cells : List ℕ) → r ≡ toldOut budget W (outBy (finding .end) (finding .count) cells) .answer) ⌝ }
 {
     let end = finding.end;

@@ -1,7 +1,8 @@
 // The query: what is asked of a tree, and the answer (docs/REFERENCE.md, "Calls").
 mod ask;
-mod indexed;
+mod top;
 
 pub use ask::decide;
 pub use ask::query;
-pub use indexed::query_indexed;
+pub use ask::refusal;
+pub use ask::told;

@@ -18,7 +18,7 @@ use Rattle.feeding.specs.inner.Blocks.{Within, longestText, Feedable, Stays}
 use Rattle.intake.specs.declared.Session.{Session}
 use Rattle.intake.proofs.Bytes.{feed-append}
 use Rattle.feeding.proofs.Blocks.{within-fewer}
-use Rattle.heads.specs.inner.Heads.{entryCount, Indexed}
+use Rattle.index.specs.inner.Heads.{entryCount, Indexed}
 use Rattle.answering.proofs.Renewing.{indexed-fresh}
 use Rattle.answering.proofs.Steady.{steady-few, fresh-kept, steady-fresh}
 use Rattle.streaming.specs.Fed.{outputBytes, blockBytes, Buffers, FedSoFar}

@@ -1,7 +1,7 @@
 // The blocks of the input: each is fed, and its lines written.
 use crate::Limit;
 use feeding::feed;
-use heads::Heads;
+use index::Heads;
 use intake::Session;
 use intake::begin;
 use libc::STDIN_FILENO;
@@ -11,7 +11,7 @@ ghost use mathlib.Core.Path.{_≡_};
 ghost use Prim.Native.Nat.{_≤_, _<_};
 ghost use lib.ListN.{length, take};
 ghost use Rattle.intake.specs.Feed.{storeOf, firstStore};
-ghost use Rattle.heads.specs.inner.Heads.{Indexed};
+ghost use Rattle.index.specs.inner.Heads.{Indexed};
 ghost use Rattle.feeding.specs.inner.Blocks.{Feedable, Stays};
 ghost use Rattle.intake.specs.Feed.{feed as Feed·feed};
 ghost use Rattle.record.specs.Sheet.{Bytes};

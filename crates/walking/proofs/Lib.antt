@@ -2,4 +2,3 @@ pub mod Nodes
 pub mod Passes
 pub mod Walking
 pub mod Turns
-pub mod ByHead

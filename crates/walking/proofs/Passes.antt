@@ -19,8 +19,14 @@ use Rattle.cells.specs.declared.Above.the-variants.{First, Step}
 use Rattle.walking.specs.inner.Findings.{missed, seen, outBy, Walked}
 use Rattle.walking.specs.declared.Finding.{Finding}
 use Rattle.walking.specs.declared.End.{End}
-use Rattle.walk.proofs.Heads.{then-none}
 use Rattle.walking.specs.declared.End.the-variants.{Missed, Found, Broken, Spent}
+
+-- what comes last hands its answer on: the last word of a row, the last candidate
+pub then-none : {S : Type 0} (a : Answer S) (k : Part S) → ((c : ℕ) → k c ≡ notCovered c) → andThen a k ≡ a
+then-none (covered n s c) k h = refl
+then-none (notCovered c) k h = h c
+then-none spent k h = refl
+then-none broken k h = refl
 
 -- below a First m literals from j on, those in use passed over; below a step m passes
 unfoldable pub runs : List ℕ → (budget : ℕ) → Above → (State → Part State) → State → (m j : ℕ) → Part State

@@ -35,10 +35,9 @@ use Rattle.walking.specs.declared.Finding.{Finding}
 use Rattle.cells.proofs.Rows.{row-end}
 use Rattle.stepping.proofs.Undoing.{undoable-size, undoable-count, undoable-small, undoable-some, undoable-none, restored-undoable}
 use Rattle.walking.proofs.Nodes.{extends-within, goingOn, meets}
-use Rattle.walk.proofs.Heads.{then-none}
 use Rattle.cells.proofs.Places.{place-none, place-some, unwound-none, unwound-traced, few-words}
 use Rattle.stepping.proofs.Visits.{head-some, chosen-length}
-use Rattle.walking.proofs.Passes.{then-on, then-ends, missed-of}
+use Rattle.walking.proofs.Passes.{then-none, then-on, then-ends, missed-of}
 
 -- a step that goes below leads to a safe state
 below-step : (o : Effect State) {t : State} → below t ≡ stepped o → o ≡ next t

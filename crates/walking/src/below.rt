@@ -16,16 +16,16 @@ use cells::wanted;
 use clause::Clause;
 use stepping::Go;
 use stepping::meet;
-use stepping::meet_top;
 use stepping::operand;
 use tree::extent;
 ghost use mathlib.Core.Path.{_≡_};
 ghost use Rattle.cells.specs.inner.Cells.{noPosition, HasPlace, Walkable};
-ghost use Rattle.walking.specs.inner.Findings.{walkBelow, walkTop, Walked};
+ghost use Rattle.walking.specs.inner.Findings.{walkBelow, Walked};
 
 // Walks the words below a node: from each candidate of a First, which hands on no head, or once, siblings in order. After a miss the cells are as before.
 // A First passes over the literals that are used on its path, before it looks at the budget.
 // The last word of a row needs no call: what stands below it is the row from there on, and the trail brings its cell back.
+// The caller (walk_top in the crate query, walk_head in the crate index) holds the cells as that node leaves them.
 pub fn walk(
     words: &[u64],
     query: &[u16],
@@ -122,52 +122,5 @@ pub fn walk(
         }
         unwind(cells, trail);
         j += 1;
-    }
-}
-
-// Walks the topmost row, before the first candidate.
-pub fn walk_top(
-    words: &[u64],
-    query: &[u16],
-    tables: &[u8; Clause::TABLES],
-    cells: &mut [u8; Path::CELLS],
-    budget: u64,
-) -> Finding
-    requires { ⌜ Walkable (now query) (now tables) noPosition (now cells) ⌝ }
-    ensures { λ r. ⌜ Walked (walkTop (now (query .entry)) (now (words .entry)) budget (now (cells .entry)))
-        (now (cells .entry)) (now (cells .exit)) r ⌝ }
-{
-    let mut count: u64 = 0;
-    let mut rest = words;
-    while rest.len() > 0 {
-        let w = rest[0];
-        let v = meet_top(w, rest.len(), query, tables, cells);
-        let go = v.go;
-        let Go::Tries = go else {
-            return Finding {
-                end: End::Broken,
-                count: count,
-            };
-        };
-        let size = extent(w);
-        let finding = walk(
-            &rest[1..size],
-            query,
-            tables,
-            cells,
-            Path::BEFORE,
-            count,
-            budget,
-        );
-        let end = finding.end;
-        let End::Missed = end else {
-            return finding;
-        };
-        count = finding.count;
-        rest = &rest[size..];
-    }
-    Finding {
-        end: End::Missed,
-        count: count,
     }
 }

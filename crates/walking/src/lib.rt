@@ -1,10 +1,7 @@
 // The walk over the words of a tree (docs/REFERENCE.md, "Calls").
 mod below;
-mod by_head;
-mod head;
 
-pub use below::walk_top;
-pub use by_head::walk_heads;
+pub use below::walk;
 
 // How a walk ends: without a find, at the clause with this number, at a broken word, at the budget.
 pub enum End {

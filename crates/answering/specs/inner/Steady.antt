@@ -8,7 +8,7 @@ use Rattle.clause.specs.Lists.{All}
 use Rattle.tree.specs.Forest.{leaves}
 use Rattle.tree.specs.Laid.{decode}
 use Rattle.tree.specs.Entries.{Pair}
-use Rattle.heads.specs.inner.Heads.{entryCount, Headed, Indexed, Renewable}
+use Rattle.index.specs.inner.Heads.{entryCount, Headed, Indexed, Renewable}
 use Rattle.readback.specs.Saved.{IsTreeOf}
 use Rattle.record.specs.Answer.{treeWords, Answered}
 use Rattle.record.specs.Marks.{numberCount, taken, marked}

@@ -2,16 +2,14 @@
 use mathlib.Core.Path.{_≡_}
 use mathlib.Core.Bool.{true}
 use mathlib.Core.Option.{Option, none, some}
-use mathlib.Core.List.{List, _∷_}
+use mathlib.Core.List.{List}
 use Prim.Native.Nat.{ℕ, _-_, _≤_}
 use lib.Dec.{T}
 use lib.ListN.{length, drop}
-use Rattle.machine.specs.Instr.{First, instr, key}
 use Rattle.machine.specs.Compiled.{maxKeys}
 use Rattle.tree.specs.Forest.{Body}
-use Rattle.tree.specs.Laid.{sized, row, rows, wellLaid, parse}
+use Rattle.tree.specs.Laid.{sized, row, rows, wellLaid}
 use Rattle.tree.specs.inner.Merge.{behind, descend, fromTop}
-use Rattle.heads.specs.inner.Heads.{headAt, Headed, Encoded}
 use Rattle.merging.specs.declared.Holder.{Holder}
 use Rattle.merging.specs.declared.Holder.the-variants.{Nobody, Clause}
 use Rattle.merging.specs.declared.Place.{Place}
@@ -45,16 +43,6 @@ pub record Descending (words cs : List ℕ) (p t k : ℕ) : Type 0 where
   pub done : ℕ → List ℕ
   pub long : (r : ℕ) → length (done r) ≡ p
   pub goes : fromTop words cs ≡ behind p done (descend (drop p words) 0 (t - p) (drop k cs))
-
--- the keys begin with First and a Check, and the Check has its word at a place
-pub record Leading (words keys : List ℕ) (p : ℕ) : Type 0 where
-  pub encoded : Encoded words
-  pub tree : Headed (parse words)
-  pub head : ℕ
-  pub rest : List ℕ
-  pub begins : keys ≡ key First ∷ instr 7 head ∷ rest
-  pub place : headAt (parse words) head ≡ p
-  pub some : 1 ≤ p
 
 -- keys of a sequence, or the last of them
 pub record Writable (keys : List ℕ) : Type 0 where

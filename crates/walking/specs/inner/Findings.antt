@@ -17,10 +17,6 @@ use Rattle.walking.specs.declared.Finding.{Finding}
 abbrev pub walkBelow : (query words : List ℕ) (budget head : ℕ) (cells : List ℕ) → Part State
 walkBelow d ws b h l = entered d b (aboveOf h) (walkWords (machine d) (upTo b) ws) (stateOf h l)
 
--- the walk along a row, from a head and the cells
-abbrev pub walkRow : (query words : List ℕ) (budget head : ℕ) (cells : List ℕ) → Part State
-walkRow d ws b h l = walkWords (machine d) (upTo b) ws (stateOf h l)
-
 -- the walk of the topmost row, before the first candidate
 abbrev pub walkTop : (query words : List ℕ) (budget : ℕ) (cells : List ℕ) → Answer State
 walkTop d ws b l = walkWords (machine d) (upTo b) ws (stateOf noPosition l) 0

@@ -10,8 +10,8 @@ use Rattle.answering.proofs.indexing.reindex.Statement.{statement}
 use Rattle.answering.proofs.indexing.reindex.Tie as tie
 use Rattle.answering.proofs.indexing.reindex.Reads as reads
 use Rattle.answering.proofs.indexing.reindex.Lts as lts
-use Rattle.heads.proofs.clear.Reads as clear-reads
-use Rattle.heads.proofs.renew.Reads as renew-reads
+use Rattle.index.proofs.clear.Reads as clear-reads
+use Rattle.index.proofs.renew.Reads as renew-reads
 
 returns : tie.Need-returns
 returns c = let s = c .before .before .before in s .pre .2 .stays (λ u e. let k = c .match .keys2 in miss (1 ∷ 2 ∷ []) 0 tt (rw e at k))

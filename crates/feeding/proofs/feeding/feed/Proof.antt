@@ -5,7 +5,7 @@ use native.Mathlib.Omega.{arith}
 use lib.ListN.{length, length-take, length-drop, length-replicate}
 use Rattle.record.specs.Answer.{listWords}
 use Rattle.intake.specs.Feed.{storeOf}
-use Rattle.heads.specs.inner.Heads.{Indexed}
+use Rattle.index.specs.inner.Heads.{Indexed}
 use Rattle.feeding.proofs.Blocks.{within-fewer, Feeding, feeding-none, feeding-room, feeding-more, feeding-done}
 use Rattle.intake.proofs.Records.{whole-input}
 use borrow.Author.Needs.{needs}

@@ -4,7 +4,7 @@ use native.Mathlib.Omega.{arith}
 use lib.ListN.{length, length-take}
 use lib.Seq.{length-take-le}
 use Rattle.intake.specs.Feed.{storeOf}
-use Rattle.heads.specs.inner.Heads.{Indexed}
+use Rattle.index.specs.inner.Heads.{Indexed}
 use Rattle.streaming.proofs.FedBlocks.{Running, indexed-first, running-none, block-ready, running-more}
 use Rattle.streaming.proofs.blocks.feed_all.Statement.{statement}
 use Rattle.streaming.proofs.blocks.feed_all.Tie as tie
