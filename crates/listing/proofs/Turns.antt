@@ -26,7 +26,8 @@ use Rattle.walk.specs.declared.QueryAnswer.{QueryAnswer}
 use Rattle.walk.specs.declared.QueryAnswer.the-variants.{Unanswered, NotCovered, Covered}
 use Rattle.backward.specs.Listing.{lone, tried, Listing, listed, overfull, spent, withNumber, found, goesOn, listFrom}
 use Rattle.backward.proofs.Lone.{Tries, subsuming, other, beyond, lone-mirrors, lone-leaves, lone-size, lone-insertion, lone-query, lone-tries}
-use Rattle.listing.specs.inner.Shelf.{numberOf, slotOf, clauseIn, pairAt, shelfOf, Slots, NamesSlot, AcceptedPair, CameTo}
+use Rattle.shelving.specs.inner.Shelf.{numberOf, slotOf, clauseIn, pairAt, shelfOf, Slots, NamesSlot, AcceptedPair}
+use Rattle.listing.specs.inner.Queries.{CameTo}
 use Rattle.listing.specs.declared.Tried.the-variants.{Found, Overfull, Spent}
 
 -- ---- numbers before those of a listing
@@ -76,6 +77,14 @@ not-covered-few : {c d : List ℕ} {b : ℕ} {x : Answer State} → Tries c d b 
 not-covered-few (subsuming u p h) e = apart cc
 not-covered-few (other {k = j} u p h) {k = k} e = let q : j ≡ k = cc in rw q at h
 not-covered-few (beyond h) e = apart cc
+
+-- ---- the words in a slot
+
+pub slot-row : {ls R : List ℕ} → Slots ls R → {i : ℕ} → i < maxKept → i * maxWords + getD ls i 0 ≤ length R
+slot-row S {i} h = omega (arith, S .short i, S .rows-many)
+
+pub slot-words : (ls R : List ℕ) (i : ℕ) → take (i * maxWords + getD ls i 0 - i * maxWords) (drop (i * maxWords) R) ≡ clauseIn ls R i
+slot-words ls R i = let e : i * maxWords + getD ls i 0 - i * maxWords ≡ getD ls i 0 = omega arith in rw e
 
 -- ---- one card after another
 
@@ -141,12 +150,6 @@ module _ {c : List ℕ} {b : ℕ} {cards ls R T : List ℕ} {room len : ℕ} {ns
     abbrev slot : ℕ
     slot = slotOf card
 
-    pub trying-slot : slot < maxKept
-    trying-slot = all-get cards (g .asking .names) i 0 h
-
-    pub trying-row : slot * maxWords + getD ls slot 0 ≤ length R
-    trying-row = omega (arith, trying-slot, g .asking .slots .short slot, g .asking .slots .rows-many)
-
     -- its clause is accepted
     clause-accepted : Accepted (clauseIn ls R slot)
     clause-accepted = all-get cards (unmapped (pairAt ls R) cards (g .asking .pairs)) i 0 h
@@ -159,29 +162,25 @@ module _ {c : List ℕ} {b : ℕ} {cards ls R T : List ℕ} {room len : ℕ} {ns
     unfolding outcome
     outcome-tries = lone-tries c (g .asking .accepts) (g .asking .words) (clauseIn ls R slot) clause-accepted (b - k)
 
-    -- the words that are lent to the query
-    abbrev row : List ℕ
-    row = take (slot * maxWords + getD ls slot 0 - slot * maxWords) (drop (slot * maxWords) R)
-
-    -- the tree is well laid, and they are accepted
-    pub trying-ready : (sized T ≡ true) × (wellLaid T ≡ true) × Accepted row
+    -- the tree is well laid, and the card names the slot of an accepted clause
+    pub trying-ready : (sized T ≡ true) × (wellLaid T ≡ true) × Slots ls R × NamesSlot card × Accepted (clauseIn ls R slot)
     trying-ready =
         let a = g .asking in
-        let room : size (lone c) < 322 = omega (arith, lone-size c (a .accepts) (a .words)) in
-        let e : slot * maxWords + getD ls slot 0 - slot * maxWords ≡ getD ls slot 0 = omega arith in (
+        let room : size (lone c) < 322 = omega (arith, lone-size c (a .accepts) (a .words)) in (
           rw (a .tree, length-layout 322 (lone c) room),
           rw (a .tree) (laid-layout 322 (lone c) room (omega arith) (lone-mirrors c (a .accepts) (a .words) .formed) (omega (arith, lone-leaves c (a .accepts) (a .words)))),
-          rw e clause-accepted,
+          a .slots,
+          all-get cards (a .names) i 0 h,
+          clause-accepted,
         )
 
-    module _ {r : QueryAnswer} (q : r ≡ query T row (b - k) (replicate witnessWords 0) .answer) where
+    module _ {r : QueryAnswer} (q : r ≡ query T (clauseIn ls R slot) (b - k) (replicate witnessWords 0) .answer) where
       answered : r ≡ answerBy (b - k) (replicate witnessWords 0) outcome .answer
       unfolding outcome
       answered =
           let a = g .asking in
-          let e : slot * maxWords + getD ls slot 0 - slot * maxWords ≡ getD ls slot 0 = omega arith in
           let long : witnessWords ≤ length (replicate {A = ℕ} witnessWords 0) = rw length-replicate (omega arith) in
-          q ∙ rw (e, a .tree)
+          q ∙ rw (a .tree)
           (ap (λ (x : Asked). x .answer)
           (lone-query c (a .accepts) (a .words) (clauseIn ls R slot) clause-accepted (b - k) 322 (omega arith) (omega arith)
           (omega (arith, lone-size c (a .accepts) (a .words))) (replicate witnessWords 0) long))

@@ -1,11 +1,12 @@
 -- `try_all` meets its contract: the clauses of the cards so far are queried.
 use mathlib.Core.Logic.{⊎-elim}
 use Prim.Native.Nat.{_-_, _^_}
+use native.Mathlib.Nat.{lt-of-le-of-lt}
 use native.Mathlib.Omega.{arith}
 use lib.ListN.{length}
 use borrow.Author.Needs.{needs}
 use Rattle.clause.proofs.Lists.{all-below}
-use Rattle.listing.proofs.Turns.{Trying, lone-made, trying-first, trying-end, trying-slot, trying-row, trying-ready, trying-spent}
+use Rattle.listing.proofs.Turns.{Trying, lone-made, trying-first, trying-end, trying-ready, trying-spent}
 use Rattle.listing.proofs.Turns.{other-few, trying-other, found-few, trying-full, trying-found}
 use Rattle.listing.proofs.trying.try_all.Statement.{statement}
 use Rattle.listing.proofs.trying.try_all.Tie as tie
@@ -25,69 +26,46 @@ loop-holds c =
     trying-first _ _ _
     record { accepts = p .0; words = w; slots = p .1; names = p .2; short = p .3; pairs = p .4; tree = lone-made _ (p .0) w (c .before .insert .ensures) }
 
-shared-slice-read-end : tie.Need-shared-slice-read-end Inv-loop μ-loop
-shared-slice-read-end c =
-    let l = c .before .before .before in
-    let p = l .before .before .before .before .before .before .before .before .before .pre in
-    omega (arith, trying-slot (l .loop .inv) (c .before .before .loop-test .taken), p .1 .lengths-many)
-
-add-end : tie.Need-add-end Inv-loop μ-loop
-add-end c = let h = trying-row (c .before .before .before .loop .inv) (c .before .before .loop-test .taken) in search (needs, h)
-
 sub-left : tie.Need-sub-left Inv-loop μ-loop
-sub-left c = omega (arith, c .before .before .before .loop .inv .left)
+sub-left c = omega (arith, c .before .before .loop .inv .left)
 
-sub-decide : tie.Need-sub-decide Inv-loop μ-loop
-sub-decide c = omega arith
-
-part-decide-start : tie.Need-part-decide-start Inv-loop μ-loop
-part-decide-start c = omega arith
-
-part-decide-end : tie.Need-part-decide-end Inv-loop μ-loop
-part-decide-end c = trying-row (c .before .before .before .before .loop .inv) (c .before .before .before .loop-test .taken)
-
-decide-requires : tie.Need-decide-requires Inv-loop μ-loop
-decide-requires c κs = trying-ready (c .before .before .before .before .before .loop .inv) (c .before .before .before .before .loop-test .taken)
+ask-requires : tie.Need-ask-requires Inv-loop μ-loop
+ask-requires c κs = trying-ready (c .before .before .before .loop .inv) (c .before .before .loop-test .taken)
 
 same-length : tie.Need-same-length Inv-loop μ-loop
-same-length c = c .before .before .before .before .before .before .before .before .loop .inv .places
+same-length c = c .before .before .before .before .before .before .loop .inv .places
 
 returns : tie.Need-returns Inv-loop μ-loop
 returns c =
     let a = c .before .before in
-    let l = a .before .before .before .before .before .before in
-    trying-spent (l .loop .inv) (a .before .before .before .before .before .loop-test .taken) (a .decide .ensures) (c .enum-told .given .1)
+    trying-spent (a .before .before .before .before .loop .inv) (a .before .before .before .loop-test .taken) (a .ask .ensures) (c .enum-told .given .1)
 
 add-tried : tie.Need-add-tried Inv-loop μ-loop
 add-tried c =
     let a = c .before .before .before in
-    let l = a .before .before .before .before .before .before in
-    let h = other-few (l .loop .inv) (a .before .before .before .before .before .loop-test .taken) (a .decide .ensures) (c .before .answer .given .1) in
-    search (needs, h)
+    let h = other-few (a .before .before .before .before .loop .inv) (a .before .before .before .loop-test .taken) (a .ask .ensures) (c .before .count .given .1) in
+    record { fits = lt-of-le-of-lt h (a .before .before .before .before .before .before .before .before .before .before .before .before .before .fits .budget .fits) }
 
 add-tried-2 : tie.Need-add-tried-2 Inv-loop μ-loop
 add-tried-2 c =
     let a = c .before .before .before in
-    let l = a .before .before .before .before .before .before in
-    let h = found-few (l .loop .inv) (a .before .before .before .before .before .loop-test .taken) (a .decide .ensures) (c .before .answer2 .given .1) in
-    search (needs, h)
+    let h = found-few (a .before .before .before .before .loop .inv) (a .before .before .before .loop-test .taken) (a .ask .ensures) (c .before .count2 .given .1) in
+    record { fits = lt-of-le-of-lt h (a .before .before .before .before .before .before .before .before .before .before .before .before .before .fits .budget .fits) }
 
 same-length-2 : tie.Need-same-length-2 Inv-loop μ-loop
-same-length-2 c = c .before .before .before .before .before .before .before .before .before .before .loop .inv .places
+same-length-2 c = c .before .before .before .before .before .before .before .before .loop .inv .places
 
 returns-2 : tie.Need-returns-2 Inv-loop μ-loop
 returns-2 c =
     let a = c .before .before .before .before in
-    let l = a .before .before .before .before .before .before in
-    trying-full (l .loop .inv) (a .before .before .before .before .before .loop-test .taken) (a .decide .ensures) (c .before .before .answer2 .given .1) (omega arith)
+    trying-full (a .before .before .before .before .loop .inv) (a .before .before .before .loop-test .taken) (a .ask .ensures) (c .before .before .count2 .given .1) (omega arith)
 
 cast-numbers : tie.Need-cast-numbers Inv-loop μ-loop
-cast-numbers c =
-    let k = c .before .before .before .before .before .before .before .before in omega (arith, k .shared-slice-known5 .given (k .before .before .loop .i))
+cast-numbers c = let k = c .before .before .before .before .before .before in omega (arith, k .shared-slice-known5 .given (k .before .before .loop .i))
 
 slice-write-numbers : tie.Need-slice-write-numbers Inv-loop μ-loop
 slice-write-numbers c =
-    let t = c .before .before .before .before .before .before .before .before .before in
+    let t = c .before .before .before .before .before .before .before in
     let g = t .before .loop .inv in
     omega (arith, g .fewer, g .places, g .asking .short, t .loop-test .taken)
 
@@ -97,11 +75,11 @@ loop-less c = omega arith
 loop-again : tie.Need-loop-again Inv-loop μ-loop
 loop-again c =
     let a = c .before in
-    let g = a .before .before .before .before .before .before .loop .inv in
-    let h = a .before .before .before .before .before .loop-test .taken in
+    let g = a .before .before .before .before .loop .inv in
+    let h = a .before .before .before .loop-test .taken in
     ⊎-elim
-    (λ w. rw (w .3, w .4, w .5) (trying-other g h (a .decide .ensures) (w .1 .given .1)))
-    (λ w. rw (w .4, w .5, w .6) (trying-found g h (a .decide .ensures) (w .1 .given .1) (omega (arith, w .3 .left))))
+    (λ w. rw (w .3, w .4, w .5) (trying-other g h (a .ask .ensures) (w .1 .given .1)))
+    (λ w. rw (w .4, w .5, w .6) (trying-found g h (a .ask .ensures) (w .1 .given .1) (omega (arith, w .3 .left))))
     (c .match .came)
 
 same-length-3 : tie.Need-same-length-3 Inv-loop μ-loop
@@ -113,7 +91,7 @@ returns-3 c = trying-end (c .before .loop .inv) (omega arith)
 pub try-all-spec : {M : Type 1} → statement M
 try-all-spec =
     tie.close
-    (tie.spec Inv-loop μ-loop (λ c. search needs) (λ c κs. search needs) loop-holds (λ c. search needs) (λ c. search needs) (λ c. search needs)
-    (λ c. search needs) shared-slice-read-end add-end sub-left (λ c. search needs) (λ c. search needs) sub-decide part-decide-start part-decide-end
-    decide-requires (λ c. search needs) same-length returns (λ c. search needs) add-tried (λ c. search needs) add-tried-2 same-length-2 returns-2
-    cast-numbers (λ c. search needs) slice-write-numbers (λ c. search needs) (λ c. search needs) loop-less loop-again same-length-3 returns-3)
+    (tie.spec Inv-loop μ-loop (λ c. search needs) (λ c κs. search needs) loop-holds (λ c. search needs) (λ c. search needs) sub-left
+    (λ c. search needs) ask-requires (λ c. search needs) same-length returns (λ c. search needs) add-tried (λ c. search needs) add-tried-2
+    same-length-2 returns-2 cast-numbers (λ c. search needs) slice-write-numbers (λ c. search needs) (λ c. search needs) loop-less loop-again
+    same-length-3 returns-3)
