@@ -1,6 +1,6 @@
 -- Byte by byte or record by record: what is printed is the same.
 use mathlib.Core.Path.{_≡_, refl, sym, ap, ap₂, _∙_}
-use mathlib.Core.List.{List, [], _∷_, _++_}
+use mathlib.Core.List.{List, [], _∷_, _++_, append-assoc}
 use mathlib.Core.Bool.{Bool, true, false}
 use Prim.Native.Nat.{ℕ, zero, suc, _+_, _-_, _≤_, _<_}
 use native.Mathlib.Omega.{arith}
@@ -22,7 +22,7 @@ use Rattle.record.specs.Tally.{TallyRow, tallyFrom, tallyOf, tallyLines, tallyS
 use Rattle.record.specs.Counters.{countersAfter, shownFrom, shownSheet}
 use Rattle.record.specs.Sheet.{Bytes}
 use Rattle.record.specs.Tallies.{mostBytes}
-use Rattle.intake.specs.Feed.{Store, storeOf, Fed, finishing, recordEnded, takeField, feedThen, feed, firstStore, fedWhole, WholeInput}
+use Rattle.intake.specs.Feed.{Store, storeOf, Fed, finishing, recordEnded, takeField, feedThen, feed, firstSession, firstStore, fedWhole, printedOf, WholeInput}
 use Rattle.record.proofs.Rows.{slice-more}
 use Rattle.record.proofs.Counting.{marksWith, countersWith}
 use Rattle.record.proofs.Sheets.{slice-from, sheets, no-strike-is-wrong}
@@ -215,6 +215,17 @@ listing : (v : Setting) (input : List ℕ) → fedWhole v input .text ++ totalsL
 unfolding listingOf rowsOf firstStore
 listing v input = ap (λ (p : Prints). p .text ++ totalsLine v (p .totals)) (whole v input)
 
+-- the lines stay whatever comes after them
+begins : (v : Setting) (input more : List ℕ) → (rest : List ℕ) × (printedOf v (input ++ more) ≡ fedWhole v input .text ++ rest)
+begins v input more =
+    let f = fedWhole v input in
+    let g = feed v (f .session) (f .store) more in
+    let e : fedWhole v (input ++ more) .text ≡ f .text ++ g .text = ap (λ (x : Fed). x .text) (feed-append v input more firstSession firstStore) in
+    let h = fedWhole v (input ++ more) in
+    let t = totalsLine v (h .session .totals) in
+    let u = shownSheet (h .store .marks) (h .store .counters) (h .session .totals .records) in
+    ((g .text ++ t) ++ u, ap (λ (l : List ℕ). (l ++ t) ++ u) e ∙ ap (λ (l : List ℕ). l ++ u) (append-assoc (f .text) (g .text) t) ∙ append-assoc (f .text) (g .text ++ t) u)
+
 pub whole-input : WholeInput
 unfolding rowsOf firstStore outputOf
 whole-input =
@@ -232,4 +243,5 @@ whole-input =
       records = read;
       tally = sheet;
       output = λ v input b l. ap₂ _++_ (listing v input) (sheet v input b l);
+      begins = begins;
     }

@@ -119,6 +119,12 @@ firstStore = storeOf (replicate maxWords 0) (replicate treeWords 0) (replicate n
 abbrev pub fedWhole : Setting → (input : List ℕ) → Fed
 fedWhole v input = feed v firstSession firstStore input
 
+-- all that is printed of an input: its lines, the totals, and the tally sheet that marks and counters show
+abbrev pub printedOf : Setting → (input : List ℕ) → List ℕ
+printedOf v input =
+    let f = fedWhole v input in
+    (f .text ++ totalsLine v (f .session .totals)) ++ shownSheet (f .store .marks) (f .store .counters) (f .session .totals .records)
+
 -- the claims about every input, with each setting
 pub record WholeInput : Type 0 where
   -- whatever the blocks, the text of all of them and the totals are the listing of the whole input, and the slice is that of its calls
@@ -140,6 +146,6 @@ pub record WholeInput : Type 0 where
   pub records : (v : Setting) (input : List ℕ) → fedWhole v input .session .totals .records ≡ length (recordsOf input)
   pub tally : (v : Setting) (input : List ℕ) → Bytes input → length input < mostBytes
       → let f = fedWhole v input in shownSheet (f .store .marks) (f .store .counters) (f .session .totals .records) ≡ tallySheetOf v input
-  -- so all that is printed of such an input is its output
-  pub output : (v : Setting) (input : List ℕ) → Bytes input → length input < mostBytes → let f = fedWhole v input in
-      (f .text ++ totalsLine v (f .session .totals)) ++ shownSheet (f .store .marks) (f .store .counters) (f .session .totals .records) ≡ outputOf v input
+  -- so all that is printed of such an input is its output; and its lines are printed alike whatever comes after it
+  pub output : (v : Setting) (input : List ℕ) → Bytes input → length input < mostBytes → printedOf v input ≡ outputOf v input
+  pub begins : (v : Setting) (input more : List ℕ) → (rest : List ℕ) × (printedOf v (input ++ more) ≡ fedWhole v input .text ++ rest)

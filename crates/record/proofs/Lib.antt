@@ -10,3 +10,4 @@ pub mod Antichain
 pub mod Sheets
 pub mod Tallies
 pub mod Shuffled
+pub mod Promise

@@ -307,7 +307,7 @@ pub record KeptRow (rs : List Row) (p : Pair) : Type 0 where
   pub kept : IsKept (row .outcome)
   pub pair : p ≡ pairOf (row .of)
 
-mem-one : (o : Outcome) (x : Record) (p : Pair) → List·Memᴰ p (keptOn o x) → IsKept o × (p ≡ pairOf x)
+pub mem-one : (o : Outcome) (x : Record) (p : Pair) → List·Memᴰ p (keptOn o x) → IsKept o × (p ≡ pairOf x)
 mem-one (Kept u) x p m = ((u, refl), List·Memᴰ·eq-of-singleton m)
 mem-one (Struck n k) x p m = elim m [ ]
 mem-one (Refused c) x p m = elim m [ ]
@@ -323,7 +323,7 @@ mem-kept (r ∷ rs) p m = go (List·Memᴰ·append-cases (keptPairs rs) m) (mem-
         record { row = r; among = List·Memᴰ·head refl; kept = k; pair = e }
 
 -- the pair of such a row, where nothing is taken out
-kept-one : {o : Outcome} {x : Record} → IsKept o → List·Memᴰ (pairOf x) (keptOn o x)
+pub kept-one : {o : Outcome} {x : Record} → IsKept o → List·Memᴰ (pairOf x) (keptOn o x)
 kept-one (u, e) = rw e (List·Memᴰ·head refl)
 
 pub kept-mem : (rs : List Row) → takenOut rs ≡ [] → (r : Row) → List·Memᴰ r rs → IsKept (r .outcome) → List·Memᴰ (pairOf (r .of)) (keptPairs rs)

@@ -11,3 +11,4 @@ pub mod Antichain
 pub mod Sheet
 pub mod Tallies
 pub mod Shuffled
+pub mod Promise

@@ -1,28 +1,27 @@
--- The lines after those of the records.
-use mathlib.Core.Path.{_≡_, ap, ap₂, _∙_}
-use mathlib.Core.List.{List}
+-- What comes after the lines of the records, and the whole run.
+use mathlib.Core.Path.{_≡_, sym, ap, ap₂, subst, _∙_}
+use mathlib.Core.Bool.{false}
+use mathlib.Core.List.{List, _++_, append-assoc}
 use Prim.Native.Nat.{ℕ, _+_, _≤_}
 use native.Mathlib.Omega.{arith}
 use lib.ListN.{length, length-append, length-replicate}
-use Rattle.record.specs.Text.{Written, putAt}
-use Rattle.record.specs.Line.{longestTotals, totalsLine, recordsLine}
+use Rattle.record.specs.Line.{longestTotals, longestTally, longestRecords, totalsLine}
 use Rattle.record.specs.Marks.{numberCount}
-use Rattle.record.specs.Tally.{tallySheetOf}
+use Rattle.record.specs.Settings.{settingOf}
+use Rattle.record.specs.Tally.{outputOf}
 use Rattle.record.specs.Counters.{counterWords, shownSheet}
-use Rattle.lines.proofs.Writing.{placed, text-there}
-use Rattle.intake.specs.Feed.{Store, storeOf, firstStore}
 use Rattle.record.specs.declared.Setting.{Setting}
+use Rattle.record.proofs.Promise.{promise}
+use Rattle.intake.specs.Feed.{Store, storeOf, Fed, firstStore, fedWhole, printedOf}
 use Rattle.intake.specs.declared.Session.{Session}
 use Rattle.intake.proofs.Records.{whole-input}
-use Rattle.streaming.specs.Fed.{FedSoFar}
-use Rattle.running.specs.Run.{Listed, RunEnds}
-
--- the line of totals
-pub totals-listed : (v : Setting) {s : Session} {m : Store} (o : List ℕ) {r : ℕ} {p : List ℕ} → FedSoFar v s m
-    → _≡_ {A = Written} (record { next = r; output = p }) (putAt (totalsLine v (s .totals)) o 0) → r ≤ longestTotals → longestTotals ≤ length o → Listed v s m p r
-totals-listed v {s} o h e l k =
-    let w = placed (totalsLine v (s .totals)) o 0 e in
-    record { fed = h; line = text-there (totalsLine v (s .totals)) o (omega (arith, w)) e; bytes = omega (arith, w); short = l }
+use Rattle.printing.specs.Handed.{bytesHanded, Holds, NextPiece, HandedOn, SheetNext}
+use Rattle.printing.proofs.Pieces.{handed-append, stands-after}
+use Rattle.streaming.specs.Fed.{readsOn}
+use Rattle.streaming.specs.inner.Running.{Running}
+use Rattle.streaming.specs.declared.Got.{Got}
+use Rattle.streaming.proofs.FedBlocks.{reads-ended}
+use Rattle.running.specs.Run.{RunEnds}
 
 -- the lengths of the first store
 pub first-lengths : {ws T m c : List ℕ} → storeOf ws T m c ≡ firstStore → (length m ≡ numberCount) × (length c ≡ counterWords)
@@ -32,16 +31,71 @@ first-lengths e = (
   ap (λ (s : Store). length (s .counters)) e ∙ length-replicate {A = ℕ} counterWords 0,
 )
 
--- the tally sheet, and the whole run
-pub run-ends : {v : Setting} {s : Session} {m : Store} {o : List ℕ} {t : List ℕ} {k put : ℕ} → Listed v s m o k → put ≡ length (shownSheet (m .marks) (m .counters) (s .totals .records))
-    → t ≡ recordsLine (s .totals .records) → RunEnds v s m (k + put) t
-run-ends {v} {s} {m} h e i =
-    let f = h .fed in
-    let x = ap (λ (y : Session). y .totals .records) (f .read) in
-    record {
-      fed = f;
-      all = λ l.
-          let g = e ∙ ap₂ (λ (y : Store) (n : ℕ). length (shownSheet (y .marks) (y .counters) n)) (f .lent) x ∙ ap length (whole-input .tally v (f .bytes) (f .small) l) in
-          omega (arith, h .bytes, g, length-append (totalsLine v (s .totals)) (tallySheetOf v (f .bytes)));
-      line = i ∙ ap recordsLine (x ∙ whole-input .records v (f .bytes));
-    }
+module _ {v : Setting} {s : Session} {m : Store} {M : List ℕ} (r : Running v s m M) where
+  -- all that is printed of the bytes that were fed
+  printed : printedOf v (r .stands .bytes)
+      ≡ fedWhole v (r .stands .bytes) .text ++ (totalsLine v (s .totals) ++ shownSheet (m .marks) (m .counters) (s .totals .records))
+  printed =
+      let w = fedWhole v (r .stands .bytes) in
+      append-assoc (w .text) (totalsLine v (w .session .totals)) (shownSheet (w .store .marks) (w .store .counters) (w .session .totals .records))
+      ∙ ap₂ (λ (x : Session) (y : Store). w .text ++ (totalsLine v (x .totals) ++ shownSheet (y .marks) (y .counters) (x .totals .records)))
+      (sym (r .stands .read)) (sym (r .stands .lent))
+
+  -- the totals come next
+  pub totals-next : NextPiece M (totalsLine v (s .totals))
+  totals-next =
+      let f = r .stands in
+      record {
+        long = r .long;
+        setting = v;
+        bytes = f .bytes;
+        many = f .many;
+        stands = λ z. stands-after (fedWhole v (f .bytes) .text) (totalsLine v (s .totals)) (shownSheet (m .marks) (m .counters) (s .totals .records)) (f .handed z) printed;
+      }
+
+  pub totals-fit : Holds longestTotals M
+  totals-fit = omega (arith, r .handed, r .reads)
+
+  module _ {N : List ℕ} (short : length (totalsLine v (s .totals)) ≤ longestTotals) (h : HandedOn M (length (totalsLine v (s .totals))) N) where
+    -- and then the tally sheet
+    pub sheet-next : SheetNext (m .marks) (m .counters) (s .totals .records) N
+    sheet-next =
+        let f = r .stands in
+        let w = fedWhole v (f .bytes) in
+        record {
+          long = h .long ∙ r .long;
+          setting = v;
+          bytes = f .bytes;
+          many = h .read ∙ f .many;
+          marked = ap (λ (x : Store). x .marks) (sym (f .lent));
+          counted = ap (λ (x : Store). x .counters) (sym (f .lent));
+          recorded = ap (λ (x : Session). x .totals .records) (sym (f .read));
+          handed = λ z.
+              let (y, e) = h .all z in
+              let t = ap (λ (x : Session). length (totalsLine v (x .totals))) (f .read) in
+              omega (arith, e, f .handed y, t, length-append (w .text) (totalsLine v (w .session .totals)));
+          fits = omega (arith, h .most, short, r .handed, r .reads);
+        }
+
+    -- the whole run
+    pub run-ends : {P : List ℕ} {argument : List ℕ} {g : Got} → v ≡ settingOf argument → readsOn g M ≡ false
+        → HandedOn N (length (shownSheet (m .marks) (m .counters) (s .totals .records))) P → RunEnds argument P g
+    run-ends {P} {argument} {g} i j o =
+        let f = r .stands in
+        let x = fedWhole v (f .bytes) .text in
+        let t = totalsLine v (s .totals) in
+        let u = shownSheet (m .marks) (m .counters) (s .totals .records) in
+        let l : length (printedOf v (f .bytes)) ≡ length x + (length t + length u) =
+        ap length printed ∙ length-append x (t ++ u) ∙ ap (λ (k : ℕ). length x + k) (length-append t u) in
+        record {
+          bytes = f .bytes;
+          small = f .small;
+          read = o .read ∙ h .read ∙ f .many;
+          ended = reads-ended g (handed-append h o) j;
+          handed = λ z.
+              let (y, e) = o .all z in
+              let (b, d) = h .all y in
+              subst (λ (k : Setting). bytesHanded P ≡ length (printedOf k (f .bytes))) i (omega (arith, e, d, f .handed b, l));
+          output = λ k. subst (λ (y : Setting). printedOf y (f .bytes) ≡ outputOf y (f .bytes)) i (whole-input .output v (f .bytes) (f .small) k);
+          promised = promise (settingOf argument) (f .bytes) (f .small);
+        }

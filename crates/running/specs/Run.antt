@@ -1,27 +1,30 @@
--- What a run puts into the output after the lines of its records: the totals, and at last how many records were read.
+-- What a run promises of the bytes that it reads and of those that it hands on to be written.
 use mathlib.Core.Path.{_≡_}
-use mathlib.Core.List.{List, _++_}
-use Prim.Native.Nat.{ℕ, _≤_, _<_}
-use lib.ListN.{length, take}
-use Rattle.record.specs.Line.{longestTotals, totalsLine, recordsLine}
-use Rattle.record.specs.Output.{recordsOf}
-use Rattle.record.specs.Tally.{tallySheetOf}
+use mathlib.Core.Bool.{false}
+use mathlib.Core.List.{List}
+use Prim.Native.Nat.{ℕ, _<_}
+use lib.ListN.{length}
+use Rattle.record.specs.Settings.{settingOf}
+use Rattle.record.specs.Output.{listingOf}
+use Rattle.record.specs.Tally.{outputOf}
+use Rattle.record.specs.Sheet.{Bytes}
 use Rattle.record.specs.Tallies.{mostBytes}
-use Rattle.record.specs.declared.Setting.{Setting}
-use Rattle.intake.specs.Feed.{Store}
-use Rattle.intake.specs.declared.Session.{Session}
-use Rattle.streaming.specs.Fed.{FedSoFar}
+use Rattle.record.specs.Promise.{Promised}
+use Rattle.intake.specs.Feed.{printedOf}
+use Rattle.printing.specs.Handed.{bytesRead, bytesHanded, writeFailed}
+use Rattle.streaming.specs.Fed.{readsOn}
+use Rattle.streaming.specs.declared.Got.{Got}
 
--- some bytes were fed, and the output begins with their line of totals, which ends at a place
-pub record Listed (setting : Setting) (session : Session) (store : Store) (output : List ℕ) (end : ℕ) : Type 0 where
-  pub fed : FedSoFar setting session store
-  pub line : take end output ≡ totalsLine setting (session .totals)
-  pub bytes : end ≡ length (totalsLine setting (session .totals))
-  pub short : end ≤ longestTotals
-
--- some bytes were fed; after their lines as much text was put as their totals and their tally sheet have, if they are under `mostBytes`; and some text is
--- the last line of that, which says how many complete records they have
-pub record RunEnds (setting : Setting) (session : Session) (store : Store) (put : ℕ) (text : List ℕ) : Type 0 where
-  pub fed : FedSoFar setting session store
-  pub all : length (fed .bytes) < mostBytes → put ≡ length (totalsLine setting (session .totals) ++ tallySheetOf setting (fed .bytes))
-  pub line : text ≡ recordsLine (length (recordsOf (fed .bytes)))
+-- a run with an argument ended, its meters say this, and this is what its last read gave
+pub record RunEnds (argument meters : List ℕ) (got : Got) : Type 0 where
+  -- all bytes that its reads delivered, one after another
+  pub bytes : List ℕ
+  pub small : Bytes bytes
+  pub read : bytesRead meters ≡ length bytes
+  -- there was no more, or a read or a write failed (or all reads were made, which none does)
+  pub ended : readsOn got meters ≡ false
+  -- unless a write failed, as much was handed on as is printed of them; each piece stood at its place (`NextPiece`), so that is what was handed on
+  pub handed : writeFailed meters ≡ 0 → bytesHanded meters ≡ length (printedOf (settingOf argument) bytes)
+  -- what is printed of them is the output by its definition, which begins with the listing; and what that promises
+  pub output : length bytes < mostBytes → printedOf (settingOf argument) bytes ≡ outputOf (settingOf argument) bytes
+  pub promised : Promised (settingOf argument) bytes (listingOf (settingOf argument) bytes)

@@ -2,75 +2,62 @@
 // A record's line is made by `feeding::feed`, the totals by `lines::put_totals`, the tally sheet by `tallying`; what is here moves the bytes.
 mod settings;
 
-use intake::Session;
 use lines::put_totals;
-use printing::write_more;
+use printing::Meter;
+use printing::hand_on;
 use printing::write_tally;
 use record::Setting;
+use record::Totals;
 pub use settings::Argument;
-pub use settings::setting_of;
-use streaming::FedBlock;
+use settings::setting_of;
+use streaming::Got;
 use streaming::feed_all;
 ghost use mathlib.Core.Path.{_≡_};
-ghost use lib.ListN.{take};
+ghost use Prim.Native.Nat.{_≤_};
+ghost use lib.ListN.{length, replicate};
+ghost use Rattle.record.specs.Line.{longestTotals, totalsLine};
+ghost use Rattle.record.specs.Promise.{Promise};
 ghost use Rattle.intake.specs.Feed.{storeOf, firstStore};
+ghost use Rattle.printing.specs.Handed.{meterCount, Holds, NextPiece, HandedOn};
 ghost use Rattle.streaming.specs.Fed.{Buffers};
-ghost use Rattle.running.specs.Run.{Listed, RunEnds};
+ghost use Rattle.running.specs.Run.{RunEnds};
 
-// What a run came to: the session after the input, the bytes put after the records' lines, and the place in the output after the last line.
-pub struct Ran {
-    pub session: Session,
-    pub bytes: usize,
-    pub next: usize,
-}
-
-// Feeds the whole input, and then puts the totals into the output and writes them, unless a write has failed.
-fn write_listing(
+// Puts the totals into the output and hands them on.
+fn write_totals(
     setting: Setting,
-    input: &mut [u8],
-    tree: &mut [u64],
-    marks: &mut [u8],
-    counters: &mut [u64],
-    words: &mut [u16],
+    totals: Totals,
     output: &mut [u8],
-) -> FedBlock
-    requires { ⌜ Buffers (now input) (now output) × (storeOf (now words) (now tree) (now marks) (now counters) ≡ firstStore) ⌝ }
-    ensures { λ r. ⌜ Listed setting (r .session) (storeOf (now (words .exit)) (now (tree .exit)) (now (marks .exit)) (now (counters .exit)))
-        (now (output .exit)) (r .next) ⌝ }
+    meters: &mut [u64; Meter::WORDS],
+)
+    requires { ⌜ (longestTotals ≤ length (now output)) × NextPiece (now meters) (totalsLine setting totals) × Holds longestTotals (now meters) ⌝ }
+    ensures short { λ _. ⌜ length (totalsLine setting totals) ≤ longestTotals ⌝ }
+    ensures handed { λ _. ⌜ HandedOn (now (meters .entry)) (length (totalsLine setting totals)) (now (meters .exit)) ⌝ }
 {
-    let all = feed_all(setting, input, tree, marks, counters, words, output);
-    let session = all.session;
-    let totals = session.totals;
     let end = put_totals(output, 0, setting, totals);
-    let good = write_more(&output[..end], all.good);
-    FedBlock {
-        session: session,
-        next: end,
-        good: good,
-    }
+    hand_on(&output[..end], meters);
 }
 
-// The whole run. The output then begins with its last line.
+// The whole run, by its argument. It gives what the last read gave.
 pub fn run(
-    setting: Setting,
+    argument: &[u8],
     input: &mut [u8],
     tree: &mut [u64],
     marks: &mut [u8],
     counters: &mut [u64],
     words: &mut [u16],
     output: &mut [u8],
-) -> Ran
-    requires { ⌜ Buffers (now input) (now output) × (storeOf (now words) (now tree) (now marks) (now counters) ≡ firstStore) ⌝ }
-    ensures { λ r. ⌜ RunEnds setting (r .session) (storeOf (now (words .exit)) (now (tree .exit)) (now (marks .exit)) (now (counters .exit)))
-        (r .bytes) (take (r .next) (now (output .exit))) ⌝ }
+    meters: &mut [u64; Meter::WORDS],
+) -> Got
+    requires { ⌜ Buffers (now input) (now output) × (storeOf (now words) (now tree) (now marks) (now counters) ≡ firstStore)
+        × (now meters ≡ replicate meterCount 0) ⌝ }
+    ensures ends { λ r. ⌜ RunEnds (now (argument .entry)) (now (meters .exit)) r ⌝ }
+    ensures promise { λ _. ⌜ Promise ⌝ }
 {
-    let listed = write_listing(setting, input, tree, marks, counters, words, output);
-    let session = listed.session;
+    let setting = setting_of(argument);
+    let fed = feed_all(setting, input, tree, marks, counters, words, output, meters);
+    let session = fed.session;
     let totals = session.totals;
-    let tally = write_tally(totals.records, marks, counters, output, listed.good);
-    Ran {
-        session: session,
-        bytes: listed.next + tally.bytes,
-        next: tally.next,
-    }
+    write_totals(setting, totals, output, meters);
+    write_tally(totals.records, marks, counters, output, meters);
+    fed.got
 }

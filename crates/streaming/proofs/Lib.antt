@@ -1,1 +1,2 @@
+pub mod Meters
 pub mod FedBlocks

@@ -1,7 +1,9 @@
--- What a run has fed. Nothing says which bytes a read gives, so this speaks of some bytes.
+-- What a run has fed. Nothing says which bytes a read delivers, so this speaks of some bytes: as many as the meters say.
 use mathlib.Core.Path.{_≡_}
+use mathlib.Core.Bool.{Bool, true, false, _&&_}
 use mathlib.Core.List.{List}
-use Prim.Native.Nat.{ℕ, _+_, _*_, _≤_}
+use Prim.Native.Nat.{ℕ, _+_, _*_, _≤_, _<_}
+use lib.Dec.{eqb, ltb}
 use lib.ListN.{length}
 use Rattle.tree.specs.Laid.{maxKept}
 use Rattle.record.specs.Line.{longestLine, longestRemoval}
@@ -9,10 +11,17 @@ use Rattle.record.specs.declared.Setting.{Setting}
 use Rattle.record.specs.Sheet.{Bytes}
 use Rattle.intake.specs.Feed.{Store, feed, firstSession, firstStore}
 use Rattle.intake.specs.declared.Session.{Session}
+use Rattle.printing.specs.Handed.{bytesRead, readsMade, bytesHanded, writeFailed}
+use Rattle.streaming.specs.declared.Got.{Got}
+use Rattle.streaming.specs.declared.Got.the-variants as got
 
 -- the most bytes of a block
 abbrev pub blockBytes : ℕ
 blockBytes = 16_384
+
+-- the most reads of a run: so many that none uses them up
+abbrev pub mostReads : ℕ
+mostReads = 1_099_511_627_776
 
 -- the most bytes that a block prints: a byte of it ends a record at most, which prints its line, and a clause is removed once, whether it is kept before
 -- the block or by one of its records
@@ -24,9 +33,30 @@ pub record Buffers (input output : List ℕ) : Type 0 where
   pub block : length input ≡ blockBytes
   pub room : outputBytes ≤ length output
 
--- some bytes were fed from the start on, with a setting, and left the session and the lent words; `WholeInput` speaks of every input, so of these bytes
-pub record FedSoFar (setting : Setting) (session : Session) (store : Store) : Type 0 where
+-- the bytes that a read delivered
+abbrev pub delivered : Got → ℕ
+delivered (got.Bytes n) = n
+delivered got.Interrupted = 0
+delivered got.NoMore = 0
+delivered got.Failed = 0
+
+-- whether no write has failed, and a read is left
+abbrev pub mayRead : (meters : List ℕ) → Bool
+mayRead m = eqb (writeFailed m) 0 && ltb (readsMade m) mostReads
+
+-- whether one more block is read: not after a read that said that there is no more, nor after one that failed, nor once a write has failed
+abbrev pub readsOn : Got → (meters : List ℕ) → Bool
+readsOn (got.Bytes n) m = mayRead m
+readsOn got.Interrupted m = mayRead m
+readsOn got.NoMore m = false
+readsOn got.Failed m = false
+
+-- some bytes were fed from the start on, with a setting, and left the session and the lent words; they are as many as the reads delivered, and their lines
+-- were handed on, unless a write has failed. `WholeInput` speaks of every input, so of these bytes
+pub record FedSoFar (setting : Setting) (session : Session) (store : Store) (meters : List ℕ) : Type 0 where
   pub bytes : List ℕ
   pub small : Bytes bytes
   pub read : session ≡ feed setting firstSession firstStore bytes .session
   pub lent : store ≡ feed setting firstSession firstStore bytes .store
+  pub many : bytesRead meters ≡ length bytes
+  pub handed : writeFailed meters ≡ 0 → bytesHanded meters ≡ length (feed setting firstSession firstStore bytes .text)

@@ -1,8 +1,9 @@
-// The input as it streams in: block after block is read from standard input and fed, and its lines are written (docs/REFERENCE.md, "The program").
+// The input as it streams in: block after block is read from standard input and fed, and its lines are handed on (docs/REFERENCE.md, "The program").
 use lines::Longest;
 use tree::Tree;
 
 mod blocks;
+mod reading;
 
 pub use blocks::FedBlock;
 pub use blocks::feed_all;
@@ -16,6 +17,14 @@ impl Limit {
     // The most bytes that a block prints: the lines of its records, and one for each clause that they remove.
     pub const OUTPUT: usize = Limit::BLOCK * (Longest::LINE + Longest::REMOVAL)
         + Tree::CLAUSES * Longest::REMOVAL;
-    // The most blocks. A proved loop has to end, and nothing says that the input does: no run uses them up.
-    const BLOCKS: u64 = 0x8000_0000_0000;
+    // The most reads. A proved loop has to end, and nothing says that the input does: no run uses them up.
+    const READS: u64 = 0x100_0000_0000;
+}
+
+// What a read gave: some bytes, none since a signal came first, that there is no more, or that it failed.
+pub enum Got {
+    Bytes(usize),
+    Interrupted,
+    NoMore,
+    Failed,
 }

@@ -1,30 +1,31 @@
 // The program: it reads records from standard input, and writes what becomes of them to standard output (docs/REFERENCE.md, "The program").
 // All that it does is `running::run`; here are its first argument, and the words that it lends.
 use clause::Clause;
+use printing::Meter;
 use record::Lent;
 use running::Argument;
 use running::run;
-use running::setting_of;
 use streaming::Limit;
 use tallying::Counters;
 
 fn main() {
     let mut argument = [0u8; Argument::BYTES];
     let length = os::arg(1, &mut argument);
-    let setting = setting_of(&argument[..length]);
     let mut input = [0u8; Limit::BLOCK];
     let mut tree = [0u64; Lent::TREE];
     let mut marks = [0u8; Lent::MARKS];
     let mut counters = [0u64; Counters::WORDS];
     let mut words = [0u16; Clause::WORDS];
     let mut output = [0u8; Limit::OUTPUT];
+    let mut meters = [0u64; Meter::WORDS];
     run(
-        setting,
+        &argument[..length],
         &mut input,
         &mut tree,
         &mut marks,
         &mut counters,
         &mut words,
         &mut output,
+        &mut meters,
     );
 }
