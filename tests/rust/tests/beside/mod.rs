@@ -1,5 +1,4 @@
 //! Each call is put to the library and to the model; answer, told words and every lent word have to be the same.
-#![allow(dead_code)]
 use code_tree::raw;
 use model::calls::{self, Cover, Listed};
 use model::refusal::Refusal;
