@@ -1,32 +1,97 @@
-// Runs the cases of documents 01 and 02 on standard input: 01's unstarred rows, each limit on both sides, each refusal, and the readings that the two
-// leave open (a label such as C-1, W-9 or F3-1 names one). The expected lines are the plain model's: in tests/rust, `cargo run --release -p model --bin cases`
-// writes them, and tests/rust/tests/cases.rs holds the model to them. A line to be added is read against documents 01 and 02.
-// The input has at most 65,536 bytes. A line of it is a label, a colon and commands; written is the label and what the commands answer. One without a
-// colon is written as it is.
-// A command is a number in hexadecimal and a letter. What a command sets stays for the lines after it, but a clause for one call.
-// L: the slice ends at this index, and its next word stands there; 0L begins one. T: its next word. M: so many times that. C: the next word of the clause.
-// B: the budget, or the number of a clause to read back.
-// F: fresh. K: keep the clause under a number. R: remove a number. W: put the clause as a query, with a blank witness of so many words.
-// O: read a clause back, into a blank output of so many words. X: list the kept clauses that the clause subsumes, into a blank list of so many words.
-// H: check the slice. N: the ceiling of the slice's three words.
-// These are the calls of the C interface (include/code_tree.h), and write the number returned and the words told; F, K and R then `left` or `changed`,
-// for the slice, and its header; W, O and X the index and value of each word of the witness, the output or the list that was written.
-// Y: keep so many literals without arguments, each under its symbol's number; written are those not kept, each with the number returned.
-// V: read the clause, and write `whole` with its literals, or the code and position. G: compile the clause, and write the instructions up to Success.
-// S: write the words of the slice that are not 0.
-// Words are written in hexadecimal: a tree word is one digit of operation, 8 of operand, 7 of extent; an instruction is the first 9 of them;
-// a header is 8 of used words, 8 of kept clauses. All other numbers are written in base ten.
-use clause::Clause;
-use tree::Tree;
+// Runs document 01's trial rows without a star by the calls of the C interface: a line has the numbers that its calls returned and told.
+// All other cases are rows of tests/rust/cases, which a Rust test puts to the same calls.
 
-mod calls;
-mod lines;
-mod writing;
+// What a told word holds before a call, which then means nothing.
+const UNTOLD: u64 = 0xffff_ffff_ffff_ffff;
+
+// P(x,a,x) and P(x,x,b).
+const FIRST: [u16; 4] = [0x9801, 0x4000, 0x0001, 0x4000];
+
+const SECOND: [u16; 4] = [0x9801, 0x4000, 0x4000, 0x0002];
+
+// Writes a number that was returned or told.
+fn write(number: u64) {
+    if number != UNTOLD {
+        io::write_all(1, b" ");
+        io::print_decimal(1, number);
+    }
+}
+
+// Begins a line with a length.
+fn begin(text: &[u8], length: usize) {
+    io::write_all(1, text);
+    write(length as u64);
+    io::write_all(1, b":");
+}
+
+// Keeps a clause under a number.
+fn keep(tree: &mut [u64], clause: &[u16], number: u32) {
+    let mut told = [UNTOLD];
+    write(codetree::ct_insert(tree, clause, number, &mut told));
+    write(told[0]);
+}
+
+// Keeps both clauses; then the second one, after the first is removed.
+fn run_room(tree: &mut [u64]) {
+    begin(b"\ntree words", tree.len());
+    keep(tree, &FIRST, 1);
+    keep(tree, &SECOND, 2);
+    write(codetree::ct_remove(tree, 1));
+    keep(tree, &SECOND, 2);
+}
+
+fn run_rooms() {
+    run_room(&mut [0; 11]);
+    run_room(&mut [0; 10]);
+    run_room(&mut [0; 16]);
+    run_room(&mut [0; 15]);
+}
+
+// Keeps a clause where there is room.
+fn run_clause(clause: &[u16]) {
+    begin(b"\nclause words", clause.len());
+    keep(&mut [0; 200], clause, 1);
+}
+
+// The first 64 words are P(f(..f(a)..)).
+fn run_lengths() {
+    let mut words = [0x0803u16; 65];
+    words[0] = 0x8801;
+    words[63] = 0x0001;
+    run_clause(&words[..64]);
+    run_clause(&words);
+}
+
+// Literals without arguments.
+fn run_literals() {
+    run_clause(&[0x8001; 8]);
+    run_clause(&[0x8001; 9]);
+}
+
+// Asks for P(x,a,x) with a budget of 0.
+fn ask(tree: &[u64], witness: &mut [u16]) {
+    begin(b"\nwitness words", witness.len());
+    let mut told = [UNTOLD; 3];
+    write(codetree::ct_query(tree, &FIRST, 0, witness, &mut told));
+    write(told[0]);
+    write(told[1]);
+    write(told[2]);
+}
+
+// On an empty tree; then with the clause kept.
+fn run_queries(tree: &mut [u64]) {
+    ask(tree, &mut [0; 72]);
+    ask(tree, &mut [0; 71]);
+    io::write_all(1, b"\nP(x,a,x) kept:");
+    keep(tree, &FIRST, 1);
+    ask(tree, &mut [0; 72]);
+}
 
 fn main() {
-    let mut slice = [0u64; Tree::WORDS + 1];
-    let mut clause = [0u16; Clause::WORDS + 1];
-    let mut text = io::large_buffer();
-    let n = io::read_full(0, &mut text);
-    lines::run(&text[..n], &mut slice, &mut clause);
+    io::write_all(1, b"trial rows without a star");
+    run_queries(&mut [0; 16]);
+    run_rooms();
+    run_lengths();
+    run_literals();
+    io::write_all(1, b"\n");
 }

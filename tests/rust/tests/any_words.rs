@@ -1,9 +1,7 @@
 //! Trees and clauses of any words, slices of any length: every answer and every lent word beside the model's.
-mod beside;
-mod drawn;
-
-use drawn::tally::Tally;
-use drawn::{Random, STYLES};
+use crate::beside;
+use crate::drawn::tally::Tally;
+use crate::drawn::{Random, STYLES};
 use model::calls::Cover;
 use model::instruction::{header, used, Instruction, Operation};
 use model::laid::well_laid;

@@ -1,16 +1,14 @@
 //! Kept clauses listed backwards: after lists of calls beside an ordinary matcher, which knows no tree, and on spoilt and hand-made slices beside the
 //! model.
-mod beside;
-mod drawn;
-mod listed;
-mod set;
-
-use beside::Listing;
-use drawn::back::{clearing_page, clearing_units};
-use drawn::spoilt::each_change;
-use drawn::tally::Tally;
-use drawn::{renamed, Random, Style, STYLES};
-use listed::Queries;
+use crate::beside;
+use crate::beside::Listing;
+use crate::drawn::back::{clearing_page, clearing_units};
+use crate::drawn::spoilt::each_change;
+use crate::drawn::tally::Tally;
+use crate::drawn::{renamed, Random, Style, STYLES};
+use crate::listed::Queries;
+use crate::set::full::Full;
+use crate::set::Set;
 use model::back_pages::back_pages;
 use model::by_hand::{self, with_much_stack};
 use model::calls::Listed;
@@ -23,8 +21,6 @@ use model::program::{output, records, Setting};
 use model::reader::read;
 use model::refusal::Refusal;
 use model::words::{is_variable, word, FUNCTION, POSITIVE, VARIABLE};
-use set::full::Full;
-use set::Set;
 
 // What a clause has to do with the kept ones.
 const KINDS: [&str; 7] = [
@@ -57,7 +53,7 @@ impl Set<'_> {
     }
 
     // A removal or the insertion of a clause made of a kept one or, mostly, of a general one.
-    fn call(&mut self, style: Style, general: &[u16]) {
+    fn change_around(&mut self, style: Style, general: &[u16]) {
         if self.random.one_in(6) {
             let number = self.any_removal();
             return self.remove(number);
@@ -196,7 +192,7 @@ fn lists_of_calls() {
         let general = random.clause(style);
         let mut set = Set::new(length, &mut random, &mut tally);
         for _ in 0..4 + set.random.below(24) {
-            set.call(style, &general);
+            set.change_around(style, &general);
         }
         set.judge_kinds(style);
         set.list_at_all(&general, "general");
@@ -208,7 +204,7 @@ fn lists_of_calls() {
 
 impl Full {
     // As many clauses as can be kept, under any numbers.
-    fn of(random: &mut Random, clause: impl Fn(u16, &mut Random) -> Vec<u16>) -> Full {
+    fn of_clauses(random: &mut Random, clause: impl Fn(u16, &mut Random) -> Vec<u16>) -> Full {
         let mut full = Full::new();
         while full.book.pairs.len() < KEPT {
             let (i, number) = (full.book.pairs.len() as u16, random.next() as u32);
@@ -219,7 +215,7 @@ impl Full {
     }
 
     // The listing by the matcher, with budgets and lists around what it takes.
-    fn judge(&self, given: &[u16]) -> Vec<u32> {
+    fn judge_listing(&self, given: &[u16]) -> Vec<u32> {
         let literals = read(given).expect("an accepted clause");
         let queries = Queries::of(&literals, &self.book.pairs);
         let (numbers, tries) = (queries.numbers(), queries.tries());
@@ -241,18 +237,18 @@ fn full_trees() {
     let mut random = Random(72);
     let (p1, q1, f, x) = (0x8801, 0x8802, 0x0803, 0x4000);
     let constant = |i: u16| word(FUNCTION, 0, 1 + i);
-    let full = Full::of(&mut random, |i, random| match i % 4 {
+    let full = Full::of_clauses(&mut random, |i, random| match i % 4 {
         0 => vec![p1, constant(i)],
         1 => vec![p1, f, constant(i)],
         2 => vec![q1, constant(i), p1, constant(i)],
         _ => vec![p1, constant(i), q1, constant(random.below(9) as u16)],
     });
-    assert_eq!(full.judge(&[p1, x]).len(), KEPT);
-    assert_eq!(full.judge(&[p1, f, x]).len(), KEPT / 4);
-    assert_eq!(full.judge(&[q1, x]).len(), KEPT / 2);
-    assert!(full.judge(&[p1, x, q1, x]).len() >= KEPT / 4);
-    assert_eq!(full.judge(&[p1, constant(4)]).len(), 1);
-    assert_eq!(full.judge(&[0x8001]).len(), 0);
+    assert_eq!(full.judge_listing(&[p1, x]).len(), KEPT);
+    assert_eq!(full.judge_listing(&[p1, f, x]).len(), KEPT / 4);
+    assert_eq!(full.judge_listing(&[q1, x]).len(), KEPT / 2);
+    assert!(full.judge_listing(&[p1, x, q1, x]).len() >= KEPT / 4);
+    assert_eq!(full.judge_listing(&[p1, constant(4)]).len(), 1);
+    assert_eq!(full.judge_listing(&[0x8001]).len(), 0);
     // the model on the same words
     let all = beside::backward(&full.tree, &[p1, x], ENOUGH_BUDGET, KEPT);
     let mut numbers: Vec<u32> = full.book.pairs.iter().map(|pair| pair.number).collect();
@@ -267,7 +263,7 @@ fn full_trees() {
 fn most_candidates() {
     let mut random = Random(73);
     let constant = |i: u16| word(FUNCTION, 0, 1 + i);
-    let full = Full::of(&mut random, |i, _| [0x8801, constant(i)].repeat(8));
+    let full = Full::of_clauses(&mut random, |i, _| [0x8801, constant(i)].repeat(8));
     let variables = (0..7).flat_map(|i| [0x8801, word(VARIABLE, 0, i)]);
     let given: Vec<u16> = variables.chain([0x8002]).collect();
     let enough = Listing::of(&[], ENOUGH_BUDGET, 2);

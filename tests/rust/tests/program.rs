@@ -1,19 +1,15 @@
 //! The built program on whole pages: every byte that it prints is the model's. With `back` it is run by program_back.rs.
-mod drawn;
-mod running;
-mod sheet;
-
-use drawn::pages::{any_page, fill, full_page};
-use drawn::repeated::repeating_page;
-use drawn::tally::Tally;
-use drawn::units::unit_page;
-use drawn::Random;
+use crate::drawn::pages::{any_page, fill, full_page};
+use crate::drawn::repeated::repeating_page;
+use crate::drawn::tally::Tally;
+use crate::drawn::units::unit_page;
+use crate::drawn::Random;
+use crate::running::{expect_same, BLOCKS, PLAIN};
+use crate::sheet::strikes::expect_strikes;
+use crate::sheet::units::expect_units;
+use crate::sheet::{expect_sheet, Report};
 use model::pages::{pages, record, record_counting};
 use model::program::{records, Outcome, Record, Ruling, Setting};
-use running::{expect_same, BLOCKS, PLAIN};
-use sheet::strikes::expect_strikes;
-use sheet::units::expect_units;
-use sheet::{expect_sheet, Report};
 
 #[test]
 fn stored_pages() {

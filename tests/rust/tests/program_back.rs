@@ -1,20 +1,16 @@
 //! The built program with the argument `back`: every byte that it prints is the model's, and what is claimed of its lines and its sheet holds by the text
 //! alone and an ordinary matcher.
-mod drawn;
-mod running;
-mod sheet;
-
-use drawn::back::{clearing_full_list, clearing_full_tree, clearing_page, clearing_units};
-use drawn::pages::{any_page, fill, full_page};
-use drawn::repeated::repeating_page;
-use drawn::tally::Tally;
-use drawn::Random;
+use crate::drawn::back::{clearing_full_list, clearing_full_tree, clearing_page, clearing_units};
+use crate::drawn::pages::{any_page, fill, full_page};
+use crate::drawn::repeated::repeating_page;
+use crate::drawn::tally::Tally;
+use crate::drawn::Random;
+use crate::running::{expect_same, Run, BACK, BLOCKS, PLAIN};
+use crate::sheet::removals::expect_removals;
+use crate::sheet::{expect_sheet, Report};
 use model::back_pages::{back_pages, room_page};
 use model::pages::{pages, record, record_counting};
 use model::program::{records, Setting};
-use running::{expect_same, Run, BACK, BLOCKS, PLAIN};
-use sheet::removals::expect_removals;
-use sheet::{expect_sheet, Report};
 
 #[test]
 fn stored_pages() {

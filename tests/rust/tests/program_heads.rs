@@ -1,16 +1,13 @@
 //! The built program where its index of heads matters: many heads, heads that go and come again, literals in any order, full trees and lists, inputs of
 //! several blocks. Every byte that it prints is the model's, which has no index.
-mod drawn;
-mod running;
-
-use drawn::repeated::literals;
-use drawn::tally::Tally;
-use drawn::{renamed, Random};
+use crate::drawn::repeated::literals;
+use crate::drawn::tally::Tally;
+use crate::drawn::{renamed, Random};
+use crate::running::{expect_same, Run, BACK, PLAIN};
 use model::limits::{CLAUSE_WORDS, KEPT, LITERALS, PROGRAM_TREE};
 use model::pages::record;
 use model::program::{lines, records, sheet, Outcome, Program, Record, Ruling, Setting};
 use model::words::{arity, is_variable, word, FUNCTION, NEGATIVE, POSITIVE, VARIABLE};
-use running::{expect_same, Run, BACK, PLAIN};
 use std::collections::{BTreeMap, BTreeSet};
 use std::thread::panicking;
 

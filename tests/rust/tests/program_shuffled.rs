@@ -1,22 +1,18 @@
 //! Pages shuffled (F-7): the built program with `back` on the same records in several orders. What it keeps is compared by the printed texts and an
 //! ordinary matcher; then every byte is the model's.
-mod drawn;
-mod running;
-mod sheet;
-
-use drawn::orders::{
+use crate::drawn::orders::{
     by_generality, cut_page, family_records, few_orders, orders, page, renumbered, reversed,
     strangers, with_instances,
 };
-use drawn::tally::Tally;
-use drawn::Random;
+use crate::drawn::tally::Tally;
+use crate::drawn::Random;
+use crate::running::{expect_same, Run, BACK, PLAIN};
+use crate::sheet::orders::{expect_alike, failing, numbers_differ, LastBook, Part};
 use model::back_pages::{back_pages, filler};
 use model::limits::{KEPT, PROGRAM_TREE};
 use model::notation::clause;
 use model::pages::{pages, record};
 use model::program::{lines, records, rulings, sheet, Outcome, Record, Ruling, Setting};
-use running::{expect_same, Run, BACK, PLAIN};
-use sheet::orders::{expect_alike, failing, numbers_differ, LastBook, Part};
 
 // What the program keeps of a page, by its text.
 fn printed(run: Run, page: &[u8], what: &str) -> LastBook {

@@ -1,7 +1,6 @@
 //! The points that are easy to read otherwise (docs/DECISIONS.md), each on a small input: library and model have to answer as decided.
-mod beside;
-
-use beside::{Asked, UNWRITTEN};
+use crate::beside;
+use crate::beside::{Asked, UNWRITTEN};
 use model::by_hand::with_much_stack;
 use model::calls::{Cover, Listed};
 use model::instruction::{header, Instruction, Operation};

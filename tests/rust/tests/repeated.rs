@@ -1,16 +1,12 @@
 //! Clauses with many repeated literals, beside an ordinary matcher: each literal of a kept clause falls on a literal of its own, and equal ones at
 //! two places are two.
-mod beside;
-mod drawn;
-mod set;
-
-use drawn::repeated::{literals, REPEATING};
-use drawn::tally::Tally;
-use drawn::{Random, Style};
+use crate::drawn::repeated::{literals, REPEATING};
+use crate::drawn::tally::Tally;
+use crate::drawn::{Random, Style};
+use crate::set::Set;
 use model::calls::Cover;
 use model::matcher::{search, shows};
 use model::reader::read;
-use set::Set;
 
 impl Set<'_> {
     // A query at the full budget and some others, and at each budget around its count.

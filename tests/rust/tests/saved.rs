@@ -1,12 +1,11 @@
 //! Saved trees checked and read back: those of lists of calls beside the clause book, spoilt and hand-made slices beside the model.
-mod beside;
-mod drawn;
-mod set;
-
-use beside::ReadBack;
-use drawn::spoilt::each_change;
-use drawn::tally::Tally;
-use drawn::{Random, Style, STYLES};
+use crate::beside;
+use crate::beside::ReadBack;
+use crate::drawn::spoilt::each_change;
+use crate::drawn::tally::Tally;
+use crate::drawn::{Random, Style, STYLES};
+use crate::set::full::Full;
+use crate::set::Set;
 use model::book::Book;
 use model::by_hand::{self, chain, with_much_stack, Example};
 use model::compiler::sequence;
@@ -19,8 +18,6 @@ use model::refusal::Refusal;
 use model::saved::renumbered;
 use model::tree::Path;
 use model::words::{word, NEGATIVE};
-use set::full::Full;
-use set::Set;
 
 // Lengths of an output.
 const OUTPUTS: [usize; 4] = [OUTPUT_WORDS, OUTPUT_WORDS + 1, OUTPUT_WORDS + 2, 300];
@@ -72,7 +69,7 @@ fn make_again(tree: &[u64], queries: &[Vec<u16>], random: &mut Random, tally: &m
 }
 
 impl Set<'_> {
-    fn call(&mut self, style: Style) {
+    fn change(&mut self, style: Style) {
         if self.random.one_in(4) {
             let number = self.any_removal();
             return self.remove(number);
@@ -115,7 +112,7 @@ fn lists_of_calls() {
         let mut set = Set::new(length, &mut random, &mut tally);
         set.judge_saved();
         for _ in 0..5 + set.random.below(20) {
-            set.call(style);
+            set.change(style);
             if set.random.one_in(6) {
                 set.judge_saved();
             }
@@ -147,7 +144,7 @@ fn lists_of_calls() {
 
 impl Full {
     // Random clauses up to the most, or until little room is left: none takes more than 321 words.
-    fn of(style: Style, random: &mut Random) -> Full {
+    fn at_random(style: Style, random: &mut Random) -> Full {
         let mut full = Full::new();
         while full.book.pairs.len() < KEPT && full.book.tree.used() < TREE_MOST - 400 {
             let (clause, number) = (random.clause(style), random.next() as u32);
@@ -184,7 +181,7 @@ impl Full {
         }
     }
 
-    fn judge(&self, every: usize, random: &mut Random, tally: &mut Tally) {
+    fn judge_saved(&self, every: usize, random: &mut Random, tally: &mut Tally) {
         let Full { tree, book } = self;
         assert!(*tree == book.tree.words(), "the words of a full tree");
         assert_eq!(beside::check(tree), Ok(()));
@@ -207,12 +204,12 @@ fn full_trees() {
     let mut random = Random(52);
     let mut tally = Tally::default();
     let [middle, large] = [STYLES[3], STYLES[6]];
-    let full = Full::of(middle, &mut random);
+    let full = Full::at_random(middle, &mut random);
     assert_eq!(full.book.pairs.len(), KEPT);
-    full.judge(1, &mut random, &mut tally);
-    let mut full = Full::of(large, &mut random);
+    full.judge_saved(1, &mut random, &mut tally);
+    let mut full = Full::at_random(large, &mut random);
     full.fill_up();
-    full.judge(5, &mut random, &mut tally);
+    full.judge_saved(5, &mut random, &mut tally);
     tally.assert_least(&[
         ("clauses read back", 1_100),
         ("read back with 60 or more words", 50),

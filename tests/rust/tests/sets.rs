@@ -1,14 +1,10 @@
 //! Random sets: lists of insertions, removals and queries on a tree, beside the clause book and an ordinary matcher.
-mod beside;
-mod drawn;
-mod set;
-
-use drawn::tally::Tally;
-use drawn::{Random, Style, STYLES};
+use crate::drawn::tally::Tally;
+use crate::drawn::{Random, Style, STYLES};
+use crate::set::Set;
 use model::limits::{ENOUGH_BUDGET, KEPT, LITERALS};
 use model::matcher::most_tries;
 use model::words::{word, FUNCTION, NEGATIVE, POSITIVE, VARIABLE};
-use set::Set;
 
 impl Set<'_> {
     // A removal, or a query and, every other time, the insertion of its clause.

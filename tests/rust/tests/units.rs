@@ -1,18 +1,15 @@
 //! Sets of units: where every kept clause has a single literal, an ordinary matcher tells whether a query is covered, and its count, at each budget.
-mod beside;
-mod drawn;
-mod set;
-
-use beside::Asked;
-use drawn::tally::Tally;
-use drawn::units::numbered_unit;
-use drawn::{Random, Style, STYLES};
+use crate::beside;
+use crate::beside::Asked;
+use crate::drawn::tally::Tally;
+use crate::drawn::units::numbered_unit;
+use crate::drawn::{Random, Style, STYLES};
+use crate::set::Set;
 use model::calls::Cover;
 use model::limits::{FULL_BUDGET, KEPT, WITNESS_WORDS};
 use model::matcher::{first_struck, shows, unit_candidates};
 use model::reader::{read, Term};
 use model::refusal::Refusal;
-use set::Set;
 
 // What the matcher says of a query: the place of its first literal that a kept unit falls on, and the candidates that it takes.
 struct Predicted {
@@ -110,7 +107,7 @@ impl Set<'_> {
     }
 
     // A removal, an insertion or a query.
-    fn call(&mut self, style: Style) {
+    fn call_with_units(&mut self, style: Style) {
         match self.random.below(12) {
             0 => {
                 let number = self.any_removal();
@@ -226,7 +223,7 @@ fn sets_of_units() {
             set.insert_unit(style, number);
         }
         for _ in 0..10 + set.random.below(30) {
-            set.call(style);
+            set.call_with_units(style);
         }
         set.call_with_double(style);
         set.finish_units(style);

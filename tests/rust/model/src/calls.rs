@@ -23,6 +23,14 @@ impl Cover {
             Cover::Covered { count, .. } | Cover::NotCovered { count } => count,
         }
     }
+
+    /// What is told of it: whether it is covered, the number, the count.
+    pub fn values(self) -> Vec<u64> {
+        match self {
+            Cover::Covered { number, count } => vec![1, number as u64, count],
+            Cover::NotCovered { count } => vec![0, 0, count],
+        }
+    }
 }
 
 /// The answer to an accepted listing: how many numbers, and the candidates tried in all.
@@ -30,6 +38,13 @@ impl Cover {
 pub struct Listed {
     pub many: usize,
     pub candidates: u64,
+}
+
+impl Listed {
+    /// What is told of it.
+    pub fn values(self) -> Vec<u64> {
+        vec![self.many as u64, self.candidates]
+    }
 }
 
 fn refuse_if(refused: bool, refusal: Refusal) -> Result<(), Refusal> {

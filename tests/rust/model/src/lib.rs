@@ -1,5 +1,5 @@
 //! Document 01 with the changes F-1 to F-6 of document 02 in plain Rust, written from their words and with nothing of the proved code.
-//! The tests hold the proved calls and the program against it, and it makes the expected lines of tests/pages and crates/cases.
+//! The tests hold the proved calls and the program against it, and it makes the expected lines of tests/pages and tests/rust/cases.
 //! A change of documents 01 and 02 is made here first.
 
 pub mod back_pages;

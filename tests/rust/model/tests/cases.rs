@@ -1,5 +1,5 @@
 //! The command of the cases that lists backwards, on the readings F6-1, F6-3 and F6-11 and each refusal.
-use model::cases::output;
+use model::cases::{output, Model};
 
 // A row and its line: 1 has P, 2 has P,Q, and 4294967295 has R(a).
 const ROWS: [(&str, &str); 16] = [
@@ -30,7 +30,7 @@ const ROWS: [(&str, &str); 16] = [
 #[test]
 fn listing_backwards() {
     let rows: String = ROWS.iter().map(|(row, _)| format!("{row}\n")).collect();
-    let lines = output(&rows);
+    let lines = output::<Model>(&rows);
     assert_eq!(lines.lines().count(), ROWS.len());
     for (line, (_, expected)) in lines.lines().zip(ROWS) {
         assert_eq!(line, expected);

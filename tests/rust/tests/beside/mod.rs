@@ -1,5 +1,4 @@
 //! Each call is put to the library and to the model; answer, told words and every lent word have to be the same.
-#![allow(dead_code)]
 use code_tree::raw;
 use model::calls::{self, Cover, Listed};
 use model::refusal::Refusal;
@@ -103,17 +102,10 @@ pub fn query(tree: &[u64], clause: &[u16], budget: u64, witness_words: usize) ->
     let mut written = vec![UNWRITTEN; witness_words];
     let mut words = [UNTOLD; 4];
     let code = raw::query(tree, clause, budget, &mut written, &mut words);
-    let expected = told(answer.map(values));
+    let expected = told(answer.map(Cover::values));
     assert_eq!((code, words), expected, "query {clause:04x?} for {budget}");
     assert_eq!(written, witness, "witness of {clause:04x?} for {budget}");
     Asked { answer, witness }
-}
-
-fn values(cover: Cover) -> Vec<u64> {
-    match cover {
-        Cover::Covered { number, count } => vec![1, number as u64, count],
-        Cover::NotCovered { count } => vec![0, 0, count],
-    }
 }
 
 /// The ceiling.
@@ -223,9 +215,12 @@ pub fn expect_backward(tree: &[u64], clause: &[u16], budget: u64, expected: &Lis
     list.fill(UNLISTED);
     let mut words = [UNTOLD; 4];
     let code = raw::backward(tree, clause, budget, list, &mut words);
-    let values = |listed: Listed| vec![listed.many as u64, listed.candidates];
     let what = format!("backward {clause:04x?} for {budget} to {length}");
-    assert_eq!((code, words), told(expected.answer.map(values)), "{what}");
+    assert_eq!(
+        (code, words),
+        told(expected.answer.map(Listed::values)),
+        "{what}"
+    );
     assert_eq!(*list, expected.list, "list of {what}");
     let guards = [&around[..GUARDS], &around[GUARDS + length..]].concat();
     assert_eq!(guards, [GUARD; 2 * GUARDS], "words around {what}");

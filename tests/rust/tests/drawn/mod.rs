@@ -1,5 +1,4 @@
 //! Random clauses: few symbols and variables, new ones and such as are made from another clause.
-#![allow(dead_code)]
 pub mod back;
 pub mod general;
 pub mod orders;

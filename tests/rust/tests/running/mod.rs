@@ -1,6 +1,5 @@
 //! The built program run with arguments, beside the model: every byte that it prints has to be the model's. SUBSUME_BIN names it, or it is
 //! target/bin/subsume.
-#![allow(dead_code)]
 use model::pages::Page;
 use model::program::{output, Setting};
 use std::fs::{read, read_dir, read_to_string, remove_file, write, File};

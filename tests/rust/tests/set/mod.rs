@@ -1,5 +1,4 @@
 //! A tree and the clause book of its calls: each call beside the book, each answer to a query beside an ordinary matcher.
-#![allow(dead_code)]
 pub mod full;
 
 use crate::beside::{self, Asked};

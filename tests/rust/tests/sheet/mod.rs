@@ -1,5 +1,4 @@
 //! A printed text read back, and what is claimed of its tally sheet: it fits the lines above it and the records of the input.
-#![allow(dead_code)]
 pub mod orders;
 pub mod removals;
 pub mod strikes;

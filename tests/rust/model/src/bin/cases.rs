@@ -1,8 +1,9 @@
-//! Writes the lines of the rows on standard input: crates/cases/stdout is what it writes of crates/cases/stdin.
+//! Writes the model's lines of the rows on standard input: tests/rust/cases/lines.txt is what it writes of rows.txt there.
+use model::cases::{output, Model};
 use std::io::{read_to_string, stdin};
 
 fn main() -> std::io::Result<()> {
     let rows = read_to_string(stdin())?;
-    print!("{}", model::cases::output(&rows));
+    print!("{}", output::<Model>(&rows));
     Ok(())
 }
