@@ -1,7 +1,7 @@
 // The C interface: the calls (docs/REFERENCE.md, "Calls") on pointers and lengths (include/code_tree.h).
 ghost use mathlib.Core.Path.{_≡_};
 ghost use Rattle.interface.specs.Calls.{ctFresh, ctInsert, ctRemove, ctQuery, ctCeiling, ctReadBack, ctCheck, ctBackward};
-ghost use Rattle.interface.specs.Claims.{CtReach, CtDemand2, CtDemand3, CtExactCount, CtChecked, CtReadsBook, CtSavedIsMade, CtListsBook, ToldApart};
+ghost use Rattle.interface.specs.Claims.{CtDemand1, CtReach, CtDemand2, CtDemand3, CtExactCount, CtChecked, CtReadsBook, CtSavedIsMade, CtListsBook, ToldApart};
 
 // Makes an empty tree of a slice. Returns 0 or 1.
 #[no_mangle]
@@ -12,10 +12,12 @@ pub extern "C" fn ct_fresh(tree: &mut [u64]) -> u64
 }
 
 // Inserts a clause under a number. Returns 0 or a code; tells the position for 4 and 5, the number for 8.
+// The contract carries what is claimed of the refusals of all these functions.
 #[no_mangle]
 pub extern "C" fn ct_insert(tree: &mut [u64], clause: &[u16], number: u32, told: &mut [u64]) -> u64
-    ensures { λ r. ⌜ record { number = r; words = now (tree .exit); told = now (told .exit) }
+    ensures hands { λ r. ⌜ record { number = r; words = now (tree .exit); told = now (told .exit) }
         ≡ ctInsert (now (tree .entry)) (now (clause .entry)) number (now (told .entry)) ⌝ }
+    ensures refusals { λ _. ⌜ CtDemand1 ⌝ }
 {
     reply::hand_call(insertion::insert(tree, clause, number), told)
 }

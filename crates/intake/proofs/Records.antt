@@ -23,6 +23,7 @@ use Rattle.record.specs.Counters.{countersAfter, shownFrom, shownSheet}
 use Rattle.record.specs.Sheet.{Bytes}
 use Rattle.record.specs.Tallies.{mostBytes}
 use Rattle.intake.specs.Feed.{Store, storeOf, Fed, finishing, recordEnded, takeField, feedThen, feed, firstSession, firstStore, fedWhole, printedOf, WholeInput}
+use Rattle.record.proofs.Text.{decimal-reads}
 use Rattle.record.proofs.Rows.{slice-more}
 use Rattle.record.proofs.Counting.{marksWith, countersWith}
 use Rattle.record.proofs.Sheets.{slice-from, sheets, no-strike-is-wrong}
@@ -233,6 +234,7 @@ whole-input =
       blocks = λ v s m a b. feed-append v a b s m;
       prints = listing;
       leaves = λ v input. ap (λ (p : Prints). p .slice) (whole v input) ∙ sym (slice-from (rowCalls (rowsOf v input)));
+      reads-back = decimal-reads;
       sheets = sheets;
       strikes = no-strike-is-wrong;
       covered = all-covered;

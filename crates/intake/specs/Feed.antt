@@ -7,6 +7,7 @@ use lib.Dec.{ltb, eqb}
 use lib.ListN.{length, take, set, replicate}
 use Rattle.clause.specs.Clause.{maxWords}
 use Rattle.book.specs.Book.{sliceOf}
+use Rattle.record.specs.Text.{DecimalReads}
 use Rattle.record.specs.Line.{linesFor, totalsLine}
 use Rattle.record.specs.Answer.{treeWords, Answered, left, answerTo}
 use Rattle.record.specs.Marks.{numberCount, marked}
@@ -131,6 +132,8 @@ pub record WholeInput : Type 0 where
   pub blocks : (v : Setting) (s : Session) (m : Store) (a b : List ℕ) → feed v s m (a ++ b) ≡ feedThen (feed v s m a) (λ s′ m′. feed v s′ m′ b)
   pub prints : (v : Setting) (input : List ℕ) → fedWhole v input .text ++ totalsLine v (fedWhole v input .session .totals) ≡ listingOf v input
   pub leaves : (v : Setting) (input : List ℕ) → fedWhole v input .store .slice ≡ sliceOf freshSlice (rowCalls (rowsOf v input))
+  -- a printed number reads back as itself
+  pub reads-back : DecimalReads
   -- what becomes of each record, by the clauses that are kept before it; and in one sentence
   pub sheets : Sheets
   pub strikes : NoStrikeIsWrong

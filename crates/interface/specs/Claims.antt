@@ -1,30 +1,57 @@
--- What is claimed of the calls that C makes: lists of calls, queries, checks, clauses read back and listed after them, in terms of the numbers returned
--- and the words told.
+-- What is claimed of the calls that C makes: each call, and lists of calls, queries, checks, clauses read back and listed after them, in terms of the
+-- numbers returned and the words told.
 use mathlib.Core.Path.{_≡_}
 use mathlib.Core.Logic.{_↔_, _≢_, _⊎_}
 use mathlib.Core.Option.{Option}
 use mathlib.Core.List.{List, [], _∷_, map, List·Memᴰ}
 use Prim.Native.Nat.{ℕ, _*_, _≤_, _<_}
-use lib.ListN.{length}
+use lib.ListN.{length, replicate}
 use Rattle.clause.specs.Lists.{Each}
 use Rattle.clause.specs.Word.{Words}
 use Rattle.clause.specs.Clause.{Accepted, Subsumes, literals, maxWords}
+use Rattle.machine.specs.Compile.{keys}
 use Rattle.tree.specs.Keys.{firstKey}
-use Rattle.tree.specs.Forest.{layout}
+use Rattle.tree.specs.Forest.{layout, ins, del, find}
+use Rattle.tree.specs.Laid.{decode}
 use Rattle.tree.specs.Entries.{Pair}
 use Rattle.tree.specs.Calls.{fresh, insertion, removal}
-use Rattle.readback.specs.Readback.{normal}
-use Rattle.readback.specs.Saved.{IsTreeOf, IsSaved}
+use Rattle.readback.specs.Readback.{normal, clauseAt}
+use Rattle.readback.specs.Saved.{IsTreeOf, IsSaved, pairsOf}
 use Rattle.readback.specs.Calls.{check, over, readBack}
+use Rattle.backward.specs.Listing.{rising, listFrom}
 use Rattle.backward.specs.Calls.{backward}
 use Rattle.backward.specs.Laws.{queried, triesOf, SpentAt, FullAt}
 use Rattle.walk.specs.Ceiling.{ceiling, arrangements, fullBudget, enoughBudget, ceilingCall}
-use Rattle.walk.specs.Query.{witnessWords, withShown, query}
+use Rattle.walk.specs.Query.{witnessWords, withShown, walkSlice, query}
 use Rattle.walk.specs.Covering.{most, Units, Subsumed, Shows, Untouched, candidates}
+use Rattle.book.specs.Table.{ready, kept, removed, returned, passed}
+use Rattle.book.specs.Refusals.{firstOf, freshRows, ceilingRows, insertRows, removeRows, queryRows, checkRows, readRows, backRows}
+use Rattle.book.specs.Refusals.{finished, unlessRefused, unlessSaid, walkResult, readResult, listResult}
 use Rattle.book.specs.Book.{Call, insert, remove, Fit, AllFit, bookStep, bookFrom, bookOf, treeOf}
 use Rattle.book.specs.Claims.{Under, Renamed}
-use Rattle.interface.specs.Told.{toldBy}
-use Rattle.interface.specs.Calls.{Left, Handed, ctFresh, ctInsert, ctRemove, ctQuery, ctCeiling, ctReadBack, ctCheck, ctBackward}
+use Rattle.interface.specs.Told.{numberOf, toldBy, replied}
+use Rattle.interface.specs.Calls.{Left, Handed, left, handed, ctFresh, ctInsert, ctRemove, ctQuery, ctCeiling, ctReadBack, ctCheck, ctBackward}
+
+-- ---- each call
+
+-- Demand 1: every call, on any words, returns the code of the first refusal of its rows that applies, tells that refusal's values and leaves every other
+-- lent word; or it returns 0 and does what it is for. A query and a listing may still meet 2, 12 or 16, with the lent words left too
+pub record CtDemand1 : Type 0 where
+  pub freshening : (T : List ℕ) → ctFresh T ≡ left (unlessRefused (firstOf (freshRows T)) T (finished ready (replicate (length T) 0)))
+  pub inserting : (T c : List ℕ) (n : ℕ) (ts : List ℕ)
+      → ctInsert T c n ts ≡ handed (unlessRefused (firstOf (insertRows T c n)) T (finished kept (layout (length T) (ins (keys c) n (decode T))))) ts
+  pub removing : (T : List ℕ) (n : ℕ)
+      → ctRemove T n ≡ left (unlessRefused (firstOf (removeRows T n)) T (finished removed (layout (length T) (del n (decode T)))))
+  pub asking : (T d : List ℕ) (b : ℕ) (W ts : List ℕ)
+      → ctQuery T d b W ts ≡ handed (unlessRefused (firstOf (queryRows T d W)) W (walkResult b W (walkSlice T d b))) ts
+  pub bounding : (k q m : ℕ) (ts : List ℕ)
+      → ctCeiling k q m ts ≡ replied (unlessSaid (firstOf (ceilingRows k q m)) (record { title = returned; values = ceiling k q m ∷ [] })) ts
+  pub checking : (T : List ℕ) → ctCheck T ≡ numberOf (unlessSaid (firstOf (checkRows T)) (record { title = passed; values = [] }) .title)
+  pub reading-back : (T : List ℕ) (n : ℕ) (W ts : List ℕ)
+      → ctReadBack T n W ts ≡ handed (unlessRefused (firstOf (readRows T n W)) W (readResult (clauseAt (find n (decode T))) W)) ts
+  pub listing : (T c : List ℕ) (b : ℕ) (L ts : List ℕ)
+      → ctBackward T c b L ts
+      ≡ handed (unlessRefused (firstOf (backRows T c)) L (listResult b L (listFrom c b (rising (pairsOf (decode T))) (length L) 0))) ts
 
 -- ---- lists of calls
 

@@ -1,49 +1,16 @@
--- The digits of a number without fuel, and text put into the output piece by piece.
+-- Text put into the output piece by piece, and a number digit after digit.
 use mathlib.Core.Path.{_≡_, refl, sym, ap, _∙_}
 use mathlib.Core.List.{List, [], _∷_, _++_}
-use mathlib.Core.Bool.{Bool, true, false}
-use Prim.Native.Nat.{ℕ, zero, suc, _+_, _/_, _%_, _^_, _≤_, _<_}
+use Prim.Native.Nat.{ℕ, suc, _+_, _/_, _%_, _^_, _≤_, _<_}
 use native.Mathlib.Omega.{arith}
-use native.Mathlib.Decide.{decLt}
 use native.Mathlib.Numerals.{add-one}
 use lib.ListN.{length, take, drop, getD, length-append, drop-of-length-le, set}
 use lib.Seq.{sets, sets-eq, set-comm, length-sets, take-suc, take-at, drop-cons, length-take-le}
-use borrow.Author.Tests.{lt-ltb, le-ltb}
-use Rattle.record.specs.Text.{digitsFor, decimal, Written, putAt}
+use Rattle.record.specs.Text.{decimal, Written, putAt}
 use Rattle.record.specs.Line.{named, saysRemoved, removalLine, removalLines, removedTotal}
 use Rattle.record.specs.declared.Setting.{Setting}
 use Rattle.record.specs.declared.Setting.the-variants.{Plain, Back}
-
--- one digit, or the digits before the last one and the last one
-digits-small : (f n : ℕ) → n < 10 → digitsFor (suc f) n ≡ (48 + n) ∷ []
-unfolding digitsFor
-digits-small f n h = ap (λ (b : Bool). elim b as (λ x. List ℕ) [ true ↦ (48 + n) ∷ [] | false ↦ digitsFor f (n / 10) ++ ((48 + n % 10) ∷ []) ]) (lt-ltb n 10 h)
-
-digits-large : (f n : ℕ) → 10 ≤ n → digitsFor (suc f) n ≡ digitsFor f (n / 10) ++ ((48 + n % 10) ∷ [])
-unfolding digitsFor
-digits-large f n h = ap (λ (b : Bool). elim b as (λ x. List ℕ) [ true ↦ (48 + n) ∷ [] | false ↦ digitsFor f (n / 10) ++ ((48 + n % 10) ∷ []) ]) (le-ltb n 10 h)
-
--- the fuel does not matter
-digits-fuel : (f g n : ℕ) → n < f → n < g → digitsFor f n ≡ digitsFor g n
-digits-fuel zero g n h k = absurd (omega arith)
-digits-fuel (suc f) zero n h k = absurd (omega arith)
-digits-fuel (suc f) (suc g) n h k = go (decLt n 10) (digits-fuel f g (n / 10))
-  where
-    go : Dec (n < 10) → (n / 10 < f → n / 10 < g → digitsFor f (n / 10) ≡ digitsFor g (n / 10)) → digitsFor (suc f) n ≡ digitsFor (suc g) n
-    go (yes s) ih = digits-small f n s ∙ sym (digits-small g n s)
-    go (no s) ih =
-        let e : digitsFor f (n / 10) ≡ digitsFor g (n / 10) = ih (omega arith) (omega arith) in
-        digits-large f n (omega arith) ∙ rw e (sym (digits-large g n (omega arith)))
-
-pub decimal-small : (n : ℕ) → n < 10 → decimal n ≡ (48 + n) ∷ []
-unfolding decimal
-decimal-small n h = digits-small n n h
-
-pub decimal-large : (n : ℕ) → 10 ≤ n → decimal n ≡ decimal (n / 10) ++ ((48 + n % 10) ∷ [])
-unfolding decimal
-decimal-large n h =
-    let e : digitsFor n (n / 10) ≡ digitsFor (suc (n / 10)) (n / 10) = digits-fuel n (suc (n / 10)) (n / 10) (omega arith) (omega arith) in
-    digits-large n n h ∙ rw e
+use Rattle.record.proofs.Text.{decimal-small, decimal-large, length-small, length-large, decimal-length}
 
 -- text in two pieces
 sets-append : (s t o : List ℕ) (at : ℕ) → sets o at (s ++ t) ≡ sets (sets o at s) (at + length s) t
@@ -69,20 +36,6 @@ text-there t o h e =
     ∙ rw (sets-eq t o 0 (omega arith)) (take-at t (drop (0 + length t) o) (0 + length t) (omega arith))
 
 -- ---- a number, digit after digit
-
-pub length-small : (n : ℕ) → n < 10 → length (decimal n) ≡ 1
-length-small n h = ap length (decimal-small n h)
-
-pub length-large : (n : ℕ) → 10 ≤ n → length (decimal n) ≡ length (decimal (n / 10)) + 1
-length-large n h = ap length (decimal-large n h) ∙ length-append (decimal (n / 10)) ((48 + n % 10) ∷ [])
-
--- every number has a digit
-pub decimal-some : (n : ℕ) → 0 < length (decimal n)
-decimal-some n = go (decLt n 10)
-  where
-    go : Dec (n < 10) → 0 < length (decimal n)
-    go (yes s) = omega (arith, length-small n s)
-    go (no s) = omega (arith, length-large n (omega arith))
 
 -- a byte after some text may be put before the text
 sets-set : (t o : List ℕ) (at i b : ℕ) → at + length t ≤ i → set (sets o at t) i b ≡ sets (set o i b) at t
@@ -124,16 +77,7 @@ pub joined : (s t o : List ℕ) (at : ℕ) {r : ℕ} {p : List ℕ} {w : Written
     → w ≡ putAt t p r → w ≡ putAt (s ++ t) o at
 joined s t o at e f = f ∙ ap (λ (v : Written). putAt t (v .output) (v .next)) e ∙ sym (putAt-append s t o at)
 
--- ---- how long a number is
-
--- a number below 10 to the power k + 1 has at most k + 1 digits
-pub decimal-length : (k n : ℕ) → n < 10 ^ suc k → length (decimal n) ≤ suc k
-decimal-length zero n h = omega (arith, length-small n (omega arith))
-decimal-length (suc k) n h = go (decLt n 10) (decimal-length k (n / 10))
-  where
-    go : Dec (n < 10) → (n / 10 < 10 ^ suc k → length (decimal (n / 10)) ≤ suc k) → length (decimal n) ≤ suc (suc k)
-    go (yes s) ih = omega (arith, length-small n s)
-    go (no s) ih = omega (arith, length-large n (omega arith), ih (omega arith))
+-- ---- how long a text with a number is
 
 -- some text and a number of at most k + 1 digits after it: how far on the place after them is, and the output's length
 pub named-put : (t : List ℕ) (k n : ℕ) → n < 10 ^ suc k → (o : List ℕ) (at : ℕ) {r : ℕ} {p : List ℕ}

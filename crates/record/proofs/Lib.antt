@@ -1,3 +1,4 @@
+pub mod Text
 pub mod Clearing
 pub mod Reading
 pub mod Ruling

@@ -9,9 +9,10 @@ use Rattle.tree.specs.Entries.{Pair}
 use Rattle.tree.specs.Calls.{fresh}
 use Rattle.book.specs.Book.{Call, after, sliceOf, bookFrom, treeOf}
 use Rattle.record.specs.Answer.{treeWords, Record}
-use Rattle.record.specs.Output.{recordsOf, Row, rowOn, freshSlice, rowsOf, rowCalls, none}
+use Rattle.record.specs.Output.{recordsOf, Row, rowOn, freshSlice, rowsOf, rowCalls, totalsWith, none}
 use Rattle.record.specs.Sheet.{Bytes, bookAfter, takenOut, keptPairs, BookStands, KeptCovers, RowAt, RowClaims, Covers, Sheets, NoStrikeIsWrong}
 use Rattle.record.specs.declared.Setting.{Setting}
+use Rattle.record.specs.declared.Setting.the-variants.{Plain}
 use Rattle.tree.specs.declared.CallAnswer.the-variants.{Ready}
 use Rattle.clause.specs.Lists.{nobody}
 use Rattle.book.proofs.Holds.{holds-empty, fresh-layout, holds-numbers, holds-clauses}
@@ -20,7 +21,8 @@ use Rattle.record.proofs.Clearing.{clear-empty}
 use Rattle.record.proofs.Ruling.{Fate, ruled, ruled-codes, ruled-by-units}
 use Rattle.record.proofs.Entering.{book-append, Standing, standing-after}
 use Rattle.record.proofs.Rows.{Made, made, rows-records, made-first, made-last, made-row, made-fit, Fated, fated, fated-first, fated-last, fated-row}
-use Rattle.record.proofs.Rows.{kept-book, kept-count, rows-four, rows-removed, mem-kept, rows-covered, rows-apart, StruckBy, fate-struck, struck-book}
+use Rattle.record.proofs.Rows.{kept-book, kept-count, fourOf, rows-four, rows-removed, rows-plain, mem-kept, rows-covered, rows-apart}
+use Rattle.record.proofs.Rows.{StruckBy, fate-struck, struck-book}
 
 -- ---- the slice before the first record
 
@@ -131,16 +133,19 @@ unfolding rowsOf
 sheets v input b =
     let m = rows-made v input b in
     let f = rows-fated v input b in
+    let all : fourOf (totalsWith none (rowsOf v input)) ≡ length (recordsOf input) =
+    omega (
+      arith,
+      rows-four none f refl,
+      length-map (rowsOf v input) (λ (r : Row). r .of),
+      ap length (rows-records v freshSlice (recordsOf input)),
+    ) in
+    let out : v ≡ Plain → totalsWith none (rowsOf v input) .removed ≡ 0 = λ e. omega (arith, rows-removed none f, ap length (rows-plain (fated-as e f))) in
     record {
       reads = complete input;
       rows = rows-records v freshSlice (recordsOf input);
-      counts =
-          omega (
-            arith,
-            rows-four none f refl,
-            length-map (rowsOf v input) (λ (r : Row). r .of),
-            ap length (rows-records v freshSlice (recordsOf input)),
-          );
+      counts = all;
+      plain = λ e. (out e, omega (arith, all, out e));
       placed = placed m f;
       stands = stands m;
       covers = covers v input f;

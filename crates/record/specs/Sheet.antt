@@ -127,6 +127,8 @@ pub record Sheet (s : Setting) (input : List ℕ) : Type 0 where
   pub reads : Complete (recordsOf input) (fields input)
   pub rows : map (λ r. r .of) (rowsOf s input) ≡ recordsOf input
   pub counts : let t = totalsWith none (rowsOf s input) in t .kept + t .struck + t .refused + t .removed ≡ length (recordsOf input)
+  -- without backward striking none is removed: kept, struck and refused add up to the complete records
+  pub plain : s ≡ Plain → let t = totalsWith none (rowsOf s input) in (t .removed ≡ 0) × (t .kept + t .struck + t .refused ≡ length (recordsOf input))
   -- each row in its place, and the last book
   pub placed : (a : RowAt (rowsOf s input)) → RowClaims s a
   pub stands : BookStands (rowsOf s input)

@@ -30,7 +30,8 @@ pub record RowStands (rs : List Row) (t : TallyRow) : Type 0 where
   -- and a `kept` line of the row's number has a clause that subsumes each of them; it is an earlier one by `earlier` of `RowClaims`
   pub struck : (r : Row) → List·Memᴰ r (struckBy (t .number) rs) → KeptCovers rs (t .number) (r .of)
 
--- what is claimed of an input's tally; that kept, struck, refused and removed add up to its complete records is `counts` of `Sheet`
+-- what is claimed of an input's tally; that kept, struck, refused and removed add up to its complete records is `counts` of `Sheet`, and that the
+-- first three do without backward striking is `plain` there
 pub record Tallied (s : Setting) (input : List ℕ) : Type 0 where
   -- the strikes of all rows add up to `struck`, and their candidates to those of all strikes
   pub strikes : total (map (λ t. t .strikes) (tallyOf (rowsOf s input))) ≡ totalsWith none (rowsOf s input) .struck

@@ -1,7 +1,8 @@
 -- What became of the record, by cases.
 use native.Mathlib.Omega.{arith}
 use Rattle.record.specs.Line.{named, space, saysKept, saysStruck, saysRefused}
-use Rattle.lines.proofs.Writing.{joined, decimal-length, named-put}
+use Rattle.record.proofs.Text.{decimal-length}
+use Rattle.lines.proofs.Writing.{joined, named-put}
 use borrow.Author.Needs.{needs}
 use Rattle.lines.proofs.line.put_outcome.Statement.{statement}
 use Rattle.lines.proofs.line.put_outcome.Tie as tie

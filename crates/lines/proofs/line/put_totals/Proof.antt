@@ -2,7 +2,8 @@
 use native.Mathlib.Omega.{arith}
 use mathlib.Core.List.{_++_}
 use Rattle.record.specs.Line.{lineEnd, named, saysFirst, saysStruck, saysRefused, removedTotal, totalsLine}
-use Rattle.lines.proofs.Writing.{placed, joined, decimal-length, named-put, removed-total-length}
+use Rattle.record.proofs.Text.{decimal-length}
+use Rattle.lines.proofs.Writing.{placed, joined, named-put, removed-total-length}
 use borrow.Author.Needs.{needs}
 use Rattle.lines.proofs.line.put_totals.Statement.{statement}
 use Rattle.lines.proofs.line.put_totals.Tie as tie

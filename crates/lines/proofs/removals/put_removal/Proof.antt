@@ -3,7 +3,8 @@ use native.Mathlib.Omega.{arith}
 use mathlib.Core.List.{_++_}
 use Rattle.record.specs.Text.{decimal}
 use Rattle.record.specs.Line.{lineEnd, named, saysRemoved, removalLine}
-use Rattle.lines.proofs.Writing.{placed, joined, decimal-length, named-put}
+use Rattle.record.proofs.Text.{decimal-length}
+use Rattle.lines.proofs.Writing.{placed, joined, named-put}
 use borrow.Author.Needs.{needs}
 use Rattle.lines.proofs.removals.put_removal.Statement.{statement}
 use Rattle.lines.proofs.removals.put_removal.Tie as tie

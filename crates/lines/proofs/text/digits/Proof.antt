@@ -5,7 +5,7 @@ use native.Mathlib.Omega.{arith}
 use borrow.Author.Needs.{needs}
 use lib.ListN.{length}
 use Rattle.record.specs.Text.{decimal}
-use Rattle.lines.proofs.Writing.{length-small, length-large, decimal-length}
+use Rattle.record.proofs.Text.{length-small, length-large, decimal-length}
 use Rattle.lines.proofs.text.digits.Statement.{statement}
 use Rattle.lines.proofs.text.digits.Tie as tie
 

@@ -6,7 +6,8 @@ use borrow.Author.Needs.{needs}
 use lib.ListN.{length, length-set}
 use lib.Seq.{sets}
 use Rattle.record.specs.Text.{decimal}
-use Rattle.lines.proofs.Writing.{length-large, decimal-some, put-last, put-only}
+use Rattle.record.proofs.Text.{length-large, decimal-some}
+use Rattle.lines.proofs.Writing.{put-last, put-only}
 use Rattle.lines.proofs.text.put_decimal.Statement.{statement}
 use Rattle.lines.proofs.text.put_decimal.Tie as tie
 

@@ -2,7 +2,8 @@
 use native.Mathlib.Omega.{arith}
 use Rattle.record.specs.Text.{decimal}
 use Rattle.record.specs.Line.{lineEnd, recordsLine}
-use Rattle.lines.proofs.Writing.{placed, joined, decimal-length}
+use Rattle.record.proofs.Text.{decimal-length}
+use Rattle.lines.proofs.Writing.{placed, joined}
 use borrow.Author.Needs.{needs}
 use Rattle.tallying.proofs.sheet.put_records.Statement.{statement}
 use Rattle.tallying.proofs.sheet.put_records.Tie as tie

@@ -3,7 +3,8 @@ use native.Mathlib.Omega.{arith}
 use mathlib.Core.List.{_++_}
 use Rattle.record.specs.Text.{decimal}
 use Rattle.record.specs.Line.{space, lineEnd, named, tallyLine}
-use Rattle.lines.proofs.Writing.{placed, joined, decimal-length, named-put}
+use Rattle.record.proofs.Text.{decimal-length}
+use Rattle.lines.proofs.Writing.{placed, joined, named-put}
 use borrow.Author.Needs.{needs}
 use Rattle.tallying.proofs.sheet.put_row.Statement.{statement}
 use Rattle.tallying.proofs.sheet.put_row.Tie as tie
