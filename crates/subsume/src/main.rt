@@ -2,11 +2,29 @@
 // All that it does is `running::run`; here are its first argument, and the words that it lends.
 use clause::Clause;
 use record::Lent;
+use record::Setting;
 use running::Argument;
 use running::run;
 use running::setting_of;
 use streaming::Limit;
 use tallying::Counters;
+ghost use mathlib.Core.Path.{_≡_};
+ghost use Rattle.intake.specs.Feed.{storeOf, firstStore};
+
+// Runs on the buffers, which are as long as their types say: where they are made, the prover would count them, cell by cell.
+fn start(
+    setting: Setting,
+    input: &mut [u8; Limit::BLOCK],
+    tree: &mut [u64; Lent::TREE],
+    marks: &mut [u8; Lent::MARKS],
+    counters: &mut [u64; Counters::WORDS],
+    words: &mut [u16; Clause::WORDS],
+    output: &mut [u8; Limit::OUTPUT],
+)
+    requires { ⌜ storeOf (now words) (now tree) (now marks) (now counters) ≡ firstStore ⌝ }
+{
+    run(setting, input, tree, marks, counters, words, output);
+}
 
 fn main() {
     let mut argument = [0u8; Argument::BYTES];
@@ -18,7 +36,7 @@ fn main() {
     let mut counters = [0u64; Counters::WORDS];
     let mut words = [0u16; Clause::WORDS];
     let mut output = [0u8; Limit::OUTPUT];
-    run(
+    start(
         setting,
         &mut input,
         &mut tree,
