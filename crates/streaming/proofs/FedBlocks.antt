@@ -28,17 +28,13 @@ use Rattle.feeding.specs.inner.Blocks.{longestText, Feedable, Stays}
 use Rattle.feeding.proofs.Blocks.{within-fewer}
 use Rattle.printing.specs.Handed.{meterCount, readsMade, writeFailed, Holds, NextPiece, HandedOn}
 use Rattle.printing.proofs.Pieces.{stands-after}
-use Rattle.streaming.specs.Fed.{outputBytes, mostReads, blockBytes, Buffers, delivered, mayRead, readsOn}
+use Rattle.streaming.specs.Fed.{outputBytes, mostReads, blockBytes, delivered, mayRead, readsOn}
 use Rattle.streaming.specs.inner.Reading.{Readable, Delivered}
 use Rattle.streaming.specs.inner.Running.{Running}
 use Rattle.streaming.specs.declared.Got.{Got}
 use Rattle.streaming.specs.declared.Got.the-variants as got
 
 -- ---- before the first block
-
--- zeros are buffers, if there are enough of them
-pub buffers : (n k : ℕ) → n ≡ blockBytes → outputBytes ≤ k → Buffers (replicate n 0) (replicate k 0)
-buffers n k e h = record { block = rw (length-replicate {A = ℕ} n 0) e; room = rw (length-replicate {A = ℕ} k 0) h }
 
 -- zeros are the first store
 pub store-first : storeOf (replicate maxWords 0) (replicate treeWords 0) (replicate numberCount 0) (replicate counterWords 0) ≡ firstStore
