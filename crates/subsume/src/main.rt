@@ -25,7 +25,16 @@ fn start(
 )
     requires { ⌜ (storeOf (now words) (now tree) (now marks) (now counters) ≡ firstStore) × (now meters ≡ replicate meterCount 0) ⌝ }
 {
-    run(argument, input, tree, marks, counters, words, output, meters);
+    run(
+        argument,
+        input,
+        tree,
+        marks,
+        counters,
+        words,
+        output,
+        meters,
+    );
 }
 
 fn main() {
