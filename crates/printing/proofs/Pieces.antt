@@ -26,26 +26,30 @@ module _ {m : List ℕ} (l : length m ≡ meterCount) where
         long = length-set m _ _;
         read = other 0 (λ i. absurd (omega (arith, i)));
         reads = other 1 (λ i. absurd (omega (arith, i)));
+        ended = other 4 (λ i. absurd (omega (arith, i)));
+        stopped = λ k. absurd (omega (arith, h, k));
         all = λ k. (omega arith, e);
         most = omega (arith, e);
       }
 
   -- a write has failed
-  pub handed-failed : (n : ℕ) → HandedOn m n (set m 3 1)
-  handed-failed n =
+  pub handed-failed : (n : ℕ) → writeFailed m ≤ 0 → HandedOn m n (set m 3 1)
+  handed-failed n h =
       let other : (i : ℕ) → (i ≡ 3 → ⊥) → getD (set m 3 1) i 0 ≡ getD m i 0 = λ i e. getD-set-other m 3 i 1 0 e in
       let e : getD (set m 3 1) 3 0 ≡ 1 = getD-set-same m 3 1 0 (omega (arith, l)) in
       record {
         long = length-set m _ _;
         read = other 0 (λ i. absurd (omega (arith, i)));
         reads = other 1 (λ i. absurd (omega (arith, i)));
+        ended = other 4 (λ i. absurd (omega (arith, i)));
+        stopped = λ k. absurd (omega (arith, h, k));
         all = λ k. absurd (omega (arith, e, k));
         most = omega (arith, other 2 (λ i. absurd (omega (arith, i))));
       }
 
 -- nothing handed on, and some bytes after others
 pub handed-none : (m : List ℕ) → HandedOn m 0 m
-handed-none m = record { long = refl; read = refl; reads = refl; all = λ h. (h, omega arith); most = omega arith }
+handed-none m = record { long = refl; read = refl; reads = refl; ended = refl; stopped = λ _. refl; all = λ h. (h, omega arith); most = omega arith }
 
 pub handed-append : {l m n : List ℕ} {a b : ℕ} → HandedOn l a m → HandedOn m b n → HandedOn l (a + b) n
 handed-append g h =
@@ -53,6 +57,8 @@ handed-append g h =
       long = h .long ∙ g .long;
       read = h .read ∙ g .read;
       reads = h .reads ∙ g .reads;
+      ended = h .ended ∙ g .ended;
+      stopped = λ k. h .stopped (subst (λ (x : List ℕ). 0 < writeFailed x) (sym (g .stopped k)) k) ∙ g .stopped k;
       all = λ f. let (e, i) = h .all f in let (d, j) = g .all e in (d, omega (arith, i, j));
       most = omega (arith, h .most, g .most);
     }

@@ -10,7 +10,7 @@ use Rattle.intake.specs.Feed.{fedWhole, printedOf}
 
 -- how many meters there are
 abbrev pub meterCount : ℕ
-meterCount = 4
+meterCount = 5
 
 -- the bytes that the reads delivered, and the reads that were made
 abbrev pub bytesRead : (meters : List ℕ) → ℕ
@@ -25,6 +25,10 @@ bytesHanded m = getD m 2 0
 
 abbrev pub writeFailed : (meters : List ℕ) → ℕ
 writeFailed m = getD m 3 0
+
+-- whether the reads have ended: 0, or 1 after one that said that there is no more, or 2 after one that failed
+abbrev pub readsEnded : (meters : List ℕ) → ℕ
+readsEnded m = getD m 4 0
 
 -- so many bytes more can be counted as handed on
 abbrev pub Holds : (bytes : ℕ) (meters : List ℕ) → Type 0
@@ -42,11 +46,13 @@ pub record NextPiece (meters text : List ℕ) : Type 0 where
   pub many : bytesRead meters ≡ length bytes
   pub stands : writeFailed meters ≡ 0 → StandsAt (bytesHanded meters) text (printedOf setting bytes)
 
--- so many bytes were handed on, unless a write has failed, and nothing was read
+-- so many bytes were handed on, unless a write has failed, after which none are; nothing was read
 pub record HandedOn (before : List ℕ) (bytes : ℕ) (after : List ℕ) : Type 0 where
   pub long : length after ≡ length before
   pub read : bytesRead after ≡ bytesRead before
   pub reads : readsMade after ≡ readsMade before
+  pub ended : readsEnded after ≡ readsEnded before
+  pub stopped : 0 < writeFailed before → after ≡ before
   pub all : writeFailed after ≡ 0 → (writeFailed before ≡ 0) × (bytesHanded after ≡ bytesHanded before + bytes)
   pub most : bytesHanded after ≤ bytesHanded before + bytes
 

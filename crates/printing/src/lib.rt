@@ -9,16 +9,22 @@ pub use writing::hand_on;
 pub struct Meter {}
 
 impl Meter {
-    // The bytes that the reads delivered, and the reads that were made.
+    // The bytes that the reads delivered.
     pub const READ: usize = 0;
-
+    // The reads that were made.
     pub const READS: usize = 1;
-    // The bytes that were handed on to be written, and whether a write has failed.
+    // The bytes that were handed on to be written.
     pub const HANDED: usize = 2;
-
+    // Whether a write has failed.
     pub const FAILED: usize = 3;
+    // Whether the reads have ended, and why.
+    pub const ENDED: usize = 4;
     // How many there are.
-    pub const WORDS: usize = 4;
+    pub const WORDS: usize = 5;
+    // They ended with one that said that there is no more.
+    pub const NO_MORE: u64 = 1;
+    // They ended with one that failed.
+    pub const UNREAD: u64 = 2;
 }
 
 // A block of the tally sheet.

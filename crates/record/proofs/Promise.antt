@@ -4,6 +4,7 @@ use mathlib.Core.Logic.{_⊎_, inl, inr}
 use mathlib.Core.List.{List, [], _∷_, _++_, map}
 use mathlib.Core.List.{List·Memᴰ, List·Memᴰ·head, List·Memᴰ·tail, Memᴰ·map, Memᴰ·of-map, Memᴰ·append-left, Memᴰ·append-right, List·Memᴰ·append-cases}
 use Prim.Native.Nat.{ℕ}
+use native.Mathlib.Omega.{arith}
 use lib.ListN.{length}
 use Rattle.clause.specs.Lists.{Each, besides}
 use Rattle.clause.specs.Clause.{Accepted, Subsumes}
@@ -77,6 +78,11 @@ each-two {R = R} s (besides h e) {b = b} (List·Memᴰ·head i) (List·Memᴰ·t
 each-two {R = R} s (besides h e) {a = a} (List·Memᴰ·tail m) (List·Memᴰ·head j) = inr (subst (λ c. R a c) (sym j) (s _ _ (all-mem h m)))
 each-two s (besides h e) (List·Memᴰ·tail m) (List·Memᴰ·tail n) = each-two s e m n
 
+-- a list of no length
+none-left : (l : List ℕ) → length l ≡ 0 → l ≡ []
+none-left [] e = refl
+none-left (x ∷ l) e = absurd (omega (arith, e))
+
 -- a record by its pair
 pair-record : {x y : Record} → pairOf x ≡ pairOf y → x ≡ y
 pair-record e = ap recordOf e
@@ -127,6 +133,8 @@ promise s input b =
       numbers = λ x y o q e.
           let d = S .stands .numbers in
           pair-record (same-pair d (rw (S .covers .pairs) (sheet-pair rs x o)) (rw (S .covers .pairs) (sheet-pair rs y q)) e);
+      plain = λ b.
+          sym (same-removed rs) ∙ none-left (takenOut rs) (sym (S .covers .removed) ∙ S .plain b .0);
       apart = λ b x y o q u.
           let d = rw (S .covers .pairs) at (S .covers .apart b) in
           alone (each-two (λ _ _ h. (h .1, h .0)) d (sheet-pair rs x o) (sheet-pair rs y q)) u;

@@ -11,7 +11,7 @@ use Rattle.record.specs.Output.{recordsOf, counted, none, listingOf}
 use Rattle.record.specs.Ruled.{IsKept, IsStruck}
 use Rattle.record.specs.Sheet.{Bytes}
 use Rattle.record.specs.declared.Setting.{Setting}
-use Rattle.record.specs.declared.Setting.the-variants.{Back}
+use Rattle.record.specs.declared.Setting.the-variants.{Plain, Back}
 use Rattle.record.specs.declared.Outcome.{Outcome}
 use Rattle.record.specs.declared.Outcome.the-variants.{Struck}
 use Rattle.record.specs.declared.Totals.{Totals}
@@ -56,7 +56,8 @@ pub record Promised (s : Setting) (input text : List ℕ) : Type 0 where
   -- every record on the sheet is accepted by the clause rules, and no two have one number
   pub accepted : (x : Record) → OnSheet x rulings → Accepted (x .words)
   pub numbers : (x y : Record) → OnSheet x rulings → OnSheet y rulings → x .number ≡ y .number → x ≡ y
-  -- with backward striking none of them subsumes another
+  -- without backward striking nothing is taken off the sheet, with it none of those on it subsumes another
+  pub plain : s ≡ Plain → allRemoved rulings ≡ []
   pub apart : s ≡ Back → (x y : Record) → OnSheet x rulings → OnSheet y rulings → Subsumes (x .words) (y .words) → x ≡ y
 
 -- the claim

@@ -8,6 +8,7 @@ use lib.ListN.{length, length-append, length-replicate}
 use Rattle.record.specs.Line.{longestTotals, longestTally, longestRecords, totalsLine}
 use Rattle.record.specs.Marks.{numberCount}
 use Rattle.record.specs.Settings.{settingOf}
+use Rattle.record.specs.Output.{listingOf}
 use Rattle.record.specs.Tally.{outputOf}
 use Rattle.record.specs.Counters.{counterWords, shownSheet}
 use Rattle.record.specs.declared.Setting.{Setting}
@@ -17,10 +18,9 @@ use Rattle.intake.specs.declared.Session.{Session}
 use Rattle.intake.proofs.Records.{whole-input}
 use Rattle.printing.specs.Handed.{bytesHanded, Holds, NextPiece, HandedOn, SheetNext}
 use Rattle.printing.proofs.Pieces.{handed-append, stands-after}
-use Rattle.streaming.specs.Fed.{readsOn}
+use Rattle.streaming.specs.Fed.{mayRead}
 use Rattle.streaming.specs.inner.Running.{Running}
-use Rattle.streaming.specs.declared.Got.{Got}
-use Rattle.streaming.proofs.FedBlocks.{reads-ended}
+use Rattle.streaming.proofs.FedBlocks.{may-ended}
 use Rattle.running.specs.Run.{RunEnds}
 
 -- the lengths of the first store
@@ -78,9 +78,9 @@ module _ {v : Setting} {s : Session} {m : Store} {M : List ℕ} (r : Running v s
         }
 
     -- the whole run
-    pub run-ends : {P : List ℕ} {argument : List ℕ} {g : Got} → v ≡ settingOf argument → readsOn g M ≡ false
-        → HandedOn N (length (shownSheet (m .marks) (m .counters) (s .totals .records))) P → RunEnds argument P g
-    run-ends {P} {argument} {g} i j o =
+    pub run-ends : {P : List ℕ} {argument : List ℕ} → v ≡ settingOf argument → mayRead M ≡ false
+        → HandedOn N (length (shownSheet (m .marks) (m .counters) (s .totals .records))) P → RunEnds argument P
+    run-ends {P} {argument} i j o =
         let f = r .stands in
         let x = fedWhole v (f .bytes) .text in
         let t = totalsLine v (s .totals) in
@@ -91,11 +91,19 @@ module _ {v : Setting} {s : Session} {m : Store} {M : List ℕ} (r : Running v s
           bytes = f .bytes;
           small = f .small;
           read = o .read ∙ h .read ∙ f .many;
-          ended = reads-ended g (handed-append h o) j;
+          ended = may-ended (handed-append h o) j;
           handed = λ z.
               let (y, e) = o .all z in
               let (b, d) = h .all y in
               subst (λ (k : Setting). bytesHanded P ≡ length (printedOf k (f .bytes))) i (omega (arith, e, d, f .handed b, l));
+          most = subst (λ (k : Setting). bytesHanded P ≤ length (printedOf k (f .bytes))) i (omega (arith, o .most, h .most, f .most, l));
+          lists =
+              subst (λ (y : Setting). (rest : List ℕ) × (printedOf y (f .bytes) ≡ listingOf y (f .bytes) ++ rest)) i
+              (
+              let w = fedWhole v (f .bytes) in
+              let z = shownSheet (w .store .marks) (w .store .counters) (w .session .totals .records) in
+              (z, ap (λ (y : List ℕ). y ++ z) (whole-input .prints v (f .bytes)))
+              );
           output = λ k. subst (λ (y : Setting). printedOf y (f .bytes) ≡ outputOf y (f .bytes)) i (whole-input .output v (f .bytes) (f .small) k);
           promised = promise (settingOf argument) (f .bytes) (f .small);
         }

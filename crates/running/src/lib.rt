@@ -10,7 +10,6 @@ use record::Setting;
 use record::Totals;
 pub use settings::Argument;
 use settings::setting_of;
-use streaming::Got;
 use streaming::feed_all;
 ghost use mathlib.Core.Path.{_≡_};
 ghost use Prim.Native.Nat.{_≤_};
@@ -37,7 +36,7 @@ fn write_totals(
     hand_on(&output[..end], meters);
 }
 
-// The whole run, by its argument. It gives what the last read gave.
+// The whole run, by its argument.
 pub fn run(
     argument: &[u8],
     input: &mut [u8],
@@ -47,10 +46,10 @@ pub fn run(
     words: &mut [u16],
     output: &mut [u8],
     meters: &mut [u64; Meter::WORDS],
-) -> Got
+)
     requires { ⌜ Buffers (now input) (now output) × (storeOf (now words) (now tree) (now marks) (now counters) ≡ firstStore)
         × (now meters ≡ replicate meterCount 0) ⌝ }
-    ensures ends { λ r. ⌜ RunEnds (now (argument .entry)) (now (meters .exit)) r ⌝ }
+    ensures ends { λ _. ⌜ RunEnds (now (argument .entry)) (now (meters .exit)) ⌝ }
     ensures promise { λ _. ⌜ Promise ⌝ }
 {
     let setting = setting_of(argument);
@@ -59,5 +58,4 @@ pub fn run(
     let totals = session.totals;
     write_totals(setting, totals, output, meters);
     write_tally(totals.records, marks, counters, output, meters);
-    fed.got
 }

@@ -1,8 +1,8 @@
 -- What a run has fed. Nothing says which bytes a read delivers, so this speaks of some bytes: as many as the meters say.
 use mathlib.Core.Path.{_≡_}
-use mathlib.Core.Bool.{Bool, true, false, _&&_}
-use mathlib.Core.List.{List}
-use Prim.Native.Nat.{ℕ, _+_, _*_, _≤_, _<_}
+use mathlib.Core.Bool.{Bool, _&&_}
+use mathlib.Core.List.{List, _++_}
+use Prim.Native.Nat.{ℕ, _+_, _*_, _≤_}
 use lib.Dec.{eqb, ltb}
 use lib.ListN.{length}
 use Rattle.tree.specs.Laid.{maxKept}
@@ -11,9 +11,7 @@ use Rattle.record.specs.declared.Setting.{Setting}
 use Rattle.record.specs.Sheet.{Bytes}
 use Rattle.intake.specs.Feed.{Store, feed, firstSession, firstStore}
 use Rattle.intake.specs.declared.Session.{Session}
-use Rattle.printing.specs.Handed.{bytesRead, readsMade, bytesHanded, writeFailed}
-use Rattle.streaming.specs.declared.Got.{Got}
-use Rattle.streaming.specs.declared.Got.the-variants as got
+use Rattle.printing.specs.Handed.{bytesRead, readsMade, bytesHanded, writeFailed, readsEnded}
 
 -- the most bytes of a block
 abbrev pub blockBytes : ℕ
@@ -33,23 +31,9 @@ pub record Buffers (input output : List ℕ) : Type 0 where
   pub block : length input ≡ blockBytes
   pub room : outputBytes ≤ length output
 
--- the bytes that a read delivered
-abbrev pub delivered : Got → ℕ
-delivered (got.Bytes n) = n
-delivered got.Interrupted = 0
-delivered got.NoMore = 0
-delivered got.Failed = 0
-
--- whether no write has failed, and a read is left
+-- whether one more block is read: the reads have not ended, no write has failed, and a read is left
 abbrev pub mayRead : (meters : List ℕ) → Bool
-mayRead m = eqb (writeFailed m) 0 && ltb (readsMade m) mostReads
-
--- whether one more block is read: not after a read that said that there is no more, nor after one that failed, nor once a write has failed
-abbrev pub readsOn : Got → (meters : List ℕ) → Bool
-readsOn (got.Bytes n) m = mayRead m
-readsOn got.Interrupted m = mayRead m
-readsOn got.NoMore m = false
-readsOn got.Failed m = false
+mayRead m = eqb (readsEnded m) 0 && (eqb (writeFailed m) 0 && ltb (readsMade m) mostReads)
 
 -- some bytes were fed from the start on, with a setting, and left the session and the lent words; they are as many as the reads delivered, and their lines
 -- were handed on, unless a write has failed. `WholeInput` speaks of every input, so of these bytes
@@ -60,3 +44,8 @@ pub record FedSoFar (setting : Setting) (session : Session) (store : Store) (met
   pub lent : store ≡ feed setting firstSession firstStore bytes .store
   pub many : bytesRead meters ≡ length bytes
   pub handed : writeFailed meters ≡ 0 → bytesHanded meters ≡ length (feed setting firstSession firstStore bytes .text)
+  pub most : bytesHanded meters ≤ length (feed setting firstSession firstStore bytes .text)
+
+-- after a block the bytes that were fed are those before it and then the block's
+abbrev pub Grows : Setting → Session → Store → (meters block : List ℕ) → Session → Store → (after : List ℕ) → Type 0
+Grows v s m M block s′ m′ N = (F : FedSoFar v s m M) → (G : FedSoFar v s′ m′ N) × (G .bytes ≡ F .bytes ++ block)

@@ -1,5 +1,5 @@
 // The blocks of the input: each is read and fed, and its lines are handed on.
-use crate::Got;
+use crate::reading::may_read;
 use crate::reading::read_block;
 use feeding::feed;
 use index::Heads;
@@ -9,21 +9,20 @@ use printing::Meter;
 use printing::hand_on;
 use record::Setting;
 ghost use mathlib.Core.Path.{_≡_};
-ghost use mathlib.Core.Bool.{false};
-ghost use Prim.Native.Nat.{_+_, _-_, _<_};
+ghost use mathlib.Core.Bool.{true, false};
+ghost use Prim.Native.Nat.{_+_, _-_};
 ghost use lib.ListN.{take, replicate};
 ghost use Rattle.intake.specs.Feed.{storeOf, firstStore};
 ghost use Rattle.index.specs.inner.Heads.{Indexed};
 ghost use Rattle.intake.specs.Feed.{feed as Feed·feed};
 ghost use Rattle.printing.specs.Handed.{meterCount, bytesRead, readsMade};
-ghost use Rattle.streaming.specs.Fed.{mostReads, Buffers, readsOn, FedSoFar};
+ghost use Rattle.streaming.specs.Fed.{Buffers, mayRead, Grows};
 ghost use Rattle.streaming.specs.inner.Running.{Running};
 
-// What was fed: the session after it, the place in the output after its lines, and what its read gave.
+// What was fed: the session after it, and the place in the output after its lines.
 pub struct FedBlock {
     pub session: Session,
     pub next: usize,
-    pub got: Got,
 }
 
 // Reads a block, feeds what was read, and hands its lines on.
@@ -40,7 +39,7 @@ fn take_block(
     meters: &mut [u64; Meter::WORDS],
 ) -> FedBlock
     requires { ⌜ Running setting session (storeOf (now words) (now tree) (now marks) (now counters)) (now meters)
-        × Buffers (now input) (now output) × Indexed (now tree) (now heads) × (readsMade (now meters) < mostReads) ⌝ }
+        × Buffers (now input) (now output) × Indexed (now tree) (now heads) × (mayRead (now meters) ≡ true) ⌝ }
     ensures fed { λ r. ⌜ record {
       session = r .session;
       store = storeOf (now (words .exit)) (now (tree .exit)) (now (marks .exit)) (now (counters .exit));
@@ -50,11 +49,14 @@ fn take_block(
         (take (bytesRead (now (meters .exit)) - bytesRead (now (meters .entry))) (now (input .exit))) ⌝ }
     ensures running { λ r. ⌜ Running setting (r .session) (storeOf (now (words .exit)) (now (tree .exit)) (now (marks .exit)) (now (counters .exit)))
         (now (meters .exit)) ⌝ }
+    ensures grows { λ r. ⌜ Grows setting session (storeOf (now (words .entry)) (now (tree .entry)) (now (marks .entry)) (now (counters .entry)))
+        (now (meters .entry))
+        (take (bytesRead (now (meters .exit)) - bytesRead (now (meters .entry))) (now (input .exit)))
+        (r .session) (storeOf (now (words .exit)) (now (tree .exit)) (now (marks .exit)) (now (counters .exit))) (now (meters .exit)) ⌝ }
     ensures reads { λ _. ⌜ readsMade (now (meters .exit)) ≡ readsMade (now (meters .entry)) + 1 ⌝ }
     ensures indexed { λ _. ⌜ Indexed (now (tree .exit)) (now (heads .exit)) ⌝ }
 {
-    let got = read_block(input, meters);
-    let count = got.count();
+    let count = read_block(input, meters);
     let turn = feed(
         setting,
         &input[..count],
@@ -72,7 +74,6 @@ fn take_block(
     FedBlock {
         session: after,
         next: next,
-        got: got,
     }
 }
 
@@ -91,17 +92,15 @@ pub fn feed_all(
         × (now meters ≡ replicate meterCount 0) ⌝ }
     ensures running { λ r. ⌜ Running setting (r .session) (storeOf (now (words .exit)) (now (tree .exit)) (now (marks .exit)) (now (counters .exit)))
         (now (meters .exit)) ⌝ }
-    ensures ended { λ r. ⌜ readsOn (r .got) (now (meters .exit)) ≡ false ⌝ }
+    ensures ended { λ _. ⌜ mayRead (now (meters .exit)) ≡ false ⌝ }
 {
     let mut here = FedBlock {
         session: begin(),
         next: 0,
-        got: Got::Interrupted,
     };
     let mut heads = [0u16; Heads::ENTRIES];
     loop {
-        let got = here.got;
-        if !got.reads_on(meters) {
+        if !may_read(meters) {
             return here;
         }
         let session = here.session;

@@ -20,11 +20,3 @@ impl Limit {
     // The most reads. A proved loop has to end, and nothing says that the input does: no run uses them up.
     const READS: u64 = 0x100_0000_0000;
 }
-
-// What a read gave: some bytes, none since a signal came first, that there is no more, or that it failed.
-pub enum Got {
-    Bytes(usize),
-    Interrupted,
-    NoMore,
-    Failed,
-}

@@ -14,7 +14,7 @@ returns-2 c =
 returns-3 : tie.Need-returns-3
 returns-3 c =
     let a = c .before .before .before .before .before .before .before in
-    handed-failed (a .pre .0 .long) _
+    handed-failed (a .pre .0 .long) _ (search needs)
 
 pub hand-on-spec : {M : Type 1} → statement M
 hand-on-spec =

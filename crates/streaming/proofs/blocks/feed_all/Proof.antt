@@ -10,7 +10,7 @@ use Rattle.index.specs.inner.Heads.{Indexed}
 use Rattle.printing.specs.Handed.{readsMade}
 use Rattle.streaming.specs.Fed.{mostReads}
 use Rattle.streaming.specs.inner.Running.{Running}
-use Rattle.streaming.proofs.FedBlocks.{indexed-first, running-none, reads-left}
+use Rattle.streaming.proofs.FedBlocks.{indexed-first, running-none, may-left}
 use Rattle.streaming.proofs.blocks.feed_all.Statement.{statement}
 use Rattle.streaming.proofs.blocks.feed_all.Tie as tie
 
@@ -32,8 +32,8 @@ loop-holds c =
     let p = c .before .before .before .before .before .before .before .pre in
     (running-none _ (c .begin .ensures) (p .1) (p .2), refl, refl, refl, refl, refl, refl, indexed-first (p .1))
 
-reads-on-requires : tie.Need-reads-on-requires Inv-loop μ-loop
-reads-on-requires c κs = tt
+may-read-requires : tie.Need-may-read-requires Inv-loop μ-loop
+may-read-requires c κs = tt
 
 same-length : tie.Need-same-length Inv-loop μ-loop
 same-length c = c .before .before .before .loop .inv .1
@@ -53,14 +53,10 @@ same-length-5 c = c .before .before .before .loop .inv .5
 same-length-6 : tie.Need-same-length-6 Inv-loop μ-loop
 same-length-6 c = c .before .before .before .loop .inv .6
 
--- one more is read, so a read is left
-more : (c : tie.Else1 Inv-loop μ-loop) → let x = c .before .before .before .loop in readsMade (x .meters) < mostReads
-more c = let x = c .before .before .before .loop in reads-left (x .here .got) (x .meters) (sym (c .before .reads-on .ensures) ∙ not-false _ (c .if1 .left))
-
 returns : tie.Need-returns Inv-loop μ-loop
 returns c =
     let l = c .before .before .before in
-    (l .loop .inv .0, sym (c .before .reads-on .ensures) ∙ not-true _ (c .if1 .taken))
+    (l .loop .inv .0, sym (c .before .may-read .ensures) ∙ not-true _ (c .if1 .taken))
 
 slice-aggregate-take-block : tie.Need-slice-aggregate-take-block Inv-loop μ-loop
 slice-aggregate-take-block c = sym (c .before .before .before .before .before .before .before .before .loop .inv .7 .long)
@@ -70,14 +66,16 @@ take-block-requires c κs =
     let i = c .before .before .before .before .before .before .before .before .before in
     let l = i .before .before .before .loop .inv in
     let b = i .before .before .before .before .before .before .before .before .before .before .before .pre .0 in
-    (l .0, record { block = l .1 ∙ b .block; room = omega (arith, l .6, b .room) }, l .7, more i)
+    (l .0, record { block = l .1 ∙ b .block; room = omega (arith, l .6, b .room) }, l .7, sym (i .before .may-read .ensures) ∙ not-false _ (i .if1 .left))
 
 loop-less : tie.Need-loop-less Inv-loop μ-loop
 loop-less c =
     let k = c .before .before .before .before .before .before .before .before .before .before .before .before .before in
     let i = k .before .before .before .before .before .before .before .before .before .before in
-    let t = k .take-block .ensures .1 .1 .0 in
-    omega (arith, t, more i)
+    let t = k .take-block .ensures .1 .1 .1 .0 in
+    let l = i .before .before .before .loop in
+    let (h, _) = may-left (l .meters) (sym (i .before .may-read .ensures) ∙ not-false _ (i .if1 .left)) in
+    omega (arith, t, h)
 
 loop-again : tie.Need-loop-again Inv-loop μ-loop
 loop-again c =
@@ -93,11 +91,11 @@ loop-again c =
       c4 .before .counters .given ∙ l .4,
       c .before .before .before .words .given ∙ l .5,
       c .before .output .given ∙ l .6,
-      e .1 .1 .1,
+      e .1 .1 .1 .1,
     )
 
 pub feed-all-spec : {M : Type 1} → statement M
 feed-all-spec =
     tie.close
-    (tie.spec Inv-loop μ-loop begin-requires loop-holds reads-on-requires same-length same-length-2 same-length-3 same-length-4 same-length-5
+    (tie.spec Inv-loop μ-loop begin-requires loop-holds may-read-requires same-length same-length-2 same-length-3 same-length-4 same-length-5
     same-length-6 returns slice-aggregate-take-block take-block-requires loop-less loop-again)

@@ -4,19 +4,19 @@ use Prim.Native.Nat.{_+_}
 use native.Mathlib.Omega.{arith}
 use lib.Seq.{getD-set-other}
 use Rattle.printing.specs.Handed.{readsMade}
-use Rattle.streaming.proofs.Meters.{read-none, read-some}
+use Rattle.streaming.proofs.Meters.{read-none, read-end, read-some}
 use borrow.Author.Needs.{needs}
 use Rattle.streaming.proofs.reading.read_block.Statement.{statement}
 use Rattle.streaming.proofs.reading.read_block.Tie as tie
 
 returns : tie.Need-returns
-returns c = read-none (c .before .before .before .before .before .before .before .before .before .pre .long) refl
+returns c = read-none (c .before .before .before .before .before .before .before .before .before .pre .long)
 
 returns-2 : tie.Need-returns-2
-returns-2 c = read-none (c .before .before .before .before .before .before .before .before .before .before .before .pre .long) refl
+returns-2 c = read-end (c .before .before .before .before .before .before .before .before .before .before .before .pre .long) 2
 
 returns-3 : tie.Need-returns-3
-returns-3 c = read-none (c .before .before .before .before .before .before .before .before .before .before .pre .long) refl
+returns-3 c = read-end (c .before .before .before .before .before .before .before .before .before .before .pre .long) 1
 
 add-meters-2 : tie.Need-add-meters-2
 add-meters-2 c =
@@ -30,11 +30,11 @@ returns-4 : tie.Need-returns-4
 returns-4 c =
     let c2 = c .before .before in
     let s = c2 .before .before .before .before .before .before .before .before .before in
-    read-some (s .pre .long) (c2 .count .result) (c2 .count .ensures .0 .0)
+    read-some (s .pre .long) (c2 .count .result) (c2 .count .ensures .0 .0) (s .pre .goes-on)
 
 pub read-block-spec : {M : Type 1} → statement M
 read-block-spec =
     tie.close
     (tie.spec (λ c. search needs) (λ c. search needs) (λ c. search needs) (λ c κs. search needs) (λ c κs. search needs) (λ c. search needs) returns
-    (λ c. search needs) (λ c κs. search needs) (λ c. search needs) returns-2 (λ c κs. search needs) (λ c. search needs) returns-3 (λ c. search needs)
-    add-meters-2 (λ c. search needs) (λ c. search needs) returns-4)
+    (λ c. search needs) (λ c κs. search needs) (λ c. search needs) (λ c. search needs) returns-2 (λ c κs. search needs) (λ c. search needs)
+    (λ c. search needs) returns-3 (λ c. search needs) add-meters-2 (λ c. search needs) (λ c. search needs) returns-4)
