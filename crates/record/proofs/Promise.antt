@@ -14,10 +14,8 @@ use Rattle.record.specs.Line.{linesFor, totalsLine}
 use Rattle.record.specs.Answer.{Record}
 use Rattle.record.specs.Output.{Row, rowsOf, linesOf, counted, totalsWith, none, listingOf}
 use Rattle.record.specs.Ruled.{pairOf, IsKept, IsStruck, withoutAll}
-use Rattle.record.specs.Sheet.{Bytes, keptOn, takenOut, keptPairs, RowAt, Sheet}
+use Rattle.record.specs.Sheet.{keptOn, takenOut, keptPairs, RowAt}
 use Rattle.record.specs.Promise.{Ruling, linesPrinted, totalsPrinted, allRemoved, OnSheet, here, later, Promise}
-use Rattle.record.specs.declared.Setting.{Setting}
-use Rattle.record.specs.declared.Outcome.the-variants.{Struck}
 use Rattle.record.specs.declared.Totals.{Totals}
 use Rattle.record.proofs.Clearing.{same-pair, clear-mem, mem-clear}
 use Rattle.record.proofs.Rows.{mem-one, kept-one}

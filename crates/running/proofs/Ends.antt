@@ -5,7 +5,7 @@ use mathlib.Core.List.{List, _++_, append-assoc}
 use Prim.Native.Nat.{ℕ, _+_, _≤_}
 use native.Mathlib.Omega.{arith}
 use lib.ListN.{length, length-append, length-replicate}
-use Rattle.record.specs.Line.{longestTotals, longestTally, longestRecords, totalsLine}
+use Rattle.record.specs.Line.{longestTotals, totalsLine}
 use Rattle.record.specs.Marks.{numberCount}
 use Rattle.record.specs.Settings.{settingOf}
 use Rattle.record.specs.Output.{listingOf}
@@ -13,7 +13,7 @@ use Rattle.record.specs.Tally.{outputOf}
 use Rattle.record.specs.Counters.{counterWords, shownSheet}
 use Rattle.record.specs.declared.Setting.{Setting}
 use Rattle.record.proofs.Promise.{promise}
-use Rattle.intake.specs.Feed.{Store, storeOf, Fed, firstStore, fedWhole, printedOf}
+use Rattle.intake.specs.Feed.{Store, storeOf, firstStore, fedWhole, printedOf}
 use Rattle.intake.specs.declared.Session.{Session}
 use Rattle.intake.proofs.Records.{whole-input}
 use Rattle.printing.specs.Handed.{bytesHanded, Holds, NextPiece, HandedOn, SheetNext}

@@ -1,11 +1,11 @@
 -- Block after block: what was fed so far, and what was handed on.
-use mathlib.Core.Path.{_≡_, refl, sym, ap, ap₂, subst, _∙_}
+use mathlib.Core.Path.{_≡_, refl, sym, ap, ap₂, _∙_}
 use mathlib.Core.List.{List, [], _++_, append-assoc}
 use mathlib.Core.Bool.{Bool, true, false, _&&_, and-eq-true-iff}
 use Prim.Native.Nat.{ℕ, _+_, _-_, _*_, _≤_, _<_}
 use native.Mathlib.Omega.{arith}
 use lib.Dec.{eqb, ltb}
-use lib.ListN.{length, take, replicate, length-append, length-replicate, length-take}
+use lib.ListN.{length, take, replicate, length-append, length-replicate}
 use lib.Seq.{length-take-le}
 use borrow.Author.Tests.{ltb-true, eq-eqb, eqb-true}
 use Rattle.clause.specs.Lists.{none as nothing}
@@ -20,7 +20,6 @@ use Rattle.record.specs.Sheet.{Bytes}
 use Rattle.intake.specs.Feed.{Store, storeOf, Fed, feed, firstSession, firstStore, fedWhole, printedOf}
 use Rattle.intake.specs.declared.Session.{Session}
 use Rattle.intake.proofs.Bytes.{feed-append}
-use Rattle.answering.specs.inner.Steady.{Steady}
 use Rattle.answering.proofs.Renewing.{indexed-fresh}
 use Rattle.answering.proofs.Steady.{steady-few, fresh-kept, steady-fresh}
 use Rattle.index.specs.inner.Heads.{entryCount, Indexed}

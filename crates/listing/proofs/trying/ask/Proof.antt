@@ -1,9 +1,6 @@
 -- `ask` meets its contract: the words in the slot of the card are lent to the query.
-use Prim.Native.Nat.{_+_, _-_, _*_}
-use native.Mathlib.Omega.{arith}
-use lib.ListN.{getD}
+use Prim.Native.Nat.{_-_}
 use borrow.Author.Needs.{needs}
-use Rattle.clause.specs.Clause.{maxWords}
 use Rattle.listing.proofs.Turns.{slot-row, slot-words}
 use Rattle.listing.proofs.trying.ask.Statement.{statement}
 use Rattle.listing.proofs.trying.ask.Tie as tie

@@ -1,6 +1,4 @@
 -- The text is handed on, or a write has failed.
-use mathlib.Core.Path.{sym}
-use native.Mathlib.Omega.{arith}
 use borrow.Author.Needs.{needs}
 use Rattle.printing.proofs.Pieces.{handed-more, handed-failed}
 use Rattle.printing.proofs.writing.hand_on.Statement.{statement}

@@ -1,5 +1,4 @@
 -- The meters move by what the read delivered.
-use mathlib.Core.Path.{refl}
 use Prim.Native.Nat.{_+_}
 use native.Mathlib.Omega.{arith}
 use lib.Seq.{getD-set-other}
