@@ -1,4 +1,6 @@
 // What becomes of one record: it is asked, and goes in where it is not covered (docs/REFERENCE.md, "The program").
+#![tactic(auto)]
+
 mod answering;
 mod indexing;
 mod striking;

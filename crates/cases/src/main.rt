@@ -1,5 +1,6 @@
 // Runs document 01's trial rows without a star by the calls of the C interface: a line has the numbers that its calls returned and told.
 // All other cases are rows of tests/rust/cases, which a Rust test puts to the same calls.
+#![tactic(auto)]
 
 // What a told word holds before a call, which then means nothing.
 const UNTOLD: u64 = 0xffff_ffff_ffff_ffff;

@@ -1,4 +1,6 @@
 // The ceiling of a walk's count, looked up.
+#![tactic(auto)]
+
 ghost use Rattle.std.specs.Prelude.{◌≡◌, ◌≤◌};
 ghost use Rattle.clause.specs.Clause.{max_literals};
 ghost use Rattle.walk.specs.Ceiling.{powers, ceiling_call};

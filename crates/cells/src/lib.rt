@@ -1,4 +1,6 @@
 // The state of the walk's path in lent cells, and the words of a row that are passed over.
+#![tactic(auto)]
+
 mod row;
 mod state;
 
@@ -8,7 +10,7 @@ pub use row::{skip, wanted};
 pub use state::{begin, in_use, passes, release, reserve, restore, trace, unwind, wide};
 
 // What words stand below: a First, so that they are walked from each of its candidates, or a step, so that they are walked once.
-#[derive(Drop)]
+#[derive(Clone, Copy)]
 pub enum Above {
     First,
     Step,

@@ -1,5 +1,7 @@
 // Checking a saved slice, and reading a clause back out of it (docs/REFERENCE.md, "Calls"). After the well-laid test the check is one pass over the used
 // words, with the keys above the next one in an array that a sequence's keys fit into; reading back is one more, up to the number. No recursion.
+#![tactic(auto)]
+
 ghost use Rattle.std.specs.Prelude.{◌≡◌, true, [], ◌≤◌, length};
 ghost use Rattle.clause.specs.Clause.{max_words};
 ghost use Rattle.machine.specs.Compiled.{max_keys};

@@ -1,4 +1,6 @@
 // The C interface: the calls (docs/REFERENCE.md, "Calls") on pointers and lengths (include/code_tree.h).
+#![tactic(auto)]
+
 ghost use Rattle.std.specs.Prelude.{◌≡◌};
 ghost use Rattle.interface.specs.Calls.{ct_fresh, ct_insert, ct_remove, ct_query, ct_ceiling, ct_read_back, ct_check, ct_backward};
 ghost use Rattle.interface.specs.Claims.{CtDemand1, CtReach, CtDemand2, CtDemand3, CtExactCount, CtChecked, CtReadsBook, CtSavedIsMade, CtListsBook, ToldApart};

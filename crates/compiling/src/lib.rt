@@ -1,4 +1,6 @@
 // Compiling a clause into the keys of its sequence (docs/REFERENCE.md, "Instructions").
+#![tactic(auto)]
+
 ghost use Rattle.std.specs.Prelude.{◌≡◌, true, ◌+◌, ◌≤◌, ◌<◌, length, take};
 ghost use Rattle.clause.specs.Word.{arities};
 ghost use Rattle.clause.specs.Clause.{max_words};

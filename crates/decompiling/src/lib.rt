@@ -1,4 +1,6 @@
 // The clause read off the keys of a path, and whether some clause has these keys: the way back from `compiling`.
+#![tactic(auto)]
+
 ghost use Rattle.std.specs.Prelude.{◌≡◌, ◌≤◌, suc, length};
 ghost use Rattle.clause.specs.Lists.{alike};
 ghost use Rattle.clause.specs.Clause.{max_words};

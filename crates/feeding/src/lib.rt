@@ -1,4 +1,6 @@
 // The program's input taken block by block: each record is asked, answered and printed (docs/REFERENCE.md, "The program").
+#![tactic(auto)]
+
 use intake::Session;
 
 mod feeding;

@@ -1,5 +1,7 @@
 // The index of a tree of clauses (docs/REFERENCE.md, "The program"): for each head of a literal the place of its Check, in the row below the topmost First.
 // Here it is made, and queries and insertions go by it; nothing below this crate knows of it.
+#![tactic(auto)]
+
 mod by_head;
 mod entries;
 mod head;

@@ -1,4 +1,6 @@
 // Insertion of a clause into a slice of any words (docs/REFERENCE.md, "Calls").
+#![tactic(auto)]
+
 ghost use Rattle.std.specs.Prelude.{◌≡◌, true};
 ghost use Rattle.std.proofs.Math.Option.{none};
 ghost use Rattle.tree.specs.Laid.{sized, well_laid, region};

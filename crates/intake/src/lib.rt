@@ -1,4 +1,6 @@
 // The program's input, byte by byte and record by record (docs/REFERENCE.md, "The program").
+#![tactic(auto)]
+
 use record::Totals;
 
 mod input;
@@ -17,14 +19,14 @@ impl Field {
 }
 
 // Whether the next byte is the first of a field, or the second, with the first.
-#[derive(Drop)]
+#[derive(Clone, Copy)]
 pub enum Half {
     Even,
     Odd(u8),
 }
 
 // What the next field is: a record's number; its word count, with its number; or one of its words, with its number, its count and the words so far.
-#[derive(Drop)]
+#[derive(Clone, Copy)]
 pub enum Stage {
     AtNumber,
     AtCount(u16),
@@ -32,7 +34,7 @@ pub enum Stage {
 }
 
 // How far the reading of the input is, and the totals.
-#[derive(Drop)]
+#[derive(Clone, Copy)]
 pub struct Session {
     pub half: Half,
     pub stage: Stage,
@@ -40,7 +42,7 @@ pub struct Session {
 }
 
 // The heading of a record: its number and its word count.
-#[derive(Drop)]
+#[derive(Clone, Copy)]
 pub struct Heading {
     pub number: u16,
     pub count: u16,

@@ -1,5 +1,7 @@
 // Slices of tree words: fresh, and whether a slice is well laid, its representation invariant (docs/REFERENCE.md, "Tree words"): one pass over the
 // words from left to right, no stack.
+#![tactic(auto)]
+
 ghost use Rattle.std.specs.Prelude.{◌≡◌, ◌&&◌, ◌-◌, eqb};
 ghost use Rattle.tree.specs.Keys.{next_key};
 ghost use Rattle.tree.specs.Laid.{key_of, extent_of, successes};

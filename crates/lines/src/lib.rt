@@ -1,4 +1,6 @@
 // The lines of the output, put into lent bytes.
+#![tactic(auto)]
+
 mod line;
 mod removals;
 mod text;

@@ -1,5 +1,7 @@
 // Listing the kept clauses that a given one subsumes (docs/REFERENCE.md, "Calls"). The clauses of the tree are laid on a shelf by rising number; then
 // each is queried in a tree of the given one alone, with what is left of the budget. What is found is written at the end.
+#![tactic(auto)]
+
 ghost use Rattle.std.specs.Prelude.{◌≡◌, ◌≤◌, length};
 ghost use Rattle.clause.specs.Clause.{Accepted};
 ghost use Rattle.clause.specs.Lists.{All};

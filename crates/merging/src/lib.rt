@@ -1,4 +1,6 @@
 // Merging: where the keys of a sequence lead in the words of a well-laid slice, and their words put in there, in place.
+#![tactic(auto)]
+
 ghost use Rattle.std.specs.Prelude.{◌≡◌, [], ◌++◌, ◌+◌, ◌-◌, ◌<◌, ◌≤◌, length, take, drop};
 ghost use Rattle.tree.specs.Laid.{most_words, region};
 ghost use Rattle.tree.specs.Inner.Merge.{descend, from_top, new_words};

@@ -1,4 +1,6 @@
 // What is written to standard output: text, and the tally sheet in blocks (docs/REFERENCE.md, "The program").
+#![tactic(auto)]
+
 mod tally;
 mod writing;
 

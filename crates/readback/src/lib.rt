@@ -1,4 +1,6 @@
 // What reading a clause back and checking a saved slice answer (docs/REFERENCE.md, "Calls"). What they mean is in specs/, its theory in proofs/.
+#![tactic(auto)]
+
 use tree::Refusal;
 
 // The answer of checking a slice: it is the tree of some clauses, or a refusal.

@@ -1,4 +1,6 @@
 // The reading of a clause by a cursor: its literals one after another (docs/REFERENCE.md, "Clause words").
+#![tactic(auto)]
+
 mod moves;
 mod whole;
 mod word;
@@ -11,7 +13,7 @@ pub use whole::is_whole;
 use word::is_head;
 
 // A position in a clause, and how many right siblings the term there has.
-#[derive(Drop)]
+#[derive(Clone, Copy)]
 pub struct Cursor {
     pub at: usize,
     pub left: usize,

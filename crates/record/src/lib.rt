@@ -1,14 +1,15 @@
 // What the program's input means: its records, what becomes of each, and the text that is printed (docs/REFERENCE.md, "The program").
+#![tactic(auto)]
 
 // The setting of a run: `Back` is backward striking, where a record that goes in takes out the kept clauses that it subsumes.
-#[derive(Drop)]
+#[derive(Clone, Copy)]
 pub enum Setting {
     Plain,
     Back,
 }
 
 // What becomes of a record: kept, with the used words of the tree; struck, with the covering number and the candidates; refused, with the code.
-#[derive(Drop)]
+#[derive(Clone, Copy)]
 pub enum Outcome {
     Kept(u64),
     Struck(u32, u64),
@@ -16,7 +17,7 @@ pub enum Outcome {
 }
 
 // How many records were read, and how many of them are kept, were struck and refused, and were kept once and are removed.
-#[derive(Drop)]
+#[derive(Clone, Copy)]
 pub struct Totals {
     pub records: u64,
     pub kept: u64,

@@ -1,4 +1,6 @@
 // Removal by number on the words of a tree, in place (docs/REFERENCE.md, "Calls").
+#![tactic(auto)]
+
 ghost use Rattle.std.specs.Prelude.{◌≡◌, true, length};
 ghost use Rattle.tree.specs.Laid.{sized, well_laid};
 ghost use Rattle.tree.specs.Inner.Cut.{locate, lower};

@@ -1,4 +1,6 @@
 // A record that takes the place of kept clauses: they are removed and it is inserted, or nothing changes (docs/REFERENCE.md, "The program").
+#![tactic(auto)]
+
 ghost use Rattle.std.specs.Prelude.{◌≡◌, ◌≤◌, ◌<◌, length, take};
 ghost use Rattle.clause.specs.Lists.{All};
 ghost use Rattle.book.specs.Book.{after};

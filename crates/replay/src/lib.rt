@@ -1,4 +1,6 @@
 // Lists of calls run on a slice, with the claims about them (docs/REFERENCE.md, "Lists of calls").
+#![tactic(auto)]
+
 ghost use Rattle.std.specs.Prelude.{◌≡◌, ◌+◌, ◌≤◌, min, length, get_or};
 ghost use Rattle.book.specs.Book.{slice_of};
 ghost use Rattle.book.specs.Encoding.{whole, calls_of, HasWords, Ran};

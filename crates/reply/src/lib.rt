@@ -1,4 +1,6 @@
 // Answers handed over: the number returned, the values told.
+#![tactic(auto)]
+
 ghost use Rattle.std.specs.Prelude.{◌≡◌, [], ◌∷◌, set};
 ghost use Rattle.clause.specs.declared.Fault.{Fault};
 ghost use Rattle.tree.specs.declared.Refusal.TheVariants.{BadClause};

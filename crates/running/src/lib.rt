@@ -1,5 +1,7 @@
 // The whole run: the listing of the input, line by line with its totals, and then the tally sheet (docs/REFERENCE.md, "The program").
 // A record's line is made by `feeding::feed`, the totals by `lines::put_totals`, the tally sheet by `tallying`; what is here moves the bytes.
+#![tactic(auto)]
+
 mod settings;
 
 ghost use Rattle.std.specs.Prelude.{◌≡◌, ◌≤◌, length, replicate};

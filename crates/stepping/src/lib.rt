@@ -1,4 +1,6 @@
 // One word of a row on the lent cells.
+#![tactic(auto)]
+
 mod step;
 
 use cells::Path;

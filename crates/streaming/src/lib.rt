@@ -1,4 +1,6 @@
 // The input as it streams in: block after block is read from standard input and fed, and its lines are handed on (docs/REFERENCE.md, "The program").
+#![tactic(auto)]
+
 use lines::Longest;
 use tree::Tree;
 

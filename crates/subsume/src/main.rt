@@ -1,5 +1,7 @@
 // The program: it reads records from standard input, and writes what becomes of them to standard output (docs/REFERENCE.md, "The program").
 // All that it does is `running::run`; here are its first argument, and the words that it lends.
+#![tactic(auto)]
+
 ghost use Rattle.std.specs.Prelude.{◌≡◌, replicate};
 ghost use Rattle.intake.specs.Feed.{store_of, first_store};
 ghost use Rattle.printing.specs.Handed.{meter_count};

@@ -1,4 +1,6 @@
 // The tally sheet: a strike counted, and its lines put into lent bytes (docs/REFERENCE.md, "The program").
+#![tactic(auto)]
+
 mod counting;
 mod sheet;
 

@@ -1,4 +1,6 @@
 // Tree words (docs/REFERENCE.md, "Tree words"): the fields of a word and of a header, the size of a slice; what calls answer.
+#![tactic(auto)]
+
 ghost use Rattle.std.specs.Prelude.{◌≡◌, ◌≤◌, ◌<◌};
 ghost use Rattle.tree.specs.Forest.{word_limit, header_of};
 ghost use Rattle.tree.specs.Laid.{tree_sized, used_of, kept_of, one_more, one_less};
@@ -14,7 +16,7 @@ pub use fields::{extent, key, word};
 // the names of its variables, is kept under this number. `Spent`: the budget of candidates is used up, after so many. `NoSuchTree`: the slice is well laid,
 // but it is not the tree of some clauses, or of none, under different numbers.
 // `code_of` and `values_of` of specs/Refusal give the code and the values of each case (docs/REFERENCE.md, "Calls").
-#[derive(Drop)]
+#[derive(Clone, Copy)]
 pub enum Refusal {
     BadSlice,
     Broken,

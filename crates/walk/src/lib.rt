@@ -1,4 +1,6 @@
 // What a query and a ceiling answer (docs/REFERENCE.md, "Calls"). The definitions of the walk are in specs/, its theory in proofs/.
+#![tactic(auto)]
+
 use clause::Clause;
 use machine::Sequence;
 use tree::Refusal;

@@ -1,0 +1,26 @@
+-- `exchange` meets its contract: a marked number is taken; else the record goes in for the numbers, if there are any.
+use mathlib.Core.Path.{refl, ◌∙◌}
+use native.Mathlib.Omega.{arith}
+use Rattle.answering.proofs.Keeping.{insertable, exchange_marked, exchange_free, exchange_none}
+use borrow.Author.Rules.{rules}
+use Rattle.answering.proofs.striking.exchange.Goals as goal
+
+pub returns-then-marks-mark-eq-TAKEN : goal.returns-then-marks-mark-eq-TAKEN
+returns-then-marks-mark-eq-TAKEN c =
+    let a = c.args in
+    let g = insertable a.number c.requires.0 c.requires.2 (λ i. omega (arith, c.shared_slice_known-3-1.given i)) (omega (arith, c.ranges.number)) in
+    (exchange_marked g a.numbers.now c.if-marks-mark-eq-TAKEN.true c.code.ensures, (refl, omega arith))
+
+pub returns-then-numbers-gt0 : goal.returns-then-numbers-gt0
+returns-then-numbers-gt0 c =
+    let a = c.args in
+    let g = insertable a.number c.requires.0 c.requires.2 (λ i. omega (arith, c.shared_slice_known-3-1.given i)) (omega (arith, c.ranges.number)) in
+    (c.replace.ensures.0 ∙ exchange_free g a.numbers.now c.if-marks-mark-eq-TAKEN.false, c.replace.ensures.1)
+
+pub returns : goal.returns
+returns c =
+    let a = c.args in
+    let g = insertable a.number c.requires.0 c.requires.2 (λ i. omega (arith, c.shared_slice_known-3-1.given i)) (omega (arith, c.ranges.number)) in (
+      c.keep.ensures.0 ∙ exchange_none g a.numbers.now c.if-numbers-gt0.false ∙ exchange_free g a.numbers.now c.if-marks-mark-eq-TAKEN.false,
+      (c.keep.ensures.1, omega arith),
+    )

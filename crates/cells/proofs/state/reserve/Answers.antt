@@ -1,0 +1,29 @@
+-- `reserve` meets its contract.
+use Rattle.std.proofs.Common.{◌≡◌, ◌+◌, ◌*◌, ◌/◌, ◌%◌, ◌∙◌, arith, get_or-set_other, rules}
+use Rattle.cells.specs.Inner.Cells.{count_at, use_limit, count_in, reserved, kept_in, uses_of, saved_byte}
+use Rattle.cells.proofs.Bits.{taken_low}
+use Rattle.cells.proofs.state.reserve.Goals as goal
+
+pub overflow_cast-result : goal.overflow_cast-result
+overflow_cast-result c = record { fits = omega (arith, c.wide.ensures.1) }
+
+pub overflow_add-result : goal.overflow_add-result
+overflow_add-result c = record { fits = omega (arith, c.wide.ensures.1, c.used-bits.ensures, taken_low c.args.cells.now c.requires.0 c.requires.1) }
+
+pub returns-in-First : goal.returns-in-First
+unfolding reserved kept_in uses_of
+returns-in-First c =
+    let t = c.in-First.is in
+    let u = c.used-bits in
+    let l = c.args.cells.now in
+    let n = count_in l in
+    let low = taken_low l c.requires.0 c.requires.1 in
+    let bits : (c.wide.result * use_limit + u.result) % use_limit ≡ u.result = omega (arith, u.ensures, low) in
+    let high : (c.wide.result * use_limit + u.result) / use_limit ≡ c.wide.result = omega (arith, u.ensures, low) in
+    let byte : saved_byte (c.wide.result * use_limit + u.result) ≡ c.wide.result = rw high (omega (arith, c.wide.ensures.1)) in
+    let kept = get_or-set_other l count_at n (n + 1) 0 (λ e. omega (arith, c.requires.1.0)) in
+    (bits ∙ u.ensures ∙ rw t, byte ∙ c.wide.ensures.0 ∙ rw t kept, rw t)
+
+pub returns-in-Step : goal.returns-in-Step
+unfolding reserved kept_in uses_of
+returns-in-Step c = let t = c.in-Step.is in (rw t, rw t, rw t)

@@ -1,0 +1,17 @@
+-- `all_differ` meets its contract: no number so far stands again after it.
+use mathlib.Core.Path.{◌≡◌, refl, sym, ◌∙◌}
+use Prim.Native.Nat.{◌-◌, ◌≤◌}
+use native.Mathlib.Omega.{arith}
+use lib.ListN.{length, drop}
+use borrow.Author.Rules.{rules}
+use Rattle.readback.specs.Saved.{all_differ}
+use borrow.Author.Tests.{not-true, not-false}
+use Rattle.laid.proofs.WellLaid.{tail_part}
+use Rattle.checking.proofs.Differing.{differ_found, differ_next, differ_end}
+use Rattle.checking.proofs.numbers.all_differ.Given as goal
+
+abbrev pub invariant-loop-i : goal.invariant-loop-i
+invariant-loop-i l = (l.i ≤ length l.numbers) × (all_differ (drop l.i l.numbers) ≡ all_differ l.numbers)
+
+abbrev pub decreases-loop-i : goal.decreases-loop-i
+decreases-loop-i l = length l.numbers - l.i

@@ -1,0 +1,15 @@
+-- `clause::same` meets its contract: lists of other lengths differ, and the loop keeps that what is left of both decides. Assumes nothing.
+use mathlib.Core.Path.{◌≡◌, refl, sym, ◌∙◌}
+use Prim.Native.Nat.{◌<◌, ◌≤◌, ◌-◌}
+use native.Mathlib.Omega.{arith}
+use lib.ListN.{length, drop}
+use borrow.Author.Rules.{rules}
+use Rattle.clause.specs.Lists.{alike}
+use Rattle.clause.proofs.Alike.{alike_length, alike_on, alike_differ, alike_end}
+use Rattle.clause.proofs.equality.same.Given as goal
+
+abbrev pub invariant-loop-i : goal.invariant-loop-i
+invariant-loop-i l = (l.i ≤ length l.a) × (length l.a ≡ length l.b) × (alike l.a l.b ≡ alike (drop l.i l.a) (drop l.i l.b))
+
+abbrev pub decreases-loop-i : goal.decreases-loop-i
+decreases-loop-i l = length l.a - l.i

@@ -1,0 +1,12 @@
+-- `ct_backward` meets its contract: the call is made, and its answer handed over; and the claim is proved.
+use mathlib.Core.Path.{ap}
+use Rattle.book.specs.Table.{backed}
+use Rattle.interface.specs.Calls.{ct_backward}
+use Rattle.interface.proofs.Handed.{hands}
+use Rattle.interface.proofs.Lists.{ct_lists_book}
+use borrow.Author.Rules.{rules}
+use Rattle.codetree.proofs.ct_backward.Goals as goal
+
+pub returns : goal.returns
+unfolding ct_backward
+returns c = (hands c.args.told.now (ap backed c.backward.ensures) c.hand_back.ensures, ct_lists_book)

@@ -1,0 +1,14 @@
+-- `start_origins` meets its contract: the numbers below k are stored.
+use mathlib.Core.Path.{◌≡◌, ◌∙◌}
+use Prim.Native.Nat.{ℕ, ◌-◌, ◌≤◌, ◌<◌}
+use lib.ListN.{length, get_or, length-set}
+use Rattle.decompiling.proofs.Tables.{own_turn}
+use borrow.Author.Rules.{rules}
+use native.Mathlib.Omega.{arith}
+use Rattle.decompiling.proofs.start_origins.Given as goal
+
+abbrev pub invariant-loop-k : goal.invariant-loop-k
+invariant-loop-k l = (l.k ≤ 64) × (length l.origins ≡ 64) × ((j : ℕ) → j < l.k → get_or l.origins j 0 ≡ j)
+
+abbrev pub decreases-loop-k : goal.decreases-loop-k
+decreases-loop-k l = 64 - l.k

@@ -1,0 +1,19 @@
+-- The lines from number `i` on are still to be put.
+use mathlib.Core.Path.{◌≡◌, refl, sym, ◌∙◌}
+use Prim.Native.Nat.{◌-◌, ◌+◌, ◌*◌, ◌≤◌}
+use native.Mathlib.Omega.{arith}
+use borrow.Author.Rules.{rules}
+use lib.ListN.{length, drop, get_or}
+use Rattle.clause.proofs.Lists.{all_get}
+use Rattle.record.specs.Text.{put_at}
+use Rattle.record.specs.Line.{longest_removal, removal_line, removal_lines}
+use Rattle.lines.proofs.Writing.{placed, removals_more, removals_all}
+use Rattle.lines.proofs.removals.put_removals.Given as goal
+
+abbrev pub invariant-loop-i : goal.invariant-loop-i
+invariant-loop-i l =
+    (length l.output ≡ length l.initial.output) × (l.i ≤ length l.numbers) × (l.next ≤ l.at + l.i * longest_removal)
+    × (put_at (removal_lines l.by l.numbers) l.initial.output l.at ≡ put_at (removal_lines l.by (drop l.i l.numbers)) l.output l.next)
+
+abbrev pub decreases-loop-i : goal.decreases-loop-i
+decreases-loop-i l = length l.numbers - l.i

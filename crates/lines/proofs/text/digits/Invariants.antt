@@ -1,0 +1,15 @@
+-- The digits counted so far are those after the ones that are left.
+use mathlib.Core.Path.{◌≡◌}
+use Prim.Native.Nat.{◌+◌}
+use native.Mathlib.Omega.{arith}
+use borrow.Author.Rules.{rules}
+use lib.ListN.{length}
+use Rattle.record.specs.Text.{decimal}
+use Rattle.record.proofs.Text.{length_small, length_large, decimal_length}
+use Rattle.lines.proofs.text.digits.Given as goal
+
+abbrev pub invariant-loop-left : goal.invariant-loop-left
+invariant-loop-left l = l.count + length (decimal l.left) ≡ length (decimal l.number) + 1
+
+abbrev pub decreases-loop-left : goal.decreases-loop-left
+decreases-loop-left l = l.left

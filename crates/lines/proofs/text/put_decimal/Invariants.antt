@@ -1,0 +1,19 @@
+-- The digits before the place are those of what is left of the number.
+use mathlib.Core.Path.{◌≡◌, refl, ◌∙◌}
+use Prim.Native.Nat.{◌+◌, ◌/◌, ◌≤◌}
+use native.Mathlib.Omega.{arith}
+use borrow.Author.Rules.{rules}
+use lib.ListN.{length, length-set}
+use lib.Seq.{sets}
+use Rattle.record.specs.Text.{decimal}
+use Rattle.record.proofs.Text.{length_large, decimal_some}
+use Rattle.lines.proofs.Writing.{put_last, put_only}
+use Rattle.lines.proofs.text.put_decimal.Given as goal
+
+abbrev pub invariant-loop-left : goal.invariant-loop-left
+invariant-loop-left l =
+    (length l.output ≡ length l.initial.output) × (l.last + 1 ≤ l.end) × (l.last + 1 ≡ l.at + length (decimal l.left))
+    × (sets l.initial.output l.at (decimal l.number) ≡ sets l.output l.at (decimal l.left))
+
+abbrev pub decreases-loop-left : goal.decreases-loop-left
+decreases-loop-left l = l.left

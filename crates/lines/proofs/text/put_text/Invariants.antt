@@ -1,0 +1,17 @@
+-- The text so far is in the output.
+use mathlib.Core.Path.{◌≡◌}
+use Prim.Native.Nat.{◌-◌, ◌≤◌}
+use native.Mathlib.Omega.{arith}
+use borrow.Author.Rules.{rules}
+use lib.ListN.{length, take, length-set}
+use lib.Seq.{sets, take-length}
+use Rattle.lines.proofs.Writing.{put_more}
+use Rattle.lines.proofs.text.put_text.Reads as reads
+use Rattle.lines.proofs.text.put_text.Lts as lts
+use Rattle.lines.proofs.text.put_text.Given as goal
+
+abbrev pub invariant-loop-i : goal.invariant-loop-i
+invariant-loop-i l = (length l.output ≡ length l.initial.output) × (l.i ≤ length l.text) × (l.output ≡ sets l.initial.output l.at (take l.i l.text))
+
+abbrev pub decreases-loop-i : goal.decreases-loop-i
+decreases-loop-i l = length l.text - l.i

@@ -1,0 +1,13 @@
+-- `write_numbers` meets its contract: the numbers so far stand over the first words.
+use Prim.Native.Nat.{◌-◌}
+use native.Mathlib.Omega.{arith}
+use lib.ListN.{length}
+use borrow.Author.Rules.{rules}
+use Rattle.readback.proofs.Overwriting.{Overwriting, overwriting_first, overwriting_next, overwriting_end}
+use Rattle.listing.proofs.write_numbers.Given as goal
+
+abbrev pub invariant-loop-i : goal.invariant-loop-i
+invariant-loop-i l = Overwriting l.numbers l.initial.list l.list l.i
+
+abbrev pub decreases-loop-i : goal.decreases-loop-i
+decreases-loop-i l = length l.numbers - l.i

@@ -1,0 +1,40 @@
+-- `past` reads one term. The invariant: the rest is past the terms still to come, which are never many more than the words.
+use mathlib.Core.Logic.{⊎_elim}
+use mathlib.Core.Path.{◌≡◌, refl, sym, ◌∙◌}
+use Prim.Native.Nat.{◌≤◌, ◌+◌, ◌-◌}
+use native.Mathlib.Omega.{arith}
+use lib.ListN.{length, drop}
+use borrow.Author.Tests.{not-true, not-false}
+use borrow.Author.Rules.{rules}
+use Rattle.clause.specs.Word.{arity}
+use Rattle.reading.specs.Inner.Cursor.{past_terms, go_past}
+use Rattle.reading.proofs.Past.{past_none, past_end, past_off, past_word, past_many}
+use Rattle.reading.proofs.Cursor.past.Goals as goal
+
+pub loop-need-init : goal.loop-need-init
+unfolding go_past
+loop-need-init c = (search rules, refl)
+
+pub returns-then-at-words : goal.returns-then-at-words
+returns-then-at-words c = sym (c.loop-need.invariant.1 ∙ past_end _ _ _ _ c.loop-need-test.true c.if-at-words.true)
+
+pub returns-then-not-is_inside : goal.returns-then-not-is_inside
+returns-then-not-is_inside c =
+    sym (c.loop-need.invariant.1 ∙ past_off _ _ _ c.if-at-words.false _ c.loop-need-test.true (sym c.is_inside.ensures ∙ not-true _ c.if-not-is_inside.true))
+
+pub overflow_add-need : goal.overflow_add-need
+unfolding arity
+overflow_add-need c = omega arith
+
+pub loop-need-preserved : goal.loop-need-preserved
+unfolding arity
+loop-need-preserved c =
+    let e = c.loop-need.invariant.1 in
+    let i = sym c.is_inside.ensures ∙ not-false _ c.if-not-is_inside.false in
+    ⊎_elim
+    (λ w. (omega (arith, w.1.ensures), e ∙ past_word _ _ _ c.if-at-words.false _ c.loop-need-test.true i ∙ rw (w.2, w.1.ensures)))
+    (λ w. (omega arith, e ∙ past_many _ _ _ c.if-at-words.false _ c.loop-need-test.true i w.0.left ∙ rw w.1))
+    c.if-need-words.branch
+
+pub returns : goal.returns
+returns c = let z : c.loop-need.need ≡ 0 = omega arith in sym (c.loop-need.invariant.1 ∙ rw z (past_none _ _ _))

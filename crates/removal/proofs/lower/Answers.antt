@@ -1,0 +1,35 @@
+-- `lower` meets its contract: the words passed are lowered, the others as they were.
+use mathlib.Core.Path.{◌≡◌, refl, ap}
+use mathlib.Core.Logic.{⊎_elim}
+use Prim.Native.Nat.{◌-◌}
+use native.Mathlib.Omega.{arith}
+use lib.ListN.{length}
+use borrow.Author.Rules.{rules}
+use Rattle.tree.specs.Laid.{extent_of}
+use Rattle.removal.proofs.Lowering.{Lowering, lowering_start, lowering_word, lowering_over, lowering_stay, lowering_end}
+use Rattle.removal.proofs.lower.Goals as goal
+
+pub loop-at-init : goal.loop-at-init
+loop-at-init c = (refl, lowering_start _ _)
+
+pub overflow_sub-words : goal.overflow_sub-words
+overflow_sub-words c =
+    let l = c.before.before.before.before in
+    let s = l.before.before in
+    let same = lowering_word s.args.words.now s.args.gone c.loop-at.words c.loop-at.at c.loop-at.invariant.1 (omega arith) in
+    omega (arith, same, s.requires c.loop-at.at (omega (arith, ap extent_of same)))
+
+pub loop-at-preserved : goal.loop-at-preserved
+loop-at-preserved c = (
+      refl,
+      ⊎_elim
+          (λ w. rw w.1 (lowering_over _ _ _ _ c.loop-at.invariant.1 (omega arith) (omega arith)))
+          (λ w. rw w.1 (lowering_stay _ _ _ _ c.loop-at.invariant.1 (omega arith) (omega arith)))
+          c.if-extent-words.branch,
+    )
+
+pub shape_of-words : goal.shape_of-words
+shape_of-words c = c.loop-at.invariant.1.long
+
+pub returns : goal.returns
+returns c = lowering_end _ _ _ _ c.loop-at.invariant.1 (omega arith)

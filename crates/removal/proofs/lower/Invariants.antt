@@ -1,0 +1,16 @@
+-- `lower` meets its contract: the words passed are lowered, the others as they were.
+use mathlib.Core.Path.{◌≡◌, refl, ap}
+use mathlib.Core.Logic.{⊎_elim}
+use Prim.Native.Nat.{◌-◌}
+use native.Mathlib.Omega.{arith}
+use lib.ListN.{length}
+use borrow.Author.Rules.{rules}
+use Rattle.tree.specs.Laid.{extent_of}
+use Rattle.removal.proofs.Lowering.{Lowering, lowering_start, lowering_word, lowering_over, lowering_stay, lowering_end}
+use Rattle.removal.proofs.lower.Given as goal
+
+abbrev pub invariant-loop-at : goal.invariant-loop-at
+invariant-loop-at l = (l.at-end ≡ length l.initial.words) × Lowering l.initial.words l.gone l.words l.at
+
+abbrev pub decreases-loop-at : goal.decreases-loop-at
+decreases-loop-at l = length l.initial.words - l.at

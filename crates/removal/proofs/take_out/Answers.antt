@@ -1,0 +1,21 @@
+-- `take_out` meets its contract: what the two lent parts hold when they are back, with the header stored, is the definition's slice.
+use mathlib.Core.Path.{◌≡◌, ◌∙◌}
+use Prim.Native.Nat.{◌+◌, ◌-◌}
+use native.Mathlib.Omega.{arith}
+use lib.ListN.{length-set}
+use Rattle.removal.proofs.TakingOut.{taken}
+use borrow.Author.Rules.{rules}
+use Rattle.removal.proofs.take_out.Goals as goal
+
+pub lower-requires : goal.lower-requires
+lower-requires c =
+    let w : c.args.place + 1 - 1 ≡ c.args.place = omega arith in
+    rw w c.requires.high
+
+pub shape_of-tree : goal.shape_of-tree
+shape_of-tree c = simp length-set (c.tree-2-1.given.1 ∙ c.tree-1.given.1)
+
+pub returns : goal.returns
+returns c =
+    rw c.one_less.ensures
+    (taken c.args.tree.now c.args.place c.args.gone _ _ c.requires c.lower.ensures (rw c.used-used.ensures at c.close_up.ensures))

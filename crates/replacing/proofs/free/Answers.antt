@@ -1,0 +1,35 @@
+-- `free` meets its contract: the marks of the first numbers are freed.
+use Prim.Native.Nat.{◌-◌}
+use native.Mathlib.Omega.{arith}
+use lib.ListN.{length}
+use borrow.Author.Rules.{rules}
+use lib.ListN.{get_or}
+use mathlib.Core.Path.{◌∙◌}
+use mathlib.Core.Logic.{⊎_elim}
+use Rattle.clause.proofs.Lists.{all_get}
+use Rattle.replacing.proofs.Copying.{Freeing, freeing_none, freeing_more, freeing_done, freed_marked, freed_free}
+use Rattle.replacing.proofs.free.Goals as goal
+
+pub loop-i-init : goal.loop-i-init
+loop-i-init c = freeing_none _ _ c.requires.0
+
+pub overflow_cast-at : goal.overflow_cast-at
+overflow_cast-at c = record { fits = omega (arith, c.shared_slice_known-1.given c.loop-i.i) }
+
+pub bounds-marks-at : goal.bounds-marks-at
+bounds-marks-at c = omega (arith, all_get c.args.numbers.now c.requires.1 c.loop-i.i 0 (omega arith), c.loop-i.invariant.many)
+
+pub bounds-marks-at-then-marks-at-gt0 : goal.bounds-marks-at-then-marks-at-gt0
+bounds-marks-at-then-marks-at-gt0 c = omega (arith, all_get c.args.numbers.now c.requires.1 c.loop-i.i 0 (omega arith), c.loop-i.invariant.many)
+
+pub loop-i-smaller : goal.loop-i-smaller
+loop-i-smaller c = omega arith
+
+pub loop-i-preserved : goal.loop-i-preserved
+loop-i-preserved c =
+    let m = c.loop-i.marks in
+    let n = get_or c.args.numbers.now c.loop-i.i 0 in
+    freeing_more c.loop-i.invariant (omega arith) (⊎_elim (λ w. w.1 ∙ freed_marked m n w.0.taken) (λ w. w.1 ∙ freed_free m n w.0.left) c.if-marks-at-gt0.branch)
+
+pub returns : goal.returns
+returns c = freeing_done c.loop-i.invariant (omega arith)

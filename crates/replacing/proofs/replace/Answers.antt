@@ -1,0 +1,42 @@
+-- `replace` meets its contract: what is done on the copy, or nothing.
+use borrow.Author.Rules.{rules}
+use mathlib.Core.Path.{refl, sym, ap, ◌∙◌}
+use mathlib.Core.List.{List, [], ◌∷◌}
+use Prim.Native.Nat.{ℕ}
+use native.Mathlib.Omega.{arith}
+use lib.ListN.{length, set}
+use lib.Seq.{take_all}
+use types.Run.{miss}
+use Rattle.book.specs.Book.{after}
+use Rattle.record.specs.Answer.{removals}
+use Rattle.record.specs.Marks.{freeing}
+use Rattle.replacing.proofs.Copying.{enters_kept, enters_refused}
+use Rattle.replacing.proofs.replace.Goals as goal
+
+pub returns-in_default : goal.returns-in_default
+returns-in_default c =
+    let c4 = c.before.before.before.before in
+    let c8 = c4.before.before.before.before in
+    let c13 = c8.before.before.before.before.before in
+    let c16 = c13.before.before.before in
+    let c19 = c16.before.before.before in
+    let a = c19.before.before.before.before.before.before.before.args in
+    let k = c.in_default.keys2 in
+    let ns = a.numbers.now in (
+      enters_kept a.tree.now ns (record { number = a.number; words = a.words.now }) (c.remove_all.ensures ∙ ap (λ (T : List ℕ). after T (removals ns)) c.copy.ensures)
+          c.insert-answer.ensures (λ f e. miss (1 ∷ 2 ∷ 3 ∷ []) 0 tt (rw e at k)) c.copy-in_default.ensures c.used.ensures,
+      (ap (λ (m : List ℕ). set m a.number 1) (c.free.ensures ∙ ap (λ (l : List ℕ). freeing l a.marks.now) (sym (take_all (length ns) ns (omega arith)))), omega arith),
+    )
+
+pub returns : goal.returns
+returns c =
+    let c5 = c.before.before.before.before.before in
+    let c8 = c5.before.before.before in
+    let c11 = c8.before.before.before in
+    let a = c11.before.before.before.before.before.before.before.args in
+    let g = c.answer-1.given in
+    let ns = a.numbers.now in (
+      enters_refused a.tree.now ns (record { number = a.number; words = a.words.now }) (c.remove_all.ensures ∙ ap (λ (T : List ℕ). after T (removals ns)) c.copy.ensures)
+          c.insert-answer.ensures g.0.0 g.1 c.code.ensures,
+      (refl, omega arith),
+    )

@@ -1,0 +1,13 @@
+-- `pop` meets its contract.
+use Rattle.stepping.proofs.Visits.{sticks, over, pop_visit}
+use borrow.Author.Rules.{rules}
+use Rattle.stepping.proofs.step.pop.Goals as goal
+
+pub returns-then-n-ge-SLOTS : goal.returns-then-n-ge-SLOTS
+returns-then-n-ge-SLOTS c = sticks _ (over _ _ c.if-n-ge-SLOTS.true)
+
+pub returns : goal.returns
+returns c =
+    let a = c.args in
+    let p = pop_visit a.head a.cells.now c.requires a.n c.if-n-ge-SLOTS.false in
+    rw (← p, ← c.wide.ensures.0) (c.moved.ensures a.cells.now)

@@ -1,0 +1,8 @@
+-- `store` meets its contract.
+use native.Mathlib.Omega.{arith}
+use mathlib.Core.Path.{refl}
+use borrow.Author.Rules.{rules}
+use Rattle.stepping.proofs.step.store.Goals as goal
+
+pub returns : goal.returns
+returns c = (rw c.wide-old.ensures.0, refl, omega arith)

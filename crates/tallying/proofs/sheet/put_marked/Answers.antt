@@ -1,0 +1,21 @@
+-- The row, or nothing.
+use mathlib.Core.Path.{◌≡◌}
+use Prim.Native.Nat.{◌+◌}
+use native.Mathlib.Omega.{arith}
+use Rattle.tallying.proofs.Rows.{shown_one, shown_none}
+use borrow.Author.Rules.{rules}
+use Rattle.tallying.proofs.sheet.put_marked.Goals as goal
+
+pub returns-then-marks-number-gt0 : goal.returns-then-marks-number-gt0
+returns-then-marks-number-gt0 c =
+    let a = c.args in
+    let p = c.put_row.ensures in
+    let e = shown_one a.marks.now a.counters.now a.number c.if-marks-number-gt0.true in
+    (rw e p.0, p.1)
+
+pub returns : goal.returns
+returns c =
+    let a = c.args in
+    let e = shown_none a.marks.now a.counters.now a.number c.if-marks-number-gt0.false in
+    let z : a.at + 0 ≡ a.at = omega arith in
+    (rw (e, z), omega arith)
