@@ -31,7 +31,7 @@ use Rattle.machine.proofs.Fits.{literal_match, FitsChosen, fits_none, fits_also,
 puts_vars : (puts ws : List ℕ) → puts_all puts ws ≡ puts ++ vars ws
 unfolding puts_all vars puts_after
 puts_vars puts [] = sym (append-nil puts)
-puts_vars puts (w ∷ ws) = puts_vars _ ws ∙ append_assoc puts (if_variable (sort w) (w ∷ []) []) (vars ws)
+puts_vars puts (w ∷ ws) = puts_vars (puts_after puts w) ws ∙ append_assoc puts (if_variable (sort w) (w ∷ []) []) (vars ws)
 
 -- a literal's sequence begins with First
 pub sequence_first : (w : ℕ) (ws : List ℕ) (puts : List ℕ) (from n : ℕ)

@@ -15,5 +15,6 @@ kept_pair (p ∷ K) cs n (inr k) = let (r, m, e, f) = kept_pair K cs n k in (r, 
 
 -- and what each pair has is kept
 pub pair_kept : (K : List Pair) (p : Pair) → Memᴰ p K → Listed (map entry K) (keys p.clause) p.number
+pair_kept [] p x' = elim x' [ ]
 pair_kept (r ∷ K) p (Memᴰ.head e) = inl (ap (λ x. keys x.clause) e, ap (λ x. x.number) e)
 pair_kept (r ∷ K) p (Memᴰ.tail m) = inr (pair_kept K p m)
