@@ -11,88 +11,87 @@ const FIRST: [u16; 4] = [0x9801, 0x4000, 0x0001, 0x4000];
 const SECOND: [u16; 4] = [0x9801, 0x4000, 0x4000, 0x0002];
 
 // Writes a number that was returned or told.
-fn write(number: u64) {
+fn write(rt: &HostRuntime, number: u64) {
     if number != UNTOLD {
-        io::write_all(1, b" ");
-        io::print_decimal(1, number);
+        let _ = print!(rt; " {number}");
     }
 }
 
 // Begins a line with a length.
-fn begin(text: &[u8], length: usize) {
-    io::write_all(1, text);
-    write(length as u64);
-    io::write_all(1, b":");
+fn begin(rt: &HostRuntime, text: &str, length: usize) {
+    let _ = print!(rt; "{text}");
+    write(rt, length as u64);
+    let _ = print!(rt; ":");
 }
 
 // Keeps a clause under a number.
-fn keep(tree: &mut [u64], clause: &[u16], number: u32) {
+fn keep(rt: &HostRuntime, tree: &mut [u64], clause: &[u16], number: u32) {
     let mut told = [UNTOLD];
-    write(codetree::ct_insert(tree, clause, number, &mut told));
-    write(told[0]);
+    write(rt, codetree::ct_insert(tree, clause, number, &mut told));
+    write(rt, told[0]);
 }
 
 // Keeps both clauses; then the second one, after the first is removed.
-fn run_room(tree: &mut [u64]) {
-    begin(b"\ntree words", tree.len());
-    keep(tree, &FIRST, 1);
-    keep(tree, &SECOND, 2);
-    write(codetree::ct_remove(tree, 1));
-    keep(tree, &SECOND, 2);
+fn run_room(rt: &HostRuntime, tree: &mut [u64]) {
+    begin(rt, "\ntree words", tree.len());
+    keep(rt, tree, &FIRST, 1);
+    keep(rt, tree, &SECOND, 2);
+    write(rt, codetree::ct_remove(tree, 1));
+    keep(rt, tree, &SECOND, 2);
 }
 
-fn run_rooms() {
-    run_room(&mut [0; 11]);
-    run_room(&mut [0; 10]);
-    run_room(&mut [0; 16]);
-    run_room(&mut [0; 15]);
+fn run_rooms(rt: &HostRuntime) {
+    run_room(rt, &mut [0; 11]);
+    run_room(rt, &mut [0; 10]);
+    run_room(rt, &mut [0; 16]);
+    run_room(rt, &mut [0; 15]);
 }
 
 // Keeps a clause where there is room.
-fn run_clause(clause: &[u16]) {
-    begin(b"\nclause words", clause.len());
-    keep(&mut [0; 200], clause, 1);
+fn run_clause(rt: &HostRuntime, clause: &[u16]) {
+    begin(rt, "\nclause words", clause.len());
+    keep(rt, &mut [0; 200], clause, 1);
 }
 
 // The first 64 words are P(f(..f(a)..)).
-fn run_lengths() {
+fn run_lengths(rt: &HostRuntime) {
     let mut words = [0x0803u16; 65];
     words[0] = 0x8801;
     words[63] = 0x0001;
-    run_clause(&words[..64]);
-    run_clause(&words);
+    run_clause(rt, &words[..64]);
+    run_clause(rt, &words);
 }
 
 // Literals without arguments.
-fn run_literals() {
-    run_clause(&[0x8001; 8]);
-    run_clause(&[0x8001; 9]);
+fn run_literals(rt: &HostRuntime) {
+    run_clause(rt, &[0x8001; 8]);
+    run_clause(rt, &[0x8001; 9]);
 }
 
 // Asks for P(x,a,x) with a budget of 0.
-fn ask(tree: &[u64], witness: &mut [u16]) {
-    begin(b"\nwitness words", witness.len());
+fn ask(rt: &HostRuntime, tree: &[u64], witness: &mut [u16]) {
+    begin(rt, "\nwitness words", witness.len());
     let mut told = [UNTOLD; 3];
-    write(codetree::ct_query(tree, &FIRST, 0, witness, &mut told));
-    write(told[0]);
-    write(told[1]);
-    write(told[2]);
+    write(rt, codetree::ct_query(tree, &FIRST, 0, witness, &mut told));
+    write(rt, told[0]);
+    write(rt, told[1]);
+    write(rt, told[2]);
 }
 
 // On an empty tree; then with the clause kept.
-fn run_queries(tree: &mut [u64]) {
-    ask(tree, &mut [0; 72]);
-    ask(tree, &mut [0; 71]);
-    io::write_all(1, b"\n_p(x,a,x) kept:");
-    keep(tree, &FIRST, 1);
-    ask(tree, &mut [0; 72]);
+fn run_queries(rt: &HostRuntime, tree: &mut [u64]) {
+    ask(rt, tree, &mut [0; 72]);
+    ask(rt, tree, &mut [0; 71]);
+    let _ = print!(rt; "\nP(x,a,x) kept:");
+    keep(rt, tree, &FIRST, 1);
+    ask(rt, tree, &mut [0; 72]);
 }
 
-fn main() {
-    io::write_all(1, b"trial rows without a star");
-    run_queries(&mut [0; 16]);
-    run_rooms();
-    run_lengths();
-    run_literals();
-    io::write_all(1, b"\n");
+fn main(rt: HostRuntime) {
+    let _ = print!(rt; "trial rows without a star");
+    run_queries(&rt, &mut [0; 16]);
+    run_rooms(&rt);
+    run_lengths(&rt);
+    run_literals(&rt);
+    let _ = print!(rt; "\n");
 }

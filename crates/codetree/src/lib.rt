@@ -1,4 +1,4 @@
-// The C interface: the calls (docs/REFERENCE.md, "Calls") on pointers and lengths (include/code_tree.h).
+// The calls of the C interface (docs/REFERENCE.md, "Calls"), for Rattle: `codetree_c` exports each under its name.
 #![tactic(auto)]
 
 ghost use Rattle.std.specs.Prelude.{◌≡◌};
@@ -6,8 +6,7 @@ ghost use Rattle.interface.specs.Calls.{ct_fresh, ct_insert, ct_remove, ct_query
 ghost use Rattle.interface.specs.Claims.{CtDemand1, CtReach, CtDemand2, CtDemand3, CtExactCount, CtChecked, CtReadsBook, CtSavedIsMade, CtListsBook, ToldApart};
 
 // Makes an empty tree of a slice. Returns 0 or 1.
-#[unsafe(no_mangle)]
-pub extern "C" fn ct_fresh(tree: &mut [u64]) -> u64
+pub fn ct_fresh(tree: &mut [u64]) -> u64
     ensures { record { number = result; words = tree.new } ≡ ct_fresh tree.old }
 {
     reply::hand_call(laid::fresh(tree), &mut [])
@@ -15,8 +14,7 @@ pub extern "C" fn ct_fresh(tree: &mut [u64]) -> u64
 
 // Inserts a clause under a number. Returns 0 or a code; tells the position for 4 and 5, the number for 8.
 // The contract carries what is claimed of the refusals of all these functions.
-#[unsafe(no_mangle)]
-pub extern "C" fn ct_insert(tree: &mut [u64], clause: &[u16], number: u32, told: &mut [u64]) -> u64
+pub fn ct_insert(tree: &mut [u64], clause: &[u16], number: u32, told: &mut [u64]) -> u64
     ensures hands { record { number = result; words = tree.new; told = told.new }
         ≡ ct_insert tree.old clause.now number told.old }
     ensures refusals { CtDemand1 }
@@ -25,8 +23,7 @@ pub extern "C" fn ct_insert(tree: &mut [u64], clause: &[u16], number: u32, told:
 }
 
 // Removes the clause with a number. Returns 0 or a code.
-#[unsafe(no_mangle)]
-pub extern "C" fn ct_remove(tree: &mut [u64], number: u32) -> u64
+pub fn ct_remove(tree: &mut [u64], number: u32) -> u64
     ensures { record { number = result; words = tree.new } ≡ ct_remove tree.old number }
 {
     reply::hand_call(removal::remove(tree, number), &mut [])
@@ -35,8 +32,7 @@ pub extern "C" fn ct_remove(tree: &mut [u64], number: u32) -> u64
 // Asks whether a kept clause covers a clause. Returns 0 or a code; tells 1 or 0 for covered or not, the number, the count;
 // or the position for 4 and 5, the count for 12.
 // The contract carries what is claimed of lists of these calls and of what they tell, so that nothing is proved without it.
-#[unsafe(no_mangle)]
-pub extern "C" fn ct_query(
+pub fn ct_query(
     tree: &[u64],
     clause: &[u16],
     budget: u64,
@@ -53,16 +49,14 @@ pub extern "C" fn ct_query(
 }
 
 // The ceiling of a query's count. Returns 0 or 13; tells the ceiling.
-#[unsafe(no_mangle)]
-pub extern "C" fn ct_ceiling(kept: u64, q: u64, m: u64, told: &mut [u64]) -> u64
+pub fn ct_ceiling(kept: u64, q: u64, m: u64, told: &mut [u64]) -> u64
     ensures { record { number = result; told = told.new } ≡ ct_ceiling kept q m told.old }
 {
     reply::hand_ceiling(ceiling::ceiling(kept, q, m), told)
 }
 
 // Reads the clause with a number back into a slice. Returns 0 or a code; tells the clause's length.
-#[unsafe(no_mangle)]
-pub extern "C" fn ct_read_back(tree: &[u64], number: u32, out: &mut [u16], told: &mut [u64]) -> u64
+pub fn ct_read_back(tree: &[u64], number: u32, out: &mut [u16], told: &mut [u64]) -> u64
     ensures { record { number = result; words = out.new; told = told.new }
         ≡ ct_read_back tree.now number out.old told.old }
 {
@@ -71,8 +65,7 @@ pub extern "C" fn ct_read_back(tree: &[u64], number: u32, out: &mut [u16], told:
 
 // Checks whether a slice is the tree of some clauses, or of none. Returns 0 or a code.
 // The contract carries what is claimed of saved trees.
-#[unsafe(no_mangle)]
-pub extern "C" fn ct_check(tree: &[u64]) -> u64
+pub fn ct_check(tree: &[u64]) -> u64
     ensures hands { result ≡ ct_check tree.now }
     ensures saved { CtChecked × CtReadsBook × CtSavedIsMade }
 {
@@ -81,8 +74,7 @@ pub extern "C" fn ct_check(tree: &[u64]) -> u64
 
 // Lists the kept clauses that a clause subsumes. Returns 0 or a code; tells how many and the candidates in all, or the position for 4 and 5, the count
 // for 12. The contract carries what is claimed of such listings after lists of calls.
-#[unsafe(no_mangle)]
-pub extern "C" fn ct_backward(
+pub fn ct_backward(
     tree: &[u64],
     clause: &[u16],
     budget: u64,

@@ -5,7 +5,7 @@ mod tally;
 mod writing;
 
 pub use tally::write_tally;
-pub use writing::hand_on;
+pub use writing::{hand_on, report};
 
 // The meters of a run, lent to every function that reads or writes: only those beside the system's calls move them.
 #[derive(Drop)]

@@ -13,6 +13,7 @@ use tallying::{put_records, put_rows};
 
 // Puts a block of the tally sheet into the output, the rows of the numbers from one on, and hands it on.
 fn write_rows(
+    rt: &HostRuntime,
     marks: &[u8],
     counters: &[u64],
     from: usize,
@@ -27,11 +28,12 @@ fn write_rows(
         meters.new }
 {
     let next = put_rows(output, marks, counters, from, Block::NUMBERS);
-    hand_on(&output[..next], meters);
+    hand_on(rt, &output[..next], meters);
 }
 
 // Puts the tally sheet into the output and hands it on, its rows block after block and then the records that were read.
 pub fn write_tally(
+    rt: &HostRuntime,
     records: u64,
     marks: &[u8],
     counters: &[u64],
@@ -43,9 +45,9 @@ pub fn write_tally(
 {
     let mut from: usize = 0;
     while from < marks.len() {
-        write_rows(marks, counters, from, output, meters);
+        write_rows(rt, marks, counters, from, output, meters);
         from += Block::NUMBERS;
     }
     let end = put_records(output, records);
-    hand_on(&output[..end], meters);
+    hand_on(rt, &output[..end], meters);
 }

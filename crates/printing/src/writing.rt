@@ -1,22 +1,34 @@
-// Text handed on to standard output.
+// Text handed on to standard output, and what is said of a read or a write that failed.
 ghost use Rattle.std.specs.Prelude.{length};
 ghost use Rattle.printing.specs.Handed.{Holds, NextPiece, HandedOn};
 
 use crate::Meter;
-use libc::STDOUT_FILENO;
+use std::fmt::InlineText;
+use std::io::Error;
 
 // Hands the next piece of the output on to be written, unless a write has failed. One that fails is reported.
-pub fn hand_on(text: &[u8], meters: &mut [u64; Meter::WORDS])
+pub fn hand_on(rt: &HostRuntime, text: &[u8], meters: &mut [u64; Meter::WORDS])
     requires { NextPiece meters.old text.now × Holds (length text.now) meters.old }
     ensures { HandedOn meters.old (length text.now) meters.new }
 {
     if meters[Meter::FAILED] > 0 {
         return;
     }
-    if io::write_all(STDOUT_FILENO, text) {
-        meters[Meter::HANDED] += text.len() as u64;
-    } else {
-        os::fail(b"subsume: writing standard output");
-        meters[Meter::FAILED] = 1;
+    match rt.write_all(text) {
+        Ok(()) => meters[Meter::HANDED] += text.len() as u64,
+        Err(error) => {
+            report(rt, "writing standard output", error);
+            meters[Meter::FAILED] = 1;
+        }
     }
+}
+
+// Reports in a line on standard error what failed, and why: in the system's words, without the number that std puts behind them.
+pub fn report(rt: &HostRuntime, what: &str, error: Error) {
+    let said = InlineText::<128>::of(error);
+    let why = match said.as_str().split_once(" (os error ") {
+        Some((words, _)) => words,
+        None => said.as_str(),
+    };
+    let _ = eprintln!(rt; "subsume: {what}: {why}");
 }

@@ -21,6 +21,7 @@ use streaming::feed_all;
 
 // Puts the totals into the output and hands them on.
 fn write_totals(
+    rt: &HostRuntime,
     setting: Setting,
     totals: Totals,
     output: &mut [u8],
@@ -31,11 +32,12 @@ fn write_totals(
     ensures handed { HandedOn meters.old (length (totals_line setting totals)) meters.new }
 {
     let end = put_totals(output, 0, setting, totals);
-    hand_on(&output[..end], meters);
+    hand_on(rt, &output[..end], meters);
 }
 
 // The whole run, by its argument.
 pub fn run(
+    rt: &HostRuntime,
     argument: &[u8],
     input: &mut [u8],
     tree: &mut [u64],
@@ -51,9 +53,11 @@ pub fn run(
     ensures promise { Promise }
 {
     let setting = setting_of(argument);
-    let fed = feed_all(setting, input, tree, marks, counters, words, output, meters);
+    let fed = feed_all(
+        rt, setting, input, tree, marks, counters, words, output, meters,
+    );
     let session = fed.session;
     let totals = session.totals;
-    write_totals(setting, totals, output, meters);
-    write_tally(totals.records, marks, counters, output, meters);
+    write_totals(rt, setting, totals, output, meters);
+    write_tally(rt, totals.records, marks, counters, output, meters);
 }

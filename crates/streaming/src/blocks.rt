@@ -23,6 +23,7 @@ pub struct FedBlock {
 
 // Reads a block, feeds what was read, and hands its lines on.
 fn take_block(
+    rt: &HostRuntime,
     setting: Setting,
     session: Session,
     input: &mut [u8],
@@ -52,7 +53,7 @@ fn take_block(
     ensures reads { reads_made meters.new ≡ reads_made meters.old + 1 }
     ensures indexed { Indexed tree.new heads.new }
 {
-    let count = read_block(input, meters);
+    let count = read_block(rt, input, meters);
     let turn = feed(
         setting,
         &input[..count],
@@ -65,7 +66,7 @@ fn take_block(
         output,
     );
     let next = turn.next;
-    hand_on(&output[..next], meters);
+    hand_on(rt, &output[..next], meters);
     let after = turn.session;
     FedBlock {
         session: after,
@@ -75,6 +76,7 @@ fn take_block(
 
 // Takes block after block, with the index of the tree beside it: of a fresh tree it is 0 throughout.
 pub fn feed_all(
+    rt: &HostRuntime,
     setting: Setting,
     input: &mut [u8],
     tree: &mut [u64],
@@ -101,7 +103,7 @@ pub fn feed_all(
         }
         let session = here.session;
         here = take_block(
-            setting, session, input, tree, marks, &mut heads, counters, words, output, meters,
+            rt, setting, session, input, tree, marks, &mut heads, counters, words, output, meters,
         );
     }
 }

@@ -4,8 +4,8 @@ ghost use Rattle.streaming.specs.Fed.{may_read};
 ghost use Rattle.streaming.specs.Inner.Reading.{Readable, Delivered};
 
 use crate::Limit;
-use libc::STDIN_FILENO;
-use printing::Meter;
+use printing::{Meter, report};
+use std::io::{ErrorKind, Read};
 
 // Whether the reads have not ended, no write has failed, and a read is left.
 pub(crate) fn may_read(meters: &[u64; Meter::WORDS]) -> bool
@@ -21,25 +21,30 @@ pub(crate) fn may_read(meters: &[u64; Meter::WORDS]) -> bool
 }
 
 // Reads a block, and gives how many bytes it has: none where a signal came first, or where the reads end. A read that fails is reported.
-pub(crate) fn read_block(input: &mut [u8], meters: &mut [u64; Meter::WORDS]) -> usize
+pub(crate) fn read_block(
+    rt: &HostRuntime,
+    input: &mut [u8],
+    meters: &mut [u64; Meter::WORDS],
+) -> usize
     requires { Readable input.old meters.old }
     ensures { Delivered result input.new meters.old meters.new }
 {
     meters[Meter::READS] += 1;
-    let got = libc::read(STDIN_FILENO, input);
-    if got < 0 {
-        if os::errno() == libc::EINTR {
-            return 0;
+    match rt.stdin().read(input) {
+        Ok(0) => {
+            meters[Meter::ENDED] = Meter::NO_MORE;
+            0
         }
-        os::fail(b"subsume: reading standard input");
-        meters[Meter::ENDED] = Meter::UNREAD;
-        return 0;
+        Ok(count) => {
+            meters[Meter::READ] += count as u64;
+            count
+        }
+        Err(error) => {
+            if error.kind() != ErrorKind::Interrupted {
+                report(rt, "reading standard input", error);
+                meters[Meter::ENDED] = Meter::UNREAD;
+            }
+            0
+        }
     }
-    let count = io::count(got, input);
-    if count == 0 {
-        meters[Meter::ENDED] = Meter::NO_MORE;
-        return 0;
-    }
-    meters[Meter::READ] += count as u64;
-    count
 }

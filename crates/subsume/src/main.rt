@@ -10,11 +10,13 @@ use clause::Clause;
 use printing::Meter;
 use record::Lent;
 use running::{Argument, run};
+use std::env::Env;
 use streaming::Limit;
 use tallying::Counters;
 
 // Runs on the buffers, which are as long as their types say: where they are made, the prover would count them, cell by cell.
 fn start(
+    rt: &HostRuntime,
     argument: &[u8],
     input: &mut [u8; Limit::BLOCK],
     tree: &mut [u64; Lent::TREE],
@@ -27,13 +29,13 @@ fn start(
     requires { (store_of words.old tree.old marks.old counters.old ≡ first_store) × (meters.old ≡ replicate meter_count 0) }
 {
     run(
-        argument, input, tree, marks, counters, words, output, meters,
+        rt, argument, input, tree, marks, counters, words, output, meters,
     );
 }
 
-fn main() {
+fn main(rt: HostRuntime) {
     let mut argument = [0u8; Argument::BYTES];
-    let length = os::arg(1, &mut argument);
+    let length = rt.arg(1, &mut argument).unwrap_or(0);
     let mut input = [0u8; Limit::BLOCK];
     let mut tree = [0u64; Lent::TREE];
     let mut marks = [0u8; Lent::MARKS];
@@ -42,6 +44,7 @@ fn main() {
     let mut output = [0u8; Limit::OUTPUT];
     let mut meters = [0u64; Meter::WORDS];
     start(
+        &rt,
         &argument[..length],
         &mut input,
         &mut tree,

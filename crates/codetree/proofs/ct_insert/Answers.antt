@@ -10,6 +10,6 @@ use Rattle.codetree.proofs.ct_insert.Goals as goal
 pub returns : goal.returns
 unfolding ct_insert
 returns c = (
-      hands c.args.told.now (ap called c.insert.ensures) c.hand_call.ensures,
-      ct_demand1,
-    )
+  hands c.args.told.now (ap called c.insert.ensures) c.hand_call.ensures,
+  ct_demand1,
+)

@@ -11,6 +11,6 @@ use Rattle.codetree.proofs.ct_query.Goals as goal
 pub returns : goal.returns
 unfolding ct_query
 returns c = (
-      hands c.args.told.now (ap asked c.query.ensures) c.hand_query.ensures,
-      ((ct_reach, ct_demand2, ct_demand3), (ct_exact_count, told_apart)),
-    )
+  hands c.args.told.now (ap asked c.query.ensures) c.hand_query.ensures,
+  ((ct_reach, ct_demand2, ct_demand3), (ct_exact_count, told_apart)),
+)
