@@ -71,6 +71,7 @@ module _ {A : Type 0} (R : A → A → Type 0) (trans : (a b c : A) → R a b �
 
   -- related elements of an antichain are the same
   same : {xs : List A} → Antichain R xs → (a b : A) → Memᴰ a xs → Memᴰ b xs → R a b → a ≡ b
+  same nobody a b m n r = elim m [ ]
   same (besides u us) a b (Memᴰ.head e) (Memᴰ.head f) r = e ∙ sym f
   same (besides u us) a b (Memᴰ.head e) (Memᴰ.tail m) r = absurd ((all_mem u m).0 (rw e at r))
   same (besides u us) a b (Memᴰ.tail n) (Memᴰ.head f) r = absurd ((all_mem u n).1 (rw f at r))

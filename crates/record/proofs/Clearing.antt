@@ -21,7 +21,7 @@ abbrev pub Differ : List Pair → Type 0
 Differ K = Each (λ p q. p.number ≢ q.number) K
 
 -- two pairs of such a book with the same number are one
-pub same_pair : {K : List Pair} {p q : Pair} → Differ K → Memᴰ p K → Memᴰ q K → p.number ≡ q.number → p ≡ q
+pub same_pair : {p q : Pair} {K : List Pair} → Differ K → Memᴰ p K → Memᴰ q K → p.number ≡ q.number → p ≡ q
 same_pair d (Memᴰ.head i) (Memᴰ.head j) e = i ∙ sym j
 same_pair (besides h d) (Memᴰ.head i) (Memᴰ.tail n) e = absurd (all_mem h n (ap (λ (x : Pair). x.number) (sym i) ∙ e))
 same_pair (besides h d) (Memᴰ.tail m) (Memᴰ.head j) e = absurd (all_mem h m (ap (λ (x : Pair). x.number) (sym j) ∙ sym e))
@@ -48,6 +48,7 @@ module _ (n : ℕ) where
 
   -- a pair that is left was there, with another number
   without_mem : {p : Pair} (K : List Pair) → Memᴰ p (without n K) → Memᴰ p K × (p.number ≢ n)
+  without_mem {p} [] m = elim m [ ]
   without_mem {p} (q ∷ K) m = go (ℕ_discrete q.number n) (without_mem K)
     where
       here : q.number ≢ n → (Memᴰ p (without n K) → Memᴰ p K × (p.number ≢ n)) → Memᴰ p (q ∷ without n K) → Memᴰ p (q ∷ K) × (p.number ≢ n)
@@ -60,6 +61,7 @@ module _ (n : ℕ) where
 
   -- and such a pair is left
   mem_without : {p : Pair} (K : List Pair) → Memᴰ p K → p.number ≢ n → Memᴰ p (without n K)
+  mem_without {p} [] m e = elim m [ ]
   mem_without {p} (q ∷ K) (Memᴰ.head i) e = rw (without_other q K (λ j. e (ap (λ (x : Pair). x.number) i ∙ j))) (Memᴰ.head i)
   mem_without {p} (q ∷ K) (Memᴰ.tail m) e = go (ℕ_discrete q.number n) (mem_without K m e)
     where
@@ -93,6 +95,7 @@ module _ (n : ℕ) where
 
   -- one fewer, where one has it
   without_length : (K : List Pair) → Differ K → Numbered K n → suc (length (without n K)) ≡ length K
+  without_length [] d (q, m, e) = elim m [ ]
   without_length (p ∷ K) (besides h d) (q, Memᴰ.head i, e) =
       let j : p.number ≡ n = ap (λ (x : Pair). x.number) (sym i) ∙ e in
       ap (λ (l : List Pair). suc (length l)) (without_same p K j ∙ without_none K (all-weaken (λ x u v. u (j ∙ sym v)) h))

@@ -60,11 +60,11 @@ use Rattle.record.proofs.Ruling.{used_layout, find_numbered, find_new, tried, bo
 
 pub after_append : (T : List ℕ) (xs ys : List Call) → after T (xs ++ ys) ≡ after (after T xs) ys
 after_append T [] ys = refl
-after_append T (x ∷ xs) ys = after_append _ xs ys
+after_append T (x ∷ xs) ys = after_append (call_on T x).slice xs ys
 
 pub book_append : (K : List Pair) (xs ys : List Call) → book_from tree_words K (xs ++ ys) ≡ book_from tree_words (book_from tree_words K xs) ys
 book_append K [] ys = refl
-book_append K (x ∷ xs) ys = book_append _ xs ys
+book_append K (x ∷ xs) ys = book_append (book_step tree_words K x) xs ys
 
 pub fit_append : (xs ys : List Call) → AllFit xs → AllFit ys → AllFit (xs ++ ys)
 fit_append [] ys f g = g

@@ -99,6 +99,7 @@ module _ (m a : ℕ) (f g : ℕ → ℕ) (others : (n : ℕ) → (n ≡ m → �
 
   -- one of them is more by a
   pub one_more : {l : List ℕ} → Each ◌<◌ l → Memᴰ m l → g m ≡ a + f m → total (map g l) ≡ a + total (map f l)
+  one_more nobody n e = elim n [ ]
   one_more (besides {x = x} h r) (Memᴰ.head i) e =
       let k : g x ≡ a + f x = rw (sym i) e in
       omega (arith, k, without (after_all i h))

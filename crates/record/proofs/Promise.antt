@@ -7,7 +7,7 @@ use mathlib.Core.List.{Memᴰ}
 use Prim.Native.Nat.{ℕ}
 use native.Mathlib.Omega.{arith}
 use lib.ListN.{length}
-use Rattle.clause.specs.Lists.{Each, besides}
+use Rattle.clause.specs.Lists.{Each, nobody, besides}
 use Rattle.clause.specs.Clause.{Accepted, Subsumes}
 use Rattle.clause.proofs.Lists.{all_mem}
 use Rattle.tree.specs.Entries.{Pair}
@@ -72,6 +72,7 @@ sheet_row (r ∷ rs) x (later o) = let (q, m, e, k) = sheet_row rs x o in (q, Me
 -- of two elements of such a list each is related to the other, or they are the same
 each_two : {A : Type 0} {R : A → A → Type 0} → ((a b : A) → R a b → R b a) → {xs : List A} → Each R xs → {a b : A} → Memᴰ a xs → Memᴰ b xs
     → (a ≡ b) ⊎ R a b
+each_two s nobody m n = elim m [ ]
 each_two s (besides h e) (Memᴰ.head i) (Memᴰ.head j) = inl (i ∙ sym j)
 each_two {R = R} s (besides h e) {b = b} (Memᴰ.head i) (Memᴰ.tail n) = inr (subst (λ c. R c b) (sym i) (all_mem h n))
 each_two {R = R} s (besides h e) {a = a} (Memᴰ.tail m) (Memᴰ.head j) = inr (subst (λ c. R a c) (sym j) (s _ _ (all_mem h m)))

@@ -328,6 +328,7 @@ pub kept_one : {o : Outcome} {x : Record} → IsKept o → Memᴰ (pair_of x) (k
 kept_one (u, e) = rw e (Memᴰ.head refl)
 
 pub kept_mem : (rs : List Row) → taken_out rs ≡ [] → (r : Row) → Memᴰ r rs → IsKept r.outcome → Memᴰ (pair_of r.of) (kept_pairs rs)
+kept_mem [] e r m k = elim m [ ]
 kept_mem (s ∷ rs) e r m k = go (later s.removed e) m (λ i n. kept_mem rs i r n k)
   where
     later : (ms : List ℕ) → ms ++ taken_out rs ≡ [] → taken_out rs ≡ []

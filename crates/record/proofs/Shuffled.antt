@@ -40,6 +40,7 @@ refused_rises (r ∷ rs) t = omega (arith, one r.outcome, refused_rises rs (coun
 
 -- so each row is kept or struck where it ends at 0
 not_refused : (rs : List Row) (t : Totals) → (totals_with t rs).refused ≡ 0 → (r : Row) → Memᴰ r rs → IsKept r.outcome ⊎ IsStruck r.outcome
+not_refused [] t e r m = elim m [ ]
 not_refused (q ∷ rs) t e r (Memᴰ.tail m) = not_refused rs (counted q.outcome (length q.removed) t) e r m
 not_refused (q ∷ rs) t e r (Memᴰ.head i) =
     subst (λ (y : Row). IsKept y.outcome ⊎ IsStruck y.outcome) (sym i)
@@ -94,6 +95,7 @@ same_clauses_kept a b h k c d e f = alike (sheets Back a h).covers (sheets Back 
 -- ---- in two orders
 
 perm_mem : {A : Type 0} {x : A} {xs ys : List A} → Permᴰ xs ys → Memᴰ x xs → Memᴰ x ys
+perm_mem Permᴰ.nil m = elim m [ ]
 perm_mem (Permᴰ.cons e d) (Memᴰ.head i) = Memᴰ.head (i ∙ e)
 perm_mem (Permᴰ.cons e d) (Memᴰ.tail m) = Memᴰ.tail (perm_mem d m)
 perm_mem (Permᴰ.swap e f) (Memᴰ.head i) = Memᴰ.tail (Memᴰ.head (i ∙ e))

@@ -68,6 +68,7 @@ struck_among n (s ∷ rs) r m = go (strike n s.outcome) (struck_among n rs r)
     go (other h) ih = further (ih (subst (Memᴰ r) (struck_same n s rs h) m))
 
 pub among_struck : (n : ℕ) (rs : List Row) (r : Row) (k : ℕ) → Memᴰ r rs → r.outcome ≡ Struck n k → Memᴰ r (struck_by n rs)
+among_struck n [] r k m e = elim m [ ]
 among_struck n (s ∷ rs) r k (Memᴰ.head i) e =
     subst (Memᴰ r) (sym (struck_more n k s rs (ap (λ (y : Row). y.outcome) (sym i) ∙ e))) (Memᴰ.head i)
 among_struck n (s ∷ rs) r k (Memᴰ.tail m) e = go (strike n s.outcome) (among_struck n rs r k m e)

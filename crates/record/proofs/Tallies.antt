@@ -50,6 +50,7 @@ read_records v input =
 
 -- a row in its place
 row_at : (r : Row) (rs : List Row) → Memᴰ r rs → (a : RowAt rs) × (a.this ≡ r)
+row_at r [] m = elim m [ ]
 row_at r (s ∷ rs) (Memᴰ.head e) = (record { before = []; this = s; after = rs; whole = refl }, sym e)
 row_at r (s ∷ rs) (Memᴰ.tail m) =
     let (a, e) = row_at r rs m in

@@ -2,7 +2,7 @@
 use mathlib.Core.Path.{◌≡◌, refl, sym, ap, ◌∙◌}
 use mathlib.Core.List.{List, [], ◌∷◌, ◌++◌}
 use mathlib.Core.Bool.{Bool, true, false}
-use Prim.Native.Nat.{ℕ, zero, suc, ◌+◌, ◌/◌, ◌%◌, ◌^◌, ◌≤◌, ◌<◌}
+use Prim.Native.Nat.{ℕ, zero, suc, ◌+◌, ◌-◌, ◌*◌, ◌/◌, ◌%◌, ◌^◌, ◌≤◌, ◌<◌}
 use native.Mathlib.Omega.{arith}
 use native.Mathlib.Decide.{dec_lt}
 use lib.ListN.{length, get_or, length-append}
@@ -83,7 +83,7 @@ by_tens P small large n = go (suc n) n (omega arith)
 
 read_last : (n : ℕ) (l : List ℕ) (b : ℕ) → read_on n (l ++ (b ∷ [])) ≡ read_on (read_on n l) (b ∷ [])
 read_last n [] b = refl
-read_last n (a ∷ l) b = read_last _ l b
+read_last n (a ∷ l) b = read_last (n * 10 + (a - 48)) l b
 
 value : (n : ℕ) → value_of (decimal n) ≡ n
 value =
