@@ -7,14 +7,13 @@ use borrow.Author.Rules.{rules}
 use Rattle.compiling.proofs.act.Goals as goal
 
 pub slice_bounds-first_put-end-then-w-eq8 : goal.slice_bounds-first_put-end-then-w-eq8
-slice_bounds-first_put-end-then-w-eq8 c = let a = c.before.before.before.before.before.args in sym (length-take-le a.count a.variables.now (omega arith))
+slice_bounds-first_put-end-then-w-eq8 c = let a = c.args in sym (length-take-le a.count a.variables.now (omega arith))
 
 pub returns-then-w-eq8 : goal.returns-then-w-eq8
 returns-then-w-eq8 c =
-    let s = c.before.before.before.before.before.before in
-    let a = s.args in
-    acted_put a.w a.count c.first_put-number.result a.variables.now a.firsts.now a.keys.now a.written s.requires.0 s.requires.1
-    c.if-w-eq8.true s.requires.4 c.first_put-number.ensures
+    let a = c.args in
+    acted_put a.w a.count c.first_put-number.result a.variables.now a.firsts.now a.keys.now a.written c.requires.0 c.requires.1
+    c.if-w-eq8.true c.requires.4 c.first_put-number.ensures
 
 pub returns : goal.returns
 returns c =

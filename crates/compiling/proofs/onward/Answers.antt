@@ -10,10 +10,10 @@ use Rattle.compiling.proofs.onward.Lts as lts
 use Rattle.compiling.proofs.onward.Goals as goal
 
 -- there is room for both keys
-push_room : (c : lts.Then2 reads.Pre reads.Post) → c.before.before.args.s.written + 2 ≤ length c.before.before.args.keys.now
+push_room : (c : goal.Then-left-gt0) → c.args.s.written + 2 ≤ length c.args.keys.now
 push_room c =
-    let a = c.before.before.args in
-    omega (arith, push_two (saved_in a.saved.now a.s.depth) a.s.pushed a.arity a.s.left c.before.if1.true c.if2.true)
+    let a = c.args in
+    omega (arith, push_two (saved_in a.saved.now a.s.depth) a.s.pushed a.arity a.s.left c.if-arity-gt0.true c.if-left-gt0.true)
 
 pub bounds-keys-written : goal.bounds-keys-written
 bounds-keys-written c = omega (arith, push_room c)
@@ -48,7 +48,7 @@ returns-then-left-gt0-2 c =
     (omega (arith, c.if-arity-gt0.false)) c.if-left-gt0-2.true
 
 pub overflow_add-keys-then-depth-gt0 : goal.overflow_add-keys-then-depth-gt0
-overflow_add-keys-then-depth-gt0 c = omega (arith, c.slice_known-1.given (c.args.s.depth - 1))
+overflow_add-keys-then-depth-gt0 c = omega (arith, c.type_inv.saved (c.args.s.depth - 1))
 
 pub bounds-keys-written-then-depth-gt0 : goal.bounds-keys-written-then-depth-gt0
 bounds-keys-written-then-depth-gt0 c =
