@@ -115,6 +115,7 @@ module _ (M : Machine) (P : Spares M) (allow : ℕ → Bool) where
       → (s : M.State) (f : ℕ) → P.spare q 0 s ≤ f → Adds (leaves B * arrangements f m) (visit_at M allow o (walk M allow B) s)
   adds_visit none B m b f h ih s r g c = of_broken
   adds_visit (some (Success n)) B m b f h ih s r g c = ends_follow (covered n) c (M.finish s) (omega arith) (λ t e. of_covered {c = c} (omega arith))
+  adds_visit (some First) B zero b f h ih s r g c = elim h [ ]
   adds_visit (some First) B (suc m) b f h ih s r g c =
       let l : ℕ = leaves B in
       let a : ℕ = arrangements (r - 1) m in

@@ -72,13 +72,16 @@ leads_inside (some (Success m)) i B h p n l = absurd h
 
 -- the forest's paths are the walk's
 pub has_leads : (b : ℕ) (F : Forest) → Formed b F → (p : List ℕ) (n : ℕ) → Has F p n → Leads F p n
+has_leads b empty f p n h = elim h [ ]
 has_leads b (node i B R) f p n (further h) = inr (has_leads (next_key i) R f.rest p n h)
 has_leads b (node i empty R) f p n leaf = inl (rw (instr_of_success i f.shape) (refl, refl))
+has_leads b (node i empty R) f _ n (deeper {cs = cs} h) = elim h [ ]
 has_leads b (node i (node j C S) R) f p n (deeper {cs = cs} h) =
     inl (leads_inside (instr_of i) i (node j C S) (inside i f.shape f.legal) cs n (has_leads 0 (node j C S) f.below cs n h))
 
 -- the walk's paths are the forest's
 pub leads_has : (b : ℕ) (F : Forest) → Formed b F → (p : List ℕ) (n : ℕ) → Leads F p n → Has F p n
+leads_has b empty f p n l = elim l [ ]
 leads_has b (node i B R) f p n (inr l) = further (leads_has (next_key i) R f.rest p n l)
 leads_has b (node i empty R) f p n (inl l) = let (e, g) = rw (instr_of_success i f.shape) at l in rw (e, g) leaf
 leads_has b (node i (node j C S) R) f p n (inl l) =

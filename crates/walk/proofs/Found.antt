@@ -48,6 +48,7 @@ module _ (M : Machine) where
 
   -- what is found has a path that runs
   solves→finds : (F : Forest) (n : ℕ) (t s : M.State) → Solves M F s n t → Finds M F s n t
+  solves→finds empty n t s g = elim g [ ]
   solves→finds (node i B R) n t s (inl g) =
       let (p, js, path, cs, e) = solves→finds-at i B n t (solves→finds B n t) (instr_of i) refl s g in
       (p, js, inl path, cs, e)

@@ -146,6 +146,7 @@ module _ (c d : List ℕ) (C : Clause c) (D : Clause d) (w : Words c) where
 -- ---- the clauses that are kept
 
 mem_most : {p : Pair} (K : List Pair) → Memᴰ p K → length (literals p.clause) ≤ most K
+mem_most [] m = elim m [ ]
 mem_most (r ∷ K) (Memᴰ.head e) = rw e (omega arith)
 mem_most (r ∷ K) (Memᴰ.tail m) = omega (arith, mem_most K m)
 
