@@ -4,4 +4,4 @@ use Rattle.cells.proofs.Unlike.{unlike}
 use Rattle.cells.proofs.row.fails.Goals as goal
 
 pub returns : goal.returns
-returns c e = unlike _ _ _ c.requires c.wrapping_sub_u64.ensures (ltb-true _ _ e)
+returns c e = unlike _ _ _ c.requires c.wrapping_sub_u64.ensures.value (ltb-true _ _ e)

@@ -1,7 +1,6 @@
 -- `skip` meets its contract. The loop's invariant: only Checks that fail stand between the place where it began and the latest word, and before the
 -- next word too, unless the latest is too long for the row.
 use Rattle.std.proofs.Common.{◌≡◌, ◌-◌, ◌≤◌, length, arith, rules}
-use borrow.Author.Tests.{not-false}
 use Rattle.cells.specs.Inner.Cells.{Skipped}
 use Rattle.cells.proofs.Rows.{skipped_none, skipped_more, skipped_left}
 use Rattle.cells.proofs.row.skip.Goals as goal
@@ -21,7 +20,7 @@ returns-then-size-eq0 c = skipped_left (c.loop-to.invariant.1 (omega (arith, c.l
 pub loop-to-preserved : goal.loop-to-preserved
 loop-to-preserved c =
     let p = c.loop-to.invariant.1 (omega (arith, c.loop-to-test.true)) in
-    let f = c.fails.ensures (not-false _ c.if-not-fails.false) in
+    let f = c.fails.ensures c.if-not-fails.false in
     (p, skipped_more _ _ _ _ p c.loop-to-test.true f.0 f.1 _ c.extent-size.ensures c.if-size-eq0.false)
 
 pub overflow_sub-result-then-to-words : goal.overflow_sub-result-then-to-words

@@ -4,11 +4,11 @@ use Rattle.cells.specs.Inner.Cells.{wanted_at}
 use Rattle.cells.proofs.row.wanted.Goals as goal
 
 pub overflow_cast-result : goal.overflow_cast-result
-overflow_cast-result c = omega (arith, c.shared_slice_known-1.given c.args.head)
+overflow_cast-result c = omega (arith, c.type_inv.query c.args.head)
 
 pub overflow_add-result : goal.overflow_add-result
-overflow_add-result c = omega (arith, c.shared_slice_known-1.given c.args.head)
+overflow_add-result c = omega (arith, c.type_inv.query c.args.head)
 
 pub returns : goal.returns
 unfolding wanted_at
-returns c = (refl, omega (arith, c.shared_slice_known-1.given c.args.head))
+returns c = (refl, omega (arith, c.type_inv.query c.args.head))

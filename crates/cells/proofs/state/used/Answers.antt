@@ -7,24 +7,22 @@ use Rattle.cells.proofs.state.used.Reads as reads
 use Rattle.cells.proofs.state.used.Lts as lts
 use Rattle.cells.proofs.state.used.Goals as goal
 
--- the cell that is read holds a literal
-small : (c : lts.After-bits reads.Pre reads.Post invariant-loop decreases-loop)
-    → get_or c.before.before.before.before.args.cells.now (c.before.before.loop.i - 1) 0 < max_literals
-small c =
-    let a = c.before.before.before.before in
-    candidate_small a.args.cells.now a.requires.0 a.requires.1 c.before.before.loop.i c.before.loop-test.true c.before.before.loop.invariant.0
-
 pub loop-i-init : goal.loop-i-init
 loop-i-init c = (omega arith, bits_none c.args.cells.now c.requires.0 c.requires.1)
 
 pub bounds-cells-i : goal.bounds-cells-i
 bounds-cells-i c = omega (arith, c.requires.1.0, c.loop-i.invariant.0)
 
+-- the cell that is read holds a literal
 pub overflow_cast-bits : goal.overflow_cast-bits
-overflow_cast-bits c = record { fits = omega (arith, small c) }
+overflow_cast-bits c =
+    let small = candidate_small c.args.cells.now c.requires.0 c.requires.1 c.loop-i.i c.loop-i-test.true c.loop-i.invariant.0 in
+    record { fits = omega (arith, small) }
 
 pub overflow_shl-bits : goal.overflow_shl-bits
-overflow_shl-bits c = omega (arith, small c)
+overflow_shl-bits c =
+    let small = candidate_small c.args.cells.now c.requires.0 c.requires.1 c.loop-i.i c.loop-i-test.true c.loop-i.invariant.0 in
+    omega (arith, small)
 
 pub loop-i-preserved : goal.loop-i-preserved
 loop-i-preserved c =
