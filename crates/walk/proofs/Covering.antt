@@ -13,7 +13,7 @@ use Rattle.clause.specs.Clause.{Accepted, literals, Subsumes}
 use Rattle.machine.specs.Machine.{State, initial}
 use Rattle.tree.specs.Forest.{Forest, size, leaves, layout, Formed}
 use Rattle.tree.specs.Entries.{Mirrors, Pair, Sound, entry}
-use Rattle.walk.specs.Walk.{Answer, covered, not_covered, up_to, always, walk}
+use Rattle.walk.specs.Walk.{Answer, covered, not_covered, spent, broken, up_to, always, walk}
 use Rattle.walk.specs.Ceiling.{ceiling, arrangements}
 use Rattle.walk.specs.Query.{machine, witness_words, shown, with_shown, unanswered, answer_by, query}
 use Rattle.walk.specs.Covering.{most, Subsumed, Shows, count_of, candidates, IsCovered, IsNotCovered, IsSpent, Answers}
@@ -158,6 +158,8 @@ module _ (K : List Pair) (F : Forest) (S : All Sound K) (R : Mirrors F (map entr
     answers_from (not_covered c) a' e (nothing g) (over (of_not_covered h)) u =
         let all : candidates F d ≡ c = ap count_of e in
         over_budget u (omega arith)
+    answers_from spent a' e right _ u = elim right [ ]
+    answers_from broken a' e right _ u = elim right [ ]
 
   -- the queries of a tree that keeps some clauses
   pub answers : (len : ℕ) → 2 ≤ len → len ≤ 65_536 → size F < len → (b : ℕ) (W : List ℕ) → witness_words ≤ length W → Answers K F (layout len F) d b W

@@ -11,7 +11,7 @@ use Rattle.machine.specs.Instr.{First, key}
 use Rattle.machine.specs.Machine.{State, initial}
 use Rattle.tree.specs.Forest.{Forest, empty, node}
 use Rattle.tree.specs.Entries.{Mirrors, Pair, Sound, entry}
-use Rattle.walk.specs.Walk.{Answer, covered, not_covered, always, walk}
+use Rattle.walk.specs.Walk.{Answer, covered, not_covered, spent, broken, always, walk}
 use Rattle.walk.specs.Query.{machine}
 use Rattle.walk.specs.Covering.{most, Units, Subsumed, count_of, candidates}
 use Rattle.machine.proofs.Keys.{instr_of_first}
@@ -56,6 +56,8 @@ module _ (K : List Pair) (F : Forest) (S : All Sound K) (R : Mirrors F (map entr
       go : (a : Answer State) → Decides (Finds (machine d) F initial) a → Exactly 0 (length (literals d)) a → count_of a ≡ length (literals d)
       go (covered n t c) (found f) e = absurd (free (finds_subsumed K F S R d D n t f))
       go (not_covered c) (nothing g) (of_not_covered e) = omega arith
+      go spent right e = elim right [ ]
+      go broken right e = elim right [ ]
 
 -- no query takes more, also where nothing is kept
 pub units_bounded : (K : List Pair) (F : Forest) → All Sound K → Mirrors F (map entry K) → Units K → (d : List ℕ) → candidates F d ≤ length (literals d)

@@ -22,13 +22,12 @@ returns-in-0 c =
 
 pub returns-in-1 : goal.returns-in-1
 returns-in-1 c =
-    let s = c.before.before.before.before in
-    let a = s.args in
+    let a = c.args in
     let d = a.query.now in
     let t = a.tables.now in
     let l = a.cells.now in
     let e = c.in-1.is in
-    rw (sized_other a.op a.words (λ z. omega (arith, z, e)) (act_first d t a.head l s.requires.0 a.op a.x e)) c.tries.ensures.0
+    rw (sized_other a.op a.words (λ z. omega (arith, z, e)) (act_first d t a.head l c.requires.0 a.op a.x e)) c.tries.ensures.0
 
 pub returns-in-2 : goal.returns-in-2
 returns-in-2 c =
@@ -41,13 +40,12 @@ returns-in-2 c =
 
 pub returns-in-3 : goal.returns-in-3
 returns-in-3 c =
-    let s = c.before.before.before.before in
-    let a = s.args in
+    let a = c.args in
     let d = a.query.now in
     let t = a.tables.now in
     let l = a.cells.now in
     let e = c.in-3.is in
-    rw (sized_other a.op a.words (λ z. omega (arith, z, e)) (act_right d t a.head l s.requires.0 s.requires.1 a.op a.x e)) c.sibling.ensures
+    rw (sized_other a.op a.words (λ z. omega (arith, z, e)) (act_right d t a.head l c.requires.0 c.requires.1 a.op a.x e)) c.sibling.ensures
 
 pub returns-in-4 : goal.returns-in-4
 returns-in-4 c =
@@ -60,24 +58,22 @@ returns-in-4 c =
 
 pub returns-in-5 : goal.returns-in-5
 returns-in-5 c =
-    let s = c.before.before.before.before.before.before in
-    let a = s.args in
+    let a = c.args in
     let d = a.query.now in
     let t = a.tables.now in
     let l = a.cells.now in
     let e = c.in-5.is in
-    let p = act_push d t a.head l s.requires.0 s.requires.1 a.op a.x e in
+    let p = act_push d t a.head l c.requires.0 c.requires.1 a.op a.x e in
     rw (sized_other a.op a.words (λ z. omega (arith, z, e)) p, ← c.right-to.ensures.0) c.push.ensures
 
 pub returns-in-6 : goal.returns-in-6
 returns-in-6 c =
-    let s = c.before.before.before.before in
-    let a = s.args in
+    let a = c.args in
     let d = a.query.now in
     let t = a.tables.now in
     let l = a.cells.now in
     let e = c.in-6.is in
-    rw (sized_other a.op a.words (λ z. omega (arith, z, e)) (act_pop d t a.head l s.requires.0 s.requires.1 a.op a.x e)) c.pop.ensures
+    rw (sized_other a.op a.words (λ z. omega (arith, z, e)) (act_pop d t a.head l c.requires.0 c.requires.1 a.op a.x e)) c.pop.ensures
 
 pub returns-in-7 : goal.returns-in-7
 returns-in-7 c =
@@ -90,13 +86,12 @@ returns-in-7 c =
 
 pub returns-in-8 : goal.returns-in-8
 returns-in-8 c =
-    let s = c.before.before.before.before in
-    let a = s.args in
+    let a = c.args in
     let d = a.query.now in
     let t = a.tables.now in
     let l = a.cells.now in
     let e = c.in-8.is in
-    rw (sized_other a.op a.words (λ z. omega (arith, z, e)) (act_compare d t a.head l s.requires.0 s.requires.1 a.op a.x e)) c.compare.ensures
+    rw (sized_other a.op a.words (λ z. omega (arith, z, e)) (act_compare d t a.head l c.requires.0 c.requires.1 a.op a.x e)) c.compare.ensures
 
 pub returns-in_default : goal.returns-in_default
 returns-in_default c =
@@ -104,7 +99,6 @@ returns-in_default c =
     let d = a.query.now in
     let t = a.tables.now in
     let l = a.cells.now in
-    let r = c.in_default.rest in
-    let r4 = r.0.0.0.0 in
-    let o = rest_over a.op r4.0.0.0.0.1 r4.0.0.0.1 r4.0.0.1 r4.0.1 r4.1 r.0.0.0.1 r.0.0.1 r.0.1 r.1 in
+    let r = c.in_default in
+    let o = rest_over a.op r.not-0 r.not-1 r.not-2 r.not-3 r.not-4 r.not-5 r.not-6 r.not-7 r.not-8 in
     sticks _ (sym (sized_other a.op a.words (λ z. omega (arith, z, o)) (sym (act_over d t a.head l c.requires.0 c.requires.1 a.op a.x o))))
