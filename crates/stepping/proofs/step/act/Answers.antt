@@ -1,8 +1,9 @@
 -- `act` meets its contract: one law for each operation.
 use mathlib.Core.Path.{sym}
+use Prim.Native.Nat.{◌≤◌}
 use native.Mathlib.Omega.{arith}
 use Rattle.cells.proofs.Places.{few_words}
-use Rattle.stepping.proofs.Visits.{sticks, sized_other, act_success, act_first, act_down, act_right, act_put, act_push, act_pop, act_check, act_compare, act_over, rest_over}
+use Rattle.stepping.proofs.Visits.{sticks, sized_other, act_success, act_first, act_down, act_right, act_put, act_push, act_pop, act_check, act_compare, act_over}
 use borrow.Author.Rules.{rules}
 use Rattle.stepping.proofs.step.act.Goals as goal
 
@@ -99,6 +100,5 @@ returns-in_default c =
     let d = a.query.now in
     let t = a.tables.now in
     let l = a.cells.now in
-    let r = c.in_default in
-    let o = rest_over a.op r.not-0 r.not-1 r.not-2 r.not-3 r.not-4 r.not-5 r.not-6 r.not-7 r.not-8 in
+    let o : 9 ≤ a.op = omega arith in
     sticks _ (sym (sized_other a.op a.words (λ z. omega (arith, z, o)) (sym (act_over d t a.head l c.requires.0 c.requires.1 a.op a.x o))))
