@@ -2,12 +2,10 @@
 use mathlib.Core.Path.{◌≡◌, sym, ◌∙◌}
 use mathlib.Core.List.{List}
 use mathlib.Core.Bool.{◌&&◌}
-use mathlib.Core.Logic.{⊎_elim}
 use Prim.Native.Nat.{ℕ, ◌+◌, ◌-◌, ◌≤◌}
 use native.Mathlib.Nat.{add-zero, zero-add, add_assoc}
 use native.Mathlib.Omega.{arith}
 use borrow.Author.Rules.{rules}
-use borrow.Author.Tests.{not-true, not-false}
 use lib.Dec.{eqb}
 use lib.ListN.{length, drop}
 use lib.Seq.{drop-length}
@@ -17,12 +15,6 @@ use Rattle.tree.proofs.Hops.{key_at, extent_at}
 use Rattle.tree.proofs.Words.{leaf?-le}
 use Rattle.tree.proofs.InsertWords.{leaf_number, leaf_inner}
 use Rattle.laid.proofs.WellLaid.{rows_step, rows_unsound, rows_astray, successes_step, tail_part}
-use Rattle.laid.proofs.rows.Reads as reads
-use Rattle.laid.proofs.rows.Lts as lts
-use Rattle.tree.proofs.key.Reads as key_reads
-use Rattle.laid.proofs.below.Reads as below-reads
-use Rattle.laid.proofs.row.Reads as row_reads
-use Rattle.laid.proofs.sound.Reads as sound-reads
 use Rattle.laid.proofs.rows.Given as goal
 
 abbrev pub invariant-loop-at : goal.invariant-loop-at
