@@ -23,12 +23,17 @@ pub fn hand_on(rt: &HostRuntime, text: &[u8], meters: &mut [u64; Meter::WORDS])
     }
 }
 
-// Reports in a line on standard error what failed, and why: in the system's words, without the number that std puts behind them.
+// Reports in a line on standard error what failed, and why.
 pub fn report(rt: &HostRuntime, what: &str, error: Error) {
     let said = InlineText::<128>::of(error);
-    let why = match said.as_str().split_once(" (os error ") {
-        Some((words, _)) => words,
-        None => said.as_str(),
-    };
+    let why = words_of(said.as_str());
     let _ = eprintln!(rt; "subsume: {what}: {why}");
+}
+
+// The system's words for an error, without the number that std puts behind them.
+fn words_of(said: &str) -> &str {
+    match said.split_once(" (os error ") {
+        Some((words, _)) => words,
+        None => said,
+    }
 }
