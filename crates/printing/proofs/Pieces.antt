@@ -3,13 +3,15 @@ use mathlib.Core.Path.{◌≡◌, refl, sym, ap, subst, ◌∙◌}
 use mathlib.Core.List.{List, [], ◌++◌, append_assoc, append-nil}
 use Prim.Native.Nat.{ℕ, ◌+◌, ◌-◌, ◌*◌, ◌%◌, ◌≤◌, ◌<◌}
 use native.Mathlib.Omega.{arith}
-use lib.ListN.{length, get_or, set, length-set, length-append}
+use lib.ListN.{length, get_or, set, take, length-set, length-append}
 use lib.Seq.{get_or-set_same, get_or-set_other, take-append_seam, drop-append_seam}
+use Rattle.record.specs.Text.{Written, put_at}
 use Rattle.record.specs.Line.{longest_tally, totals_line, records_line}
 use Rattle.record.specs.Marks.{number_count}
 use Rattle.record.specs.Tally.{tally_lines}
 use Rattle.record.specs.Counters.{shown_from, shown_sheet}
 use Rattle.intake.specs.Feed.{fed_whole, printed_of}
+use Rattle.lines.proofs.Writing.{placed, text_there}
 use Rattle.tallying.proofs.Rows.{shown_zero, shown_append}
 use Rattle.printing.specs.Blocks.{block_numbers}
 use Rattle.printing.specs.Handed.{meter_count, bytes_handed, write_failed, StandsAt, NextPiece, HandedOn, SheetNext}
@@ -64,6 +66,13 @@ handed_append g h =
     }
 
 -- ---- the pieces
+
+-- text put at the beginning of an output with room for it is what is there
+pub text_put : (t o : List ℕ) {n r : ℕ} {p : List ℕ} → n ≤ length o → r ≤ n → ◌≡◌ {A = Written} (record { next = r; output = p }) (put_at t o 0)
+    → (r ≤ length p) × (take r p ≡ t)
+text_put t o h k e =
+    let w = placed t o 0 e in
+    (omega (arith, w, k, h), text_there t o (omega (arith, w, k, h)) e)
 
 -- what comes after some text stands there
 pub stands_after : (a t b : List ℕ) {n : ℕ} {w : List ℕ} → n ≡ length a → w ≡ a ++ (t ++ b) → StandsAt n t w
