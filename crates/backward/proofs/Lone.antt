@@ -48,6 +48,7 @@ unfolding layout
 fresh_layout len h = go len h
   where
     go : (n : ℕ) → 2 ≤ n → replicate n 0 ≡ layout n empty
+    go 0 h = elim h [ ]
     go (suc n) h = let e : suc n - 1 ≡ n = omega arith in rw e
 
 -- what is subsumed by that pair's clause

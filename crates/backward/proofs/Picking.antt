@@ -33,6 +33,7 @@ module _ {c : List ℕ} where
   picks_pair (passed u P) m = let (q, i, e, v) = picks_pair P m in (q, Memᴰ.tail i, e, v)
 
   pub pair_picks : {R : List Pair} {ns : List ℕ} (p : Pair) → Picks c R ns → Memᴰ p R → Subsumes c p.clause → Memᴰ p.number ns
+  pair_picks p done x7 u = elim x7 [ ]
   pair_picks p (picked v P) (Memᴰ.head e) u = Memᴰ.head (ap (λ x. x.number) e)
   pair_picks p (picked v P) (Memᴰ.tail m) u = Memᴰ.tail (pair_picks p P m u)
   pair_picks p (passed v P) (Memᴰ.head e) u = absurd (v (rw e at u))

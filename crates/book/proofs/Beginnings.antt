@@ -52,6 +52,7 @@ all_starts (p ∷ K) = starts (compile p.clause p.number) ++ all_starts K
 
 starts_begins : (is : List Instr) {b : List Instr} → Memᴰ b (starts is) → IsBeginning b is
 unfolding starts
+starts_begins [] {b = b} x' = elim x' [ ]
 starts_begins (i ∷ is) (mathlib.Core.List.Memᴰ.head e) = ((λ f. cons≢nil (sym e ∙ f)), is, ap (◌++ is) e)
 starts_begins (i ∷ is) (mathlib.Core.List.Memᴰ.tail m) =
     let (c, n, e) = mathlib.Core.List.Memᴰ.of_map (i ∷◌) (starts is) m in
@@ -70,6 +71,7 @@ begins_starts (i ∷ is) (j ∷ k ∷ b) B =
 -- those of a whole book
 all_begins : (K : List Pair) (b : List Instr) → Memᴰ b (all_starts K) → (p : Pair) × Memᴰ p K × IsBeginning b (compile p.clause p.number)
 unfolding all_starts
+all_begins [] b m = elim m [ ]
 all_begins (p ∷ K) b m = go (mathlib.Core.List.Memᴰ.append_cases (starts (compile p.clause p.number)) m) (all_begins K b)
   where
     go : Memᴰ b (starts (compile p.clause p.number)) ⊎ Memᴰ b (all_starts K)
@@ -78,7 +80,7 @@ all_begins (p ∷ K) b m = go (mathlib.Core.List.Memᴰ.append_cases (starts (co
     go (inl n) ih = (p, mathlib.Core.List.Memᴰ.head refl, starts_begins (compile p.clause p.number) n)
     go (inr n) ih = let (q, k, B) = ih n in (q, mathlib.Core.List.Memᴰ.tail k, B)
 
-begins_all : {K : List Pair} {p : Pair} {b : List Instr} → Memᴰ p K → IsBeginning b (compile p.clause p.number) → Memᴰ b (all_starts K)
+begins_all : {p : Pair} {K : List Pair} {b : List Instr} → Memᴰ p K → IsBeginning b (compile p.clause p.number) → Memᴰ b (all_starts K)
 unfolding all_starts
 begins_all {p = p} {b = b} (mathlib.Core.List.Memᴰ.head {x = q} e) B =
     let m : Memᴰ b (starts (compile q.clause q.number)) = rw (← e) (begins_starts (compile p.clause p.number) b B) in
@@ -175,6 +177,7 @@ thin_only (l ∷ ls) b m = go (thinned l ls) m (thin_only ls b)
 
 thin_keeps : {ls : List (List Instr)} {b : List Instr} → All (All Known) ls → Memᴰ b ls → Memᴰ b (thin ls)
 unfolding thin
+thin_keeps {b = b} none m = elim m [ ]
 thin_keeps {b = b} (also {x = l} {xs = ls} k ks) m = go (thinned l ls) m (λ a n. thin_keeps {b = a} ks n)
   where
     go : Thinned l ls → Memᴰ b (l ∷ ls) → ((a : List Instr) → Memᴰ a ls → Memᴰ a (thin ls)) → Memᴰ b (thin (l ∷ ls))

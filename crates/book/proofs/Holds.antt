@@ -47,6 +47,7 @@ unfolding layout
 fresh_layout len h = go len h
   where
     go : (n : ℕ) → 2 ≤ n → replicate n 0 ≡ layout n empty
+    go 0 h = elim h [ ]
     go (suc n) h = let e : suc n - 1 ≡ n = omega arith in rw e
 
 -- kept clauses have at most max_literals literals
