@@ -2,7 +2,7 @@
 use mathlib.Core.Path.{◌≡◌, refl, ap}
 use mathlib.Core.List.Memᴰ
 use mathlib.Core.List.{List, [], ◌∷◌, map}
-use Prim.Native.Nat.{ℕ, suc, ◌-◌, ◌≤◌, ◌<◌}
+use Prim.Native.Nat.{ℕ, zero, suc, ◌-◌, ◌≤◌, ◌<◌}
 use native.Mathlib.Nat.{le_trans}
 use native.Mathlib.Omega.{arith}
 use lib.ListN.{length, replicate, length-map}
@@ -24,7 +24,7 @@ use Rattle.tree.specs.declared.CallAnswer.TheVariants.{Kept}
 use Rattle.tree.proofs.Words.{length_layout, laid_layout, decode_layout}
 use Rattle.tree.proofs.InsertWords.{chain_size, ins_leaves}
 use Rattle.tree.proofs.Mirror.{mirrors_build}
-use Rattle.walk.specs.Walk.{Answer, covered, not_covered, spent, up_to, always, walk}
+use Rattle.walk.specs.Walk.{Answer, covered, not_covered, spent, broken, up_to, always, walk}
 use Rattle.walk.specs.Ceiling.{arrangements}
 use Rattle.walk.specs.Query.{machine, witness_words, answer_by, query}
 use Rattle.walk.specs.Covering.{most, Subsumed, count_of, candidates}
@@ -48,7 +48,7 @@ unfolding layout
 fresh_layout len h = go len h
   where
     go : (n : ℕ) → 2 ≤ n → replicate n 0 ≡ layout n empty
-    go 0 h = elim h [ ]
+    go zero h = elim h [ ]
     go (suc n) h = let e : suc n - 1 ≡ n = omega arith in rw e
 
 -- what is subsumed by that pair's clause
@@ -118,6 +118,8 @@ module _ (c : List ℕ) (C : Accepted c) (w : Words c) where
     lone_outcome (not_covered k) a' e (nothing g) (as_not_covered h) =
         other (λ u. let (t, f) = subsumes_finds (itself c ∷ []) (lone c) lone_sound lone_mirrors d D (itself c) (Memᴰ.head refl) u in g 0 t f) e h
     lone_outcome (not_covered k) a' e (nothing g) (over (of_not_covered h)) = beyond (omega arith)
+    lone_outcome spent a' e x3 _ = elim x3 [ ]
+    lone_outcome broken a' e x4 _ = elim x4 [ ]
 
     -- so it decides whether c subsumes d
     pub lone_tries : Tries c d b (tried c b d)

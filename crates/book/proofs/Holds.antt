@@ -3,7 +3,7 @@ use mathlib.Core.Path.{◌≡◌, refl, sym, ap, ◌∙◌}
 use mathlib.Core.Logic.{◌≢◌, inl, inr}
 use mathlib.Core.Bool.{Bool, true, false, cond}
 use mathlib.Core.List.{List, [], ◌∷◌, map}
-use Prim.Native.Nat.{ℕ, suc, ◌-◌, ◌≤◌, ◌<◌}
+use Prim.Native.Nat.{ℕ, zero, suc, ◌-◌, ◌≤◌, ◌<◌}
 use native.Mathlib.Nat.{le_trans, mul-le-mul}
 use native.Mathlib.Omega.{arith}
 use native.Mathlib.Decide.{ℕ_discrete}
@@ -47,7 +47,7 @@ unfolding layout
 fresh_layout len h = go len h
   where
     go : (n : ℕ) → 2 ≤ n → replicate n 0 ≡ layout n empty
-    go 0 h = elim h [ ]
+    go zero h = elim h [ ]
     go (suc n) h = let e : suc n - 1 ≡ n = omega arith in rw e
 
 -- kept clauses have at most max_literals literals
