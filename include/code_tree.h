@@ -89,10 +89,10 @@
  * less than 170 KiB, ct_check and ct_read_back less than 20 KiB, the other functions less than 8 KiB (measured).
  *
  * Each function is proved, for all words, lengths and numbers, to return the number and to leave the words that its
- * definition says (crates/capi/specs/Calls.antt), to read and write nothing but the slices that it is handed, and to
+ * definition says (crates/interface/specs/Calls.antt), to read and write nothing but the slices that it is handed, and to
  * end. What queries, checks, clauses read back and listings say after any list of calls, and that with CT_TOLD_WORDS
  * told words or more no two answers of a function are told the same, is proved of those definitions
- * (crates/capi/specs/Claims.antt).
+ * (crates/interface/specs/Claims.antt).
  */
 #ifndef CODE_TREE_H
 #define CODE_TREE_H

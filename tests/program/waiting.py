@@ -36,7 +36,7 @@ def limited(option, seconds):
 
 def interrupted(page, *arguments):
     ours, theirs = limited(socket.SO_RCVTIMEO, 60)
-    process = subprocess.Popen(["target/bin/subsume", *arguments], stdin=theirs)
+    process = subprocess.Popen(["crates/subsume/out/subsume", *arguments], stdin=theirs)
     theirs.close()
     interrupt(process)
     text = pathlib.Path(page).read_bytes()
@@ -59,7 +59,7 @@ def stalling(page, count, *arguments):
     ours, theirs = limited(socket.SO_SNDTIMEO, 1)
     theirs.setsockopt(socket.SOL_SOCKET, socket.SO_SNDBUF, 0)
     with open(page, "rb") as given:
-        command = ["target/bin/subsume", *arguments]
+        command = ["crates/subsume/out/subsume", *arguments]
         process = subprocess.Popen(command, stdin=given, stdout=theirs, stderr=subprocess.PIPE)
     theirs.close()
     text = ours.recv(int(count), socket.MSG_WAITALL)

@@ -15,7 +15,7 @@ fn main() {
     let Ok(archive) = archive.canonicalize() else {
         eprintln!("code_tree: no static library at {}", archive.display());
         eprintln!(
-            "Make it with `rt staticlib codetree` in the repository, or name it in CODE_TREE_LIB."
+            "Make it with `tests/proofs/build library` in the repository, or name it in CODE_TREE_LIB."
         );
         exit(1);
     };

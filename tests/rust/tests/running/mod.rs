@@ -1,5 +1,5 @@
 //! The built program run with arguments, beside the model: every byte that it prints has to be the model's. SUBSUME_BIN names it, or it is
-//! target/bin/subsume.
+//! crates/subsume/out/subsume.
 use model::pages::Page;
 use model::program::{output, Setting};
 use std::fs::{read, read_dir, read_to_string, remove_file, write, File};
@@ -67,7 +67,7 @@ pub fn expect_same(printed: &str, expected: &str, what: &str) {
 
 impl Run<'_> {
     fn program(self) -> Command {
-        let built = || repository().join("target/bin/subsume").into_os_string();
+        let built = || repository().join("crates/subsume/out/subsume").into_os_string();
         let mut program = Command::new(std::env::var_os("SUBSUME_BIN").unwrap_or_else(built));
         program.args(self.0);
         program
