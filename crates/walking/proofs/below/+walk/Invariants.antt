@@ -1,0 +1,25 @@
+-- `walk`: over the passes the invariant is `Between`, along a row `Walking`; the words below a node are fewer.
+use Rattle.std.proofs.Common.{ℕ, ◌-◌, ◌<◌, length}
+use Rattle.cells.specs.Inner.Cells.{state_of}
+use Rattle.walking.proofs.Walking.{Walking}
+use Rattle.walking.proofs.Turns.{Between}
+use Rattle.walking.proofs.below.+walk.Given as goal
+
+-- along a row
+abbrev pub invariant-loop-rest : goal.invariant-loop-rest
+invariant-loop-rest l =
+    Walking l.query l.tables l.words l.budget (state_of l.initial.here l.initial.cells) l.initial.n l.initial.cells l.cells l.n l.here l.trail l.rest
+    × (l.here < length l.query)
+
+abbrev pub decreases-loop-rest : goal.decreases-loop-rest
+decreases-loop-rest l = length l.rest
+
+-- over the passes
+abbrev pub invariant-tries : goal.invariant-tries
+invariant-tries l = Between l.query l.words l.budget l.head l.initial.n l.above l.last l.saved l.initial.cells l.cells l.n l.j
+
+abbrev pub decreases-tries : goal.decreases-tries
+decreases-tries l = l.last - l.j
+
+abbrev pub decreases-walk : goal.decreases-walk
+decreases-walk l = length l.words.now
