@@ -2,7 +2,6 @@
 use mathlib.Core.Path.{◌≡◌, refl, ap, ◌∙◌}
 use mathlib.Core.List.{List, [], ◌∷◌}
 use Prim.Native.Nat.{ℕ}
-use types.Run.{miss}
 use Rattle.cells.specs.Inner.Cells.{no_position, state_of}
 use Rattle.walk.specs.Query.{shown, with_shown}
 use Rattle.walk.specs.declared.QueryAnswer.{QueryAnswer}
@@ -31,9 +30,8 @@ shows b W k l f = rw f
 pub returns-in_default : goal.returns-in_default
 returns-in_default c =
     let a = c.args in
-    let k = c.in_default.keys2 in
     ap (λ (r : QueryAnswer). record { answer = r; witness = a.witness.now }) (c.told.ensures a.witness.now a.cells.now)
-    ∙ stays a.budget a.witness.now a.finding.end a.finding.count a.cells.now (λ n e. miss (0 ∷ 2 ∷ 3 ∷ []) 1 tt (rw e at k))
+    ∙ stays a.budget a.witness.now a.finding.end a.finding.count a.cells.now c.in_default.not-Found
 
 pub returns : goal.returns
 returns c =
