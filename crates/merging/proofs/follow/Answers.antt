@@ -1,6 +1,6 @@
 -- `merging::follow` meets its contract: the keys from `shared` on are looked for in the row from `at` up to `end`.
 use mathlib.Core.Path.{refl}
-use mathlib.Core.Logic.{◌⊎◌, inl, inr, ⊎_elim}
+use mathlib.Core.Logic.{◌⊎◌, inl, inr}
 use Prim.Native.Nat.{◌-◌, ◌≤◌}
 use native.Mathlib.Omega.{arith}
 use lib.Arith.{lt_of_le-ne}
@@ -11,6 +11,7 @@ use Rattle.merging.specs.Inner.Inserting.{Descending}
 use Rattle.merging.proofs.Descending.{firm_some, firm_fits, at_stop, at_end, descending_dive, descending_hop, leads}
 use Rattle.merging.specs.declared.Holder.TheVariants.{Nobody}
 use Rattle.merging.proofs.follow.Goals as goal
+use Rattle.merging.proofs.follow.Goals.{then-loop-at-test+else-shared-keys, else-loop-at-test}
 
 pub loop-at-init : goal.loop-at-init
 loop-at-init c = c.requires
@@ -52,5 +53,8 @@ pub returns : goal.returns
 returns c =
     let l = c.loop-at in
     let o : (l.end ≤ l.at) ⊎ (length c.args.keys.now ≤ l.shared) =
-    ⊎_elim (λ w. inr (omega (arith, ltb-false))) (λ w. inl (omega arith)) c.loop-at-test.branch in
+    elim c.loop-at-test.branch [
+      | then-loop-at-test+else-shared-keys w ↦ inr (omega (arith, ltb-false))
+      | else-loop-at-test w ↦ inl (omega arith)
+    ] in
     leads l.invariant (at_end l.invariant o) _ c.first_success.ensures

@@ -1,6 +1,6 @@
 -- `merging::follow` meets its contract: the keys from `shared` on are looked for in the row from `at` up to `end`.
 use mathlib.Core.Path.{refl}
-use mathlib.Core.Logic.{◌⊎◌, inl, inr, ⊎_elim}
+use mathlib.Core.Logic.{◌⊎◌, inl, inr}
 use Prim.Native.Nat.{◌-◌, ◌≤◌}
 use native.Mathlib.Omega.{arith}
 use lib.Arith.{lt_of_le-ne}

@@ -41,7 +41,7 @@ slice_bounds-put_in-start c = omega (arith, place_inside c.requires.0 c.requires
 
 pub put_in-requires : goal.put_in-requires
 put_in-requires c =
-    let long = (rw c.used-end.ensures at c.tree-1.given.0) ∙ ap length (slice_parts c.requires.0).part in
+    let long = (rw c.used-end.ensures at c.raise.auto.words) ∙ ap length (slice_parts c.requires.0).part in
     let room : end_of c.args.tree.now + new_of c.args.keys.now c.args.shared ≤ length c.args.tree.now =
     omega (arith, c.if-end-new.false, c.used-end.ensures) in (
       tail_writable c.args.keys.now c.args.shared c.requires.2 c.requires.0.body c.requires.0.few,
@@ -51,14 +51,11 @@ put_in-requires c =
 pub one_more-requires : goal.one_more-requires
 one_more-requires c = omega (arith, c.if-end-new.false, c.used-end.ensures, (slice_parts c.requires.0).short)
 
-pub shape_of-tree : goal.shape_of-tree
-shape_of-tree c = simp length-set (c.tree-2-1.given.1 ∙ c.tree-1.given.1)
-
 pub returns : goal.returns
 returns c =
     let e = c.used-end.ensures in
     let P = slice_parts c.requires.0 in
-    let long = (rw e at c.tree-1.given.0) ∙ ap length P.part in
+    let long = (rw e at c.raise.auto.words) ∙ ap length P.part in
     let room : end_of c.args.tree.now + new_of c.args.keys.now c.args.shared ≤ length c.args.tree.now =
     omega (arith, c.if-end-new.false, e) in
     rw (c.one_more.ensures, e)
