@@ -1,20 +1,19 @@
 -- `insert` meets its contract: the tests in their order, and then the insertion of an accepted clause into a well-laid slice.
 use mathlib.Core.Path.{sym, ◌∙◌}
-use borrow.Author.Tests.{not-true, not-false}
 use Rattle.tree.specs.Calls.{insertion}
 use borrow.Author.Rules.{rules}
 use Rattle.insertion.proofs.insert.Goals as goal
 
 pub returns-then-not-sized : goal.returns-then-not-sized
 unfolding insertion
-returns-then-not-sized c = rw (← c.sized.ensures, not-true c.sized.result c.if-not-sized.true)
+returns-then-not-sized c = rw (← c.sized.ensures, c.if-not-sized.true)
 
 -- the clause has a fault
 pub returns-in_default : goal.returns-in_default
 unfolding insertion
 returns-in_default c =
     let t = c.in_default.is in
-    rw (← c.sized.ensures, not-false c.sized.result c.if-not-sized.false, ← c.read-shape.ensures, t, c.fault.ensures, t)
+    rw (← c.sized.ensures, c.if-not-sized.false, ← c.read-shape.ensures, t, c.fault.ensures, t)
 
 -- the slice is not well laid
 pub returns-then-not-well_laid : goal.returns-then-not-well_laid
@@ -22,15 +21,15 @@ unfolding insertion
 returns-then-not-well_laid c =
     rw (
       ← c.sized.ensures,
-      not-false c.sized.result c.if-not-sized.false,
+      c.if-not-sized.false,
       ← c.read-shape.ensures,
       c.in-Whole.is,
       ← c.well_laid.ensures,
-      not-true c.well_laid.result c.if-not-well_laid.true,
+      c.if-not-well_laid.true,
     )
 
 pub insert_read-requires : goal.insert_read-requires
 insert_read-requires c =
-    let size = sym c.sized.ensures ∙ not-false _ c.if-not-sized.false in
-    let laid = sym c.well_laid.ensures ∙ not-false _ c.if-not-well_laid.false in
+    let size = sym c.sized.ensures ∙ c.if-not-sized.false in
+    let laid = sym c.well_laid.ensures ∙ c.if-not-well_laid.false in
     (size, laid, (_, sym c.read-shape.ensures ∙ c.in-Whole.is))

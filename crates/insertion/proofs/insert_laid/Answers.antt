@@ -7,9 +7,8 @@ use Rattle.insertion.proofs.insert_laid.Goals as goal
 
 pub returns-then-taken : goal.returns-then-taken
 returns-then-taken c =
-    let s = c.before.before.before.before.before in
     let found = is_some_lem _ (sym c.taken.ensures ∙ c.if-taken.true) in
-    insert_taken s.args.tree.now s.args.keys.now s.args.number found.0 found.1
+    insert_taken c.args.tree.now c.args.keys.now c.args.number found.0 found.1
 
 pub insert_new-requires : goal.insert_new-requires
-insert_new-requires c = (c.before.before.before.before.before.before.requires, is_none _ (sym c.taken.ensures ∙ c.if-taken.false))
+insert_new-requires c = (c.requires, is_none _ (sym c.taken.ensures ∙ c.if-taken.false))

@@ -12,17 +12,13 @@ pub overflow_add-end : goal.overflow_add-end
 overflow_add-end c = omega (arith, (slice_parts c.requires.0).room)
 
 pub slice_bounds-place_of-end : goal.slice_bounds-place_of-end
-slice_bounds-place_of-end c = omega (arith, (slice_parts c.before.before.before.before.before.requires.0).room)
+slice_bounds-place_of-end c = omega (arith, (slice_parts c.requires.0).room)
 
 pub place_of-place-requires : goal.place_of-place-requires
 place_of-place-requires c =
-    let u = c.before.before in
-    let P = slice_parts u.before.before.before.before.requires.0 in
+    let P = slice_parts c.requires.0 in
     rw (c.used-end.ensures, P.part) P.rows
 
 pub insert_placed-requires : goal.insert_placed-requires
 insert_placed-requires c =
-    let p = c.before in
-    let u = p.before.before.before in
-    let s = u.before.before.before.before in
-    (s.requires.0, s.requires.1, in_region s.requires.0 (rw c.used-end.ensures at c.place_of-place.ensures))
+    (c.requires.0, c.requires.1, in_region c.requires.0 (rw c.used-end.ensures at c.place_of-place.ensures))

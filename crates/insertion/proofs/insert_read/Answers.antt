@@ -23,7 +23,7 @@ slice_bounds-insert_laid-end c = sym (length-take-le _ _ (compiled_fits c.compil
 pub insert_laid-requires : goal.insert_laid-requires
 insert_laid-requires c =
     let e = compiled_keys c.compile-count.ensures in
-    let bound : (i : ℕ) → get_or c.args.words.now i 0 < 2 ^ 16 = λ i. omega (arith, c.shared_slice_known-1.given i) in
+    let bound : (i : ℕ) → get_or c.args.words.now i 0 < 2 ^ 16 = λ i. omega (arith, c.type_inv.words i) in
     record {
       size = c.requires.0;
       laid = c.requires.1;
@@ -35,6 +35,6 @@ pub returns : goal.returns
 returns c =
     let a = c.args in
     let q = c.requires.2 in
-    let bound : (i : ℕ) → get_or a.words.now i 0 < 2 ^ 16 = λ i. omega (arith, c.shared_slice_known-1.given i) in
+    let bound : (i : ℕ) → get_or a.words.now i 0 < 2 ^ 16 = λ i. omega (arith, c.type_inv.words i) in
     c.insert_laid.ensures ∙ rw (compiled_keys c.compile-count.ensures)
     (sym (insertion_words a.tree.now c.requires.0 c.requires.1 a.words.now a.number q.0 q.1 (all_below (2 ^ 16) a.words.now bound) (omega arith)))
