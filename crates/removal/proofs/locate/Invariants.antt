@@ -1,16 +1,11 @@
 -- `locate` meets its contract: the definition's scan of the words left gives what the whole scan gives.
 use mathlib.Core.Path.{◌≡◌, refl, sym, ◌∙◌}
-use mathlib.Core.Logic.{⊎_elim}
 use Prim.Native.Nat.{◌-◌, ◌≤◌}
 use native.Mathlib.Omega.{arith}
 use lib.ListN.{length, drop, get_or}
 use borrow.Author.Rules.{rules}
 use Rattle.tree.specs.Inner.Cut.{begin, locate}
 use Rattle.removal.proofs.Locating.{begin_on, begin_new, scan_stop, scan_on_lem, scan_end}
-use Rattle.removal.proofs.locate.Reads as reads
-use Rattle.removal.proofs.locate.Lts as lts
-use Rattle.tree.proofs.extent.Reads as extent-reads
-use Rattle.tree.proofs.key.Reads as key_reads
 use Rattle.removal.proofs.locate.Given as goal
 
 abbrev pub invariant-loop-at : goal.invariant-loop-at

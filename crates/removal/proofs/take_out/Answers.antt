@@ -12,9 +12,6 @@ lower-requires c =
     let w : c.args.place + 1 - 1 ≡ c.args.place = omega arith in
     rw w c.requires.high
 
-pub shape_of-tree : goal.shape_of-tree
-shape_of-tree c = simp length-set (c.tree-2-1.given.1 ∙ c.tree-1.given.1)
-
 pub returns : goal.returns
 returns c =
     rw c.one_less.ensures

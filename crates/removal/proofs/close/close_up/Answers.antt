@@ -23,9 +23,6 @@ loop-i-preserved c =
           ∙ left_set s k i (omega arith),
     )
 
-pub shape_of-words : goal.shape_of-words
-shape_of-words c = c.words-1.given.1 ∙ c.loop-i.invariant.0
-
 pub returns : goal.returns
 returns c =
     left_zeros c.args.words.now c.loop-i.words _ c.args.used c.args.gone c.loop-i.i c.requires.0 c.requires.1 (omega arith)
