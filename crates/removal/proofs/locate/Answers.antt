@@ -17,10 +17,10 @@ returns-then-key-wanted c =
     let w = get_or c.args.words.now c.loop-at.at 0 in
     -- the chain's top after the first test
     let top : c.if-above-here.from ≡ begin w c.loop-at.at c.loop-at.from c.loop-at.above =
-      elim c.if-above-here.branch [
-        | then-above-here t ↦ t.from-is ∙ begin_new w _ _ _ (λ e. omega (arith, c.extent-here.ensures, t.if-above-here.true))
-        | else-above-here t ↦ t.from-is ∙ begin_on w _ _ _ (omega (arith, c.extent-here.ensures, t.if-above-here.false))
-      ] in
+    elim c.if-above-here.branch [
+      | then-above-here t ↦ t.from-is ∙ begin_new w _ _ _ (λ e. omega (arith, c.extent-here.ensures, t.if-above-here.true))
+      | else-above-here t ↦ t.from-is ∙ begin_on w _ _ _ (omega (arith, c.extent-here.ensures, t.if-above-here.false))
+    ] in
     scan_stop _ _ _ _ _ _ c.loop-at-test.true top (sym c.key.ensures ∙ c.if-key-wanted.true) ∙ c.loop-at.invariant.1
 
 pub loop-at-preserved : goal.loop-at-preserved
@@ -28,11 +28,10 @@ loop-at-preserved c =
     let w = get_or c.args.words.now c.loop-at.at 0 in
     -- the chain's top after the first test
     let top : c.if-above-here.from ≡ begin w c.loop-at.at c.loop-at.from c.loop-at.above =
-      elim c.if-above-here.branch [
-        | then-above-here t ↦ t.from-is ∙ begin_new w _ _ _ (λ e. omega (arith, c.extent-here.ensures, t.if-above-here.true))
-        | else-above-here t ↦ t.from-is ∙ begin_on w _ _ _ (omega (arith, c.extent-here.ensures, t.if-above-here.false))
-      ] in
-    (
+    elim c.if-above-here.branch [
+      | then-above-here t ↦ t.from-is ∙ begin_new w _ _ _ (λ e. omega (arith, c.extent-here.ensures, t.if-above-here.true))
+      | else-above-here t ↦ t.from-is ∙ begin_on w _ _ _ (omega (arith, c.extent-here.ensures, t.if-above-here.false))
+    ] in (
       search rules,
       rw c.extent-here.ensures
           (scan_on_lem _ _ _ _ _ _ c.loop-at-test.true top (λ e. c.if-key-wanted.false (c.key.ensures ∙ e)) ∙ c.loop-at.invariant.1),

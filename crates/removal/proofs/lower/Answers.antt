@@ -19,12 +19,12 @@ overflow_sub-words-then-extent-words c =
 
 pub loop-at-preserved : goal.loop-at-preserved
 loop-at-preserved c = (
-      refl,
-      elim c.if-extent-words.branch [
-        | then-extent-words w ↦ rw w.words-is (lowering_over _ _ _ _ c.loop-at.invariant.1 (omega arith) (omega arith))
-        | else-extent-words w ↦ rw w.words-is (lowering_stay _ _ _ _ c.loop-at.invariant.1 (omega arith) (omega arith))
-      ],
-    )
+  refl,
+  elim c.if-extent-words.branch [
+    | then-extent-words w ↦ rw w.words-is (lowering_over _ _ _ _ c.loop-at.invariant.1 (omega arith) (omega arith))
+    | else-extent-words w ↦ rw w.words-is (lowering_stay _ _ _ _ c.loop-at.invariant.1 (omega arith) (omega arith))
+  ],
+)
 
 pub shape_of-words : goal.shape_of-words
 shape_of-words c = c.loop-at.invariant.1.long
