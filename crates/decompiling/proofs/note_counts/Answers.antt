@@ -1,12 +1,11 @@
 -- `note_counts` meets its contract: the first puts among the first k are counted.
-use mathlib.Core.Path.{◌≡◌, ◌∙◌}
-use mathlib.Core.Logic.{⊎_elim}
-use Prim.Native.Nat.{◌+◌, ◌-◌, ◌≤◌}
-use lib.ListN.{length, length-set}
-use Rattle.decompiling.proofs.Tables.{Counted, counted_none, counted_new, counted_old, counted_low}
-use borrow.Author.Rules.{rules}
+use mathlib.Core.Path.{◌∙◌}
+use Prim.Native.Nat.{◌+◌}
+use lib.ListN.{length-set}
+use Rattle.decompiling.proofs.Tables.{counted_none, counted_new, counted_old, counted_low}
 use native.Mathlib.Omega.{arith}
 use Rattle.decompiling.proofs.note_counts.Goals as goal
+use Rattle.decompiling.proofs.note_counts.Goals.{then-origins-k, else-origins-k}
 
 pub loop-k-init : goal.loop-k-init
 loop-k-init c = (omega arith, length-set c.args.counts.now 0 0 ∙ c.requires.1, counted_none c.args.origins.now c.args.counts.now (omega (arith, c.requires.1)))
@@ -22,14 +21,8 @@ loop-k-preserved c =
     let a = c.args in (
       omega arith,
       length-set l.counts (l.k + 1) c.if-origins-k.firsts ∙ l.invariant.1,
-      ⊎_elim
-          (λ w. rw w.1 (counted_new a.origins.now l.counts l.firsts l.k l.invariant.2 (omega arith) w.0.taken))
-          (λ w. rw w.1 (counted_old a.origins.now l.counts l.firsts l.k l.invariant.2 (omega arith) w.0.left))
-          c.if-origins-k.branch,
+      elim c.if-origins-k.branch [
+        then-origins-k w ↦ rw w.firsts-is (counted_new a.origins.now l.counts l.firsts l.k l.invariant.2 (omega arith) w.if-origins-k.true)
+      | else-origins-k w ↦ rw w.firsts-is (counted_old a.origins.now l.counts l.firsts l.k l.invariant.2 (omega arith) w.if-origins-k.false)
+      ],
     )
-
-pub shape_of-counts : goal.shape_of-counts
-shape_of-counts c = omega (arith, c.loop-k.invariant.1, c.requires.1)
-
-pub returns : goal.returns
-returns c = λ m l. c.loop-k.invariant.2.stored m (omega arith)
