@@ -27,9 +27,9 @@ sum-requires c = (sums_by_test _ tt, search rules, search rules, search rules, s
 pub overflow_mul-highest : goal.overflow_mul-highest
 overflow_mul-highest c =
     let a = c.args in
-    omega (arith, full_budget_lem, sized_full a.kept a.q a.m (search rules) c.sum.ensures.0)
+    omega (arith, full_budget_lem, sized_full a.kept a.q a.m (search rules) c.sum.ensures.value)
 
 pub returns : goal.returns
 returns c =
     let a = c.args in
-    sized a.kept a.q a.m (search rules) c.sum.ensures.0
+    sized a.kept a.q a.m (search rules) c.sum.ensures.value

@@ -9,4 +9,4 @@ pub returns : goal.returns
 returns c =
     let (s, a, b, d, e) = c.requires in
     let read : _ ≡ entry c.args.table.now c.args.q c.args.m = c.wide.ensures in
-    (read ∙ s.at c.args.q c.args.m a b d e, last_entry _ s)
+    record { value = read ∙ s.at c.args.q c.args.m a b d e; last = last_entry _ s }

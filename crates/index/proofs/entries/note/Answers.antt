@@ -8,42 +8,37 @@ use Rattle.tree.specs.Laid.{key_of, extent_of}
 use Rattle.index.proofs.Noting.{Noting, Next, noting_start, noting_next, noting_end}
 use Rattle.index.proofs.entries.note.Goals as goal
 
--- the Check at `at`
-next :
-    (c : tie.At-loop invariant-loop decreases-loop) → c.loop.at < length c.before.before.before.args.words.now
-    → let W = c.before.before.before.args.words.now in
-    Next W c.loop.at c.loop.heads (key_of (get_or W c.loop.at 0)) (extent_of (get_or W c.loop.at 0))
-next c h = let s = c.before.before.before in noting_next s.args.words.now c.loop.at c.loop.heads s.requires.0.few h c.loop.invariant
-
 pub loop-at-init : goal.loop-at-init
 loop-at-init c = noting_start c.args.words.now c.args.heads.now c.requires.0 c.requires.1
 
 pub overflow_cast-heads : goal.overflow_cast-heads
 overflow_cast-heads c = omega (arith, c.loop-at-test.true, c.requires.0.few)
 
+-- the Check at `at`
 pub offset_bounds-heads-head : goal.offset_bounds-heads-head
-offset_bounds-heads-head c = let t = c.before.before in omega (arith, c.key.ensures, (next t.before c.loop-at-test.true).small)
+offset_bounds-heads-head c =
+    let n = noting_next c.args.words.now c.loop-at.at c.loop-at.heads c.requires.0.few c.loop-at-test.true c.loop-at.invariant in
+    omega (arith, c.key.ensures, n.small)
 
 pub bounds-heads-head : goal.bounds-heads-head
 bounds-heads-head c =
-    let t = c.before.before in
-    omega (arith, c.key.ensures, (next t.before c.loop-at-test.true).small, c.loop-at.invariant.long)
+    let n = noting_next c.args.words.now c.loop-at.at c.loop-at.heads c.requires.0.few c.loop-at-test.true c.loop-at.invariant in
+    omega (arith, c.key.ensures, n.small, c.loop-at.invariant.long)
 
 pub overflow_add-at : goal.overflow_add-at
 overflow_add-at c =
-    let t = c.before.before.before in
-    omega (arith, c.extent-at.ensures, (next t.before c.loop-at-test.true).inside, c.requires.0.few)
+    let n = noting_next c.args.words.now c.loop-at.at c.loop-at.heads c.requires.0.few c.loop-at-test.true c.loop-at.invariant in
+    omega (arith, c.extent-at.ensures, n.inside, c.requires.0.few)
 
 pub loop-at-smaller : goal.loop-at-smaller
 loop-at-smaller c =
-    let t = c.before.before.before in
-    let n = next t.before c.loop-at-test.true in
+    let n = noting_next c.args.words.now c.loop-at.at c.loop-at.heads c.requires.0.few c.loop-at-test.true c.loop-at.invariant in
     omega (arith, c.extent-at.ensures, n.some, n.inside)
 
 pub loop-at-preserved : goal.loop-at-preserved
 loop-at-preserved c =
-    let t = c.before.before.before in
-    rw (c.key.ensures, c.extent-at.ensures) (next t.before c.loop-at-test.true).noted
+    let n = noting_next c.args.words.now c.loop-at.at c.loop-at.heads c.requires.0.few c.loop-at-test.true c.loop-at.invariant in
+    rw (c.key.ensures, c.extent-at.ensures) n.noted
 
 pub shape_of-heads : goal.shape_of-heads
 shape_of-heads c = c.loop-at.invariant.long ∙ sym c.requires.1.long

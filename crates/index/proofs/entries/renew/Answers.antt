@@ -25,7 +25,6 @@ note-requires c =
 
 pub returns : goal.returns
 returns c =
-    let n = c.before.before in
     let T = c.args.tree.now in
     let i = c.note.ensures in
     rw (decode_region T) (rw (used_part T (omega (arith, sized_low T c.requires.0)) (ap (λ (n : ℕ). n + 1) c.used-end.ensures)) at i)

@@ -3,7 +3,6 @@ use mathlib.Core.Path.{refl, ap}
 use Prim.Native.Nat.{ℕ, ◌+◌}
 use native.Mathlib.Omega.{arith}
 use borrow.Author.Rules.{rules}
-use borrow.Author.Tests.{not-true, not-false}
 use Rattle.clause.specs.Clause.{Accepted}
 use Rattle.tree.proofs.Grow.{sized_low, sized_high, laid_room}
 use Rattle.index.proofs.Noting.{decode_region, laid_encoded}
@@ -12,17 +11,14 @@ use Rattle.query.proofs.Asking.{used_part, fresh_ready, decided}
 use Rattle.query.proofs.Packed.{clause_read}
 use Rattle.index.proofs.indexed.query_indexed.Goals as goal
 
--- the clause is accepted
-whole : (c : tie.Else1) → Accepted c.before.before.before.before.before.args.words.now
-whole c = whole_accepted c.before.before.before.before.before.args.words.now c.before.is_whole.ensures (not-false _ c.if1.false)
-
 pub returns-then-not-is_whole : goal.returns-then-not-is_whole
 returns-then-not-is_whole c =
-    undecided c.args.tree.now c.args.words.now c.args.budget c.requires.0 c.is_whole.ensures (not-true _ c.if-not-is_whole.true)
+    undecided c.args.tree.now c.args.words.now c.args.budget c.requires.0 c.is_whole.ensures c.if-not-is_whole.true
     c.read.ensures c.refusal.ensures
 
+-- the clause is accepted
 pub of-clause-requires : goal.of-clause-requires
-of-clause-requires c = whole c
+of-clause-requires c = whole_accepted c.args.words.now c.is_whole.ensures c.if-not-is_whole.false
 
 pub bounds-tree-0 : goal.bounds-tree-0
 bounds-tree-0 c = omega (arith, sized_low c.args.tree.now c.requires.0)
@@ -35,21 +31,17 @@ slice_bounds-walk_heads-end c = omega (arith, c.used-end.ensures, laid_room c.ar
 
 pub walk_heads-finding-requires : goal.walk_heads-finding-requires
 walk_heads-finding-requires c =
-    let u = c.before.before.before in
-    let o = u.before.before.before in
-    let t = o.before in
+    let whole = whole_accepted c.args.words.now c.is_whole.ensures c.if-not-is_whole.false in
     let T = c.args.tree.now in
     let part = used_part T (omega (arith, sized_low T c.requires.0)) (ap (λ (n : ℕ). n + 1) c.used-end.ensures) in (
       rw part (laid_encoded T c.requires.0 c.requires.1),
       rw (part, ← decode_region T) c.requires.2,
-      fresh_ready (whole t) (clause_read c.args.words.now (whole t) _ c.of-clause.ensures),
+      fresh_ready whole (clause_read c.args.words.now whole _ c.of-clause.ensures),
       refl,
     )
 
 pub returns : goal.returns
 returns c =
-    let w = c.before in
-    let u = w.before.before.before.before in
-    let t = u.before.before.before.before in
+    let whole = whole_accepted c.args.words.now c.is_whole.ensures c.if-not-is_whole.false in
     let a = c.args in
-    decided a.tree.now a.words.now a.budget c.requires.0 c.requires.1 (whole t) (ap (λ (u : ℕ). u + 1) c.used-end.ensures) c.walk_heads-finding.ensures.comes (c.told.ensures _ _)
+    decided a.tree.now a.words.now a.budget c.requires.0 c.requires.1 whole (ap (λ (u : ℕ). u + 1) c.used-end.ensures) c.walk_heads-finding.ensures.comes (c.told.ensures _ _)

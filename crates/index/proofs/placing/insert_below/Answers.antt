@@ -12,18 +12,13 @@ pub overflow_add-end : goal.overflow_add-end
 overflow_add-end c = omega (arith, (slice_parts c.requires.0).room)
 
 pub slice_bounds-place_below-end : goal.slice_bounds-place_below-end
-slice_bounds-place_below-end c = omega (arith, (slice_parts c.before.before.before.before.before.before.requires.0).room)
+slice_bounds-place_below-end c = omega (arith, (slice_parts c.requires.0).room)
 
 pub place_below-place-requires : goal.place_below-place-requires
 place_below-place-requires c =
-    let u = c.before.before in
-    let s = u.before.before.before.before.before in
-    let P = slice_parts s.requires.0 in
-    rw (c.used-end.ensures, P.part) (P.rows, s.requires.2 (omega arith))
+    let P = slice_parts c.requires.0 in
+    rw (c.used-end.ensures, P.part) (P.rows, c.requires.2 (omega arith))
 
 pub insert_placed-requires : goal.insert_placed-requires
 insert_placed-requires c =
-    let p = c.before in
-    let u = p.before.before.before in
-    let s = u.before.before.before.before.before in
-    (s.requires.0, s.requires.1, in_region s.requires.0 (rw c.used-end.ensures at c.place_below-place.ensures))
+    (c.requires.0, c.requires.1, in_region c.requires.0 (rw c.used-end.ensures at c.place_below-place.ensures))
