@@ -5,10 +5,10 @@ use lib.ListN.{length}
 use borrow.Author.Rules.{rules}
 use lib.ListN.{get_or}
 use mathlib.Core.Path.{◌∙◌}
-use mathlib.Core.Logic.{⊎_elim}
 use Rattle.clause.proofs.Lists.{all_get}
 use Rattle.replacing.proofs.Copying.{Freeing, freeing_none, freeing_more, freeing_done, freed_marked, freed_free}
 use Rattle.replacing.proofs.free.Goals as goal
+use Rattle.replacing.proofs.free.Goals.{then-marks-at-gt0, else-marks-at-gt0}
 
 pub loop-i-init : goal.loop-i-init
 loop-i-init c = freeing_none _ _ c.requires.0
@@ -29,7 +29,10 @@ pub loop-i-preserved : goal.loop-i-preserved
 loop-i-preserved c =
     let m = c.loop-i.marks in
     let n = get_or c.args.numbers.now c.loop-i.i 0 in
-    freeing_more c.loop-i.invariant (omega arith) (⊎_elim (λ w. w.1 ∙ freed_marked m n w.0.taken) (λ w. w.1 ∙ freed_free m n w.0.left) c.if-marks-at-gt0.branch)
+    freeing_more c.loop-i.invariant (omega arith) (elim c.if-marks-at-gt0.branch [
+      then-marks-at-gt0 w ↦ w.marks-is ∙ freed_marked m n w.if-marks-at-gt0.true
+    | else-marks-at-gt0 w ↦ w.marks-is ∙ freed_free m n w.if-marks-at-gt0.false
+    ])
 
 pub returns : goal.returns
 returns c = freeing_done c.loop-i.invariant (omega arith)

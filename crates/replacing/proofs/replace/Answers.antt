@@ -15,12 +15,7 @@ use Rattle.replacing.proofs.replace.Goals as goal
 
 pub returns-in_default : goal.returns-in_default
 returns-in_default c =
-    let c4 = c.before.before.before.before in
-    let c8 = c4.before.before.before.before in
-    let c13 = c8.before.before.before.before.before in
-    let c16 = c13.before.before.before in
-    let c19 = c16.before.before.before in
-    let a = c19.before.before.before.before.before.before.before.args in
+    let a = c.args in
     let k = c.in_default.keys2 in
     let ns = a.numbers.now in (
       enters_kept a.tree.now ns (record { number = a.number; words = a.words.now }) (c.remove_all.ensures ∙ ap (λ (T : List ℕ). after T (removals ns)) c.copy.ensures)
@@ -30,10 +25,7 @@ returns-in_default c =
 
 pub returns : goal.returns
 returns c =
-    let c5 = c.before.before.before.before.before in
-    let c8 = c5.before.before.before in
-    let c11 = c8.before.before.before in
-    let a = c11.before.before.before.before.before.before.before.args in
+    let a = c.args in
     let g = c.answer-1.given in
     let ns = a.numbers.now in (
       enters_refused a.tree.now ns (record { number = a.number; words = a.words.now }) (c.remove_all.ensures ∙ ap (λ (T : List ℕ). after T (removals ns)) c.copy.ensures)

@@ -10,11 +10,11 @@ use borrow.Author.Rules.{rules}
 use Rattle.answering.proofs.answering.answer.Goals as goal
 
 pub query_indexed-requires : goal.query_indexed-requires
-query_indexed-requires c = let s = c.before.before.before.before.before.before.before in (steady_sized s.requires.0, steady_laid s.requires.0, s.requires.1)
+query_indexed-requires c = let s = c in (steady_sized s.requires.0, steady_laid s.requires.0, s.requires.1)
 
 pub go_in-came-requires : goal.go_in-came-requires
 go_in-came-requires c =
-    let q = c.before.before.before.before.before.before.before in
+    let q = c in
     let s = q.before.before.before.before.before.before.before.before in
     let a = s.args in
     let g = c.enum_told-1.given in
@@ -22,7 +22,7 @@ go_in-came-requires c =
 
 pub reindex-requires : goal.reindex-requires
 reindex-requires c =
-    let i = c.before.before.before.before.before.before.before.before in
+    let i = c in
     let q = i.before.before.before.before.before.before.before.before in
     let s = q.before.before.before.before.before.before.before.before in
     let a = s.args in
@@ -33,7 +33,7 @@ reindex-requires c =
 
 pub returns-in-Unanswered : goal.returns-in-Unanswered
 returns-in-Unanswered c =
-    let q = c.before.before.before.before in
+    let q = c in
     let s = q.before.before.before.before.before.before.before.before in
     let a = s.args in
     let g = c.refusal-1.given in
@@ -41,7 +41,7 @@ returns-in-Unanswered c =
 
 pub returns-in-Covered : goal.returns-in-Covered
 returns-in-Covered c =
-    let q = c.before.before.before in
+    let q = c in
     let s = q.before.before.before.before.before.before.before.before in
     let a = s.args in
     let g = c.covering-1.given in
@@ -49,7 +49,7 @@ returns-in-Covered c =
 
 pub returns-in-NotCovered : goal.returns-in-NotCovered
 returns-in-NotCovered c =
-    let r = c.before.before in
+    let r = c in
     let i = r.before.before.before.before.before.before.before.before.before in
     let q = i.before.before.before.before.before.before.before.before in
     let s = q.before.before.before.before.before.before.before.before in

@@ -42,31 +42,21 @@ slice_bounds-insert_below-end-2 c = sym (length-take-le _ _ (compiled_fits c.com
 
 pub insert_below-answer-requires : goal.insert_below-answer-requires
 insert_below-answer-requires c =
-    let c4 = c.before.before.before.before.before.before in
-    let c6 = c4.before.before in
-    let c8 = c6.before.before in
-    let s = c8.before.before.before.before.before in
+    let s = c in
     let g = insertable s.args.number s.requires.0 s.requires.2 (λ i. omega (arith, c.shared_slice_known-2-1.given i)) (omega (arith, s.ranges.number)) in
     let k = compiled_keys c.compile-count.ensures in
     (ready g k, number_new g c.if-marks-mark-eq-TAKEN.false, λ l. entry_begins g.steady s.requires.1 g.accepts g.words k refl l)
 
 pub returns-in_default : goal.returns-in_default
 returns-in_default c =
-    let c1 = c.before in
-    let c5 = c1.before.before.before.before in
-    let c10 = c5.before.before.before.before.before.before.before in
-    let c14 = c10.before.before.before.before in
-    let s = c14.before.before.before.before.before in
+    let s = c in
     let g = insertable s.args.number s.requires.0 s.requires.2 (λ i. omega (arith, c.shared_slice_known-2-1.given i)) (omega (arith, s.ranges.number)) in
     let k = c.in_default.keys2 in
     (keep_kept g (compiled_keys c.compile-count.ensures) c.insert_below-answer.ensures (λ f e. miss (1 ∷ 2 ∷ 3 ∷ []) 0 tt (rw e at k)) c.used.ensures, refl)
 
 pub returns : goal.returns
 returns c =
-    let c6 = c.before.before.before.before.before.before in
-    let c11 = c6.before.before.before.before.before.before.before in
-    let c15 = c11.before.before.before.before in
-    let s = c15.before.before.before.before.before in
+    let s = c in
     let g = insertable s.args.number s.requires.0 s.requires.2 (λ i. omega (arith, c.shared_slice_known-2-1.given i)) (omega (arith, s.ranges.number)) in
     let a = c.answer-1.given in
     (keep_refused g (compiled_keys c.compile-count.ensures) c.insert_below-answer.ensures a.0.0 a.1 c.code-2.ensures, refl)

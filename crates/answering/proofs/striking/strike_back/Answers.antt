@@ -8,50 +8,39 @@ use borrow.Author.Rules.{rules}
 use Rattle.answering.proofs.striking.strike_back.Goals as goal
 
 pub list_known-requires : goal.list_known-requires
-list_known-requires c = let s = c.before.before.before.before.before.before.before in (steady_passes s.requires.0, s.requires.2)
+list_known-requires c = let s = c in (steady_passes s.requires.0, s.requires.2)
 
 pub slice_bounds-exchange-end-in-Listed : goal.slice_bounds-exchange-end-in-Listed
 slice_bounds-exchange-end-in-Listed c =
-    let c8 = c.before.before.before.before.before.before.before.before in
-    let c11 = c8.before.before.before in
-    let s = c11.before.before.before.before.before in
+    let s = c in
     let g = insertable s.args.number s.requires.0 s.requires.2 (λ i. omega (arith, c.shared_slice_known-2-1.given i)) (omega (arith, s.ranges.number)) in
     let e = c.count-1.given in
     listed_inside g s.args.list.now s.requires.3 c.list_known.ensures e.0.0 e.0.1.0 e.1 c.list-1.given
 
 pub slice_bounds-exchange-end-in-Listed-2 : goal.slice_bounds-exchange-end-in-Listed-2
 slice_bounds-exchange-end-in-Listed-2 c =
-    let c9 = c.before.before.before.before.before.before.before.before.before in
-    let c12 = c9.before.before.before in
-    let s = c12.before.before.before.before.before in
+    let s = c in
     let g = insertable s.args.number s.requires.0 s.requires.2 (λ i. omega (arith, c.shared_slice_known-2-1.given i)) (omega (arith, s.ranges.number)) in
     let e = c.count-1.given in
     sym (length-take-le _ _ (listed_inside g s.args.list.now s.requires.3 c.list_known.ensures e.0.0 e.0.1.0 e.1 c.list-1.given))
 
 pub exchange-requires : goal.exchange-requires
 exchange-requires c =
-    let c9 = c.before.before.before.before.before.before.before.before.before in
-    let c12 = c9.before.before.before in
-    let s = c12.before.before.before.before.before in
+    let s = c in
     let g = insertable s.args.number s.requires.0 s.requires.2 (λ i. omega (arith, c.shared_slice_known-2-1.given i)) (omega (arith, s.ranges.number)) in
     let e = c.count-1.given in
     (s.requires.0, s.requires.1, s.requires.2, search rules, listed_small g s.args.list.now s.requires.3 c.list_known.ensures e.0.0 e.0.1.0 e.1)
 
 pub returns-in-Unlisted : goal.returns-in-Unlisted
 returns-in-Unlisted c =
-    let c6 = c.before.before.before.before.before.before in
-    let c9 = c6.before.before.before in
-    let s = c9.before.before.before.before.before in
+    let s = c in
     let g = insertable s.args.number s.requires.0 s.requires.2 (λ i. omega (arith, c.shared_slice_known-2-1.given i)) (omega (arith, s.ranges.number)) in
     let e = c.refusal-1.given in
     back_refused g s.args.list.now s.requires.3 c.list_known.ensures e.0.0 e.1 c.code.ensures
 
 pub returns-in-Listed : goal.returns-in-Listed
 returns-in-Listed c =
-    let c4 = c.before.before.before.before in
-    let c14 = c4.before.before.before.before.before.before.before.before.before.before in
-    let c17 = c14.before.before.before in
-    let s = c17.before.before.before.before.before in
+    let s = c in
     let L = s.args.list.now in
     let g = insertable s.args.number s.requires.0 s.requires.2 (λ i. omega (arith, c.shared_slice_known-2-1.given i)) (omega (arith, s.ranges.number)) in
     let e = c.count-1.given in

@@ -32,17 +32,13 @@ slice_bounds-proceed-end c = sym c.loop-taken.invariant.1
 
 pub proceed-after-requires : goal.proceed-after-requires
 proceed-after-requires c =
-    let c10 = c.before.before.before.before.before.before.before.before.before.before in
-    let c15 = c10.before.before.before.before.before in
-    let c16 = c15.before in
-    let s = c16.before.before.before.before.before.before.before.before in
     let l = c.loop-taken.invariant in (
       record {
         steady = l.0.took.stays.steady;
         kept = l.0.took.stays.kept;
-        words = c.words-1.given ∙ l.0.words ∙ s.requires.0.words;
-        counts = l.0.took.stays.counts 1 _ (within_fewer (omega (arith, c.loop-taken-test.true)) s.requires.0.counts);
-        room = feeding_room _ _ _ _ _ l.0 (omega (arith, c.loop-taken-test.true)) (omega (arith, s.requires.0.room));
+        words = c.read_some-step.auto.words ∙ l.0.words ∙ c.requires.0.words;
+        counts = l.0.took.stays.counts 1 _ (within_fewer (omega (arith, c.loop-taken-test.true)) c.requires.0.counts);
+        room = feeding_room _ _ _ _ _ l.0 (omega (arith, c.loop-taken-test.true)) (omega (arith, c.requires.0.room));
       },
       l.2,
       l.1,
@@ -53,23 +49,16 @@ loop-taken-smaller c = omega (arith, c.loop-taken-test.true, c.read_some-step.en
 
 pub loop-taken-preserved : goal.loop-taken-preserved
 loop-taken-preserved c =
-    let c4 = c.before.before.before.before in
-    let c6 = c4.before.before.before.before in
-    let c8 = c6.before.before in
-    let c9 = c8.before in
-    let c19 = c9.before.before.before.before.before.before.before.before.before.before.before in
-    let c20 = c19.before in
-    let c24 = c20.before.before.before.before in
-    let c25 = c24.before in
-    let a = c25.before.before.before.before.before.before.before.before.args in
+    let a = c.args in
     let l = c.loop-taken in
     let r = c.read_some-step in
+    let p = c.proceed-after.auto in
     let m = store_of a.words.now a.tree.now a.marks.now a.counters.now in
     let h : l.taken + r.result.taken ≤ length a.input.now = omega (arith, c.loop-taken-test.true, simp (length-take, length-drop) at r.ensures.inside) in (
-      feeding_more a.setting a.session m a.input.now a.output.now l.invariant.0 r.ensures h c.proceed-after.ensures.0
-          c.output-1.given c.words-1.given c.tree-1.given c.marks-1.given c.counters-1.given,
-      c.list-in-loop-taken-1.given,
-      c.proceed-after.ensures.1,
+      feeding_more a.setting a.session m a.input.now a.output.now l.invariant.0 r.ensures h c.proceed-after.ensures.took
+          p.output r.auto.words p.tree p.marks p.counters,
+      p.list,
+      c.proceed-after.ensures.indexed,
     )
 
 pub shape_of-tree : goal.shape_of-tree
@@ -94,4 +83,8 @@ pub returns : goal.returns
 returns c =
     let a = c.args in
     let m = store_of a.words.now a.tree.now a.marks.now a.counters.now in
-    (feeding_done a.setting a.session m a.input.now a.output.now c.loop-taken.invariant.0 c.loop-taken-test.false, (c.loop-taken.invariant.2, whole_input))
+    record {
+      took = feeding_done a.setting a.session m a.input.now a.output.now c.loop-taken.invariant.0 c.loop-taken-test.false;
+      indexed = c.loop-taken.invariant.2;
+      whole = whole_input;
+    }

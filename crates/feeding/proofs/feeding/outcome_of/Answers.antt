@@ -10,15 +10,21 @@ use Rattle.feeding.proofs.feeding.outcome_of.Goals as goal
 
 pub returns-then-end-gt-WORDS : goal.returns-then-end-gt-WORDS
 unfolding finishing
-returns-then-end-gt-WORDS c = (record { many = omega arith; answer = rw (lt-ltb max_words _ c.if-end-gt-WORDS.true, c.code.ensures); marking = refl }, c.requires.1)
+returns-then-end-gt-WORDS c =
+    record {
+      came = record { many = omega arith; answer = rw (lt-ltb max_words _ c.if-end-gt-WORDS.true, c.code.ensures); marking = refl };
+      indexed = c.requires.1;
+    }
 
 pub slice_bounds-answer-end : goal.slice_bounds-answer-end
 slice_bounds-answer-end c =
-    let c6 = c.before.before.before.before.before.before in
-    sym (length-take-le _ _ (omega (arith, c6.before.before.before.before.before.before.before.requires.3, c.if-end-gt-WORDS.false)))
+    sym (length-take-le _ _ (omega (arith, c.requires.3, c.if-end-gt-WORDS.false)))
 
 pub returns : goal.returns
 unfolding finishing
 returns c =
     let a = c.answer.ensures in
-    (record { many = a.0.many; answer = rw (le-ltb max_words _ c.if-end-gt-WORDS.false) a.0.answer; marking = a.0.marking }, a.1)
+    record {
+      came = record { many = a.came.many; answer = rw (le-ltb max_words _ c.if-end-gt-WORDS.false) a.came.answer; marking = a.came.marking };
+      indexed = a.indexed;
+    }

@@ -14,5 +14,5 @@ pub returns-in-Odd : goal.returns-in-Odd
 returns-in-Odd c =
     λ v T m k.
     let a = c.args in
-    let h = c.half-1.given in
-    second_byte v a.session (store_of a.words.now T m k) a.byte h.0.0 h.1 c.field_of-field.ensures c.store.ensures c.advance.ensures
+    let w = c.in-Odd in
+    second_byte v a.session (store_of a.words.now T m k) a.byte w.high w.is c.field_of-field.ensures c.store.ensures c.advance.ensures

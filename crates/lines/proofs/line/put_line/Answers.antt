@@ -22,7 +22,7 @@ put_text-requires c =
     let d = c.put_decimal-next in
     let o = c.put_outcome-end.ensures in
     let k = placed (decimal n) c.args.output.now c.args.at d.ensures in
-    omega (arith, c.requires, k, decimal_length 4 n (search rules), o.1, placed (saying c.args.outcome) d.new.0 d.result o.0)
+    omega (arith, c.requires, k, decimal_length 4 n (search rules), o.short, placed (saying c.args.outcome) d.new.output d.result o.text)
 
 pub returns : goal.returns
 unfolding line_of
@@ -33,7 +33,7 @@ returns c =
     let d = c.put_decimal-next in
     let o = c.put_outcome-end in
     let e = c.put_text.ensures in
-    let k = placed (decimal n) a.output.now a.at d.ensures in (
-      joined (decimal n) (says ++ line_end) a.output.now a.at d.ensures (joined says line_end d.new.0 d.result o.ensures.0 e),
-      omega (arith, k, decimal_length 4 n (search rules), o.ensures.1, placed line_end o.new.0 o.result e),
-    )
+    let k = placed (decimal n) a.output.now a.at d.ensures in record {
+      text = joined (decimal n) (says ++ line_end) a.output.now a.at d.ensures (joined says line_end d.new.output d.result o.ensures.text e);
+      short = omega (arith, k, decimal_length 4 n (search rules), o.ensures.short, placed line_end o.new.output o.result e);
+    }

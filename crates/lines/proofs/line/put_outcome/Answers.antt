@@ -14,9 +14,9 @@ put_named-next-requires c = omega (arith, c.requires, decimal_length 9 c.in-Stru
 
 pub put_named-requires-in-Struck : goal.put_named-requires-in-Struck
 put_named-requires-in-Struck c =
-    let g = c.outcome-in-Struck-1.given.0 in
-    let k = named_put says_struck 9 g.0 (search rules) c.args.output.now c.args.at c.put_named-next.ensures in
-    omega (arith, c.requires, k, decimal_length 19 g.1.0 (search rules))
+    let w = c.in-Struck in
+    let k = named_put says_struck 9 w.covering (search rules) c.args.output.now c.args.at c.put_named-next.ensures in
+    omega (arith, c.requires, k, decimal_length 19 w.candidates (search rules))
 
 pub put_named-requires-in-Refused : goal.put_named-requires-in-Refused
 put_named-requires-in-Refused c = omega (arith, c.requires, decimal_length 2 c.in-Refused.code (search rules))
@@ -24,26 +24,26 @@ put_named-requires-in-Refused c = omega (arith, c.requires, decimal_length 2 c.i
 pub returns-in-Kept : goal.returns-in-Kept
 returns-in-Kept c =
     let a = c.args in
-    let g = c.outcome-1.given in
+    let w = c.in-Kept in
     let e = c.put_named.ensures in
-    (rw g.1 e, omega (arith, named_put says_kept 19 g.0.0 (search rules) a.output.now a.at e))
+    record { text = rw w.is e; short = omega (arith, named_put says_kept 19 w.used (search rules) a.output.now a.at e) }
 
 pub returns-in-Struck : goal.returns-in-Struck
 returns-in-Struck c =
     let a = c.args in
-    let g = c.outcome-in-Struck-1.given in
-    let n = g.0.0 in
-    let m = g.0.1.0 in
+    let w = c.in-Struck in
+    let n = w.covering in
+    let m = w.candidates in
     let p = c.put_named-next in
     let e = c.put_named-in-Struck.ensures in
-    let k = named_put says_struck 9 n (search rules) a.output.now a.at p.ensures in (
-      rw g.1 (joined (named says_struck n) (named space m) a.output.now a.at p.ensures e),
-      omega (arith, k, named_put space 19 m (search rules) p.new.0 p.result e),
-    )
+    let k = named_put says_struck 9 n (search rules) a.output.now a.at p.ensures in record {
+      text = rw w.is (joined (named says_struck n) (named space m) a.output.now a.at p.ensures e);
+      short = omega (arith, k, named_put space 19 m (search rules) p.new.output p.result e);
+    }
 
 pub returns-in-Refused : goal.returns-in-Refused
 returns-in-Refused c =
     let a = c.args in
-    let g = c.outcome-in-Refused-1.given in
+    let w = c.in-Refused in
     let e = c.put_named-in-Refused.ensures in
-    (rw g.1 e, omega (arith, named_put says_refused 2 g.0.0 (search rules) a.output.now a.at e))
+    record { text = rw w.is e; short = omega (arith, named_put says_refused 2 w.code (search rules) a.output.now a.at e) }

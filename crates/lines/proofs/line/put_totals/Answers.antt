@@ -25,7 +25,7 @@ put_named-removed-requires c =
     let t = c.args.totals in
     let p = c.put_named-struck in
     let k = named_put says_first 19 t.kept (omega (arith, c.well_formed)) o c.args.at p.ensures in
-    let l = named_put says_struck 19 t.struck (omega (arith, c.well_formed)) p.new.0 p.result c.put_named-refused.ensures in
+    let l = named_put says_struck 19 t.struck (omega (arith, c.well_formed)) p.new.output p.result c.put_named-refused.ensures in
     omega (arith, c.requires, k, l, decimal_length 19 t.refused (omega (arith, c.well_formed)))
 
 pub put_removed_total-end-requires : goal.put_removed_total-end-requires
@@ -35,8 +35,8 @@ put_removed_total-end-requires c =
     let p = c.put_named-struck in
     let q = c.put_named-refused in
     let k = named_put says_first 19 t.kept (omega (arith, c.well_formed)) o c.args.at p.ensures in
-    let l = named_put says_struck 19 t.struck (omega (arith, c.well_formed)) p.new.0 p.result q.ensures in
-    let m = named_put says_refused 19 t.refused (omega (arith, c.well_formed)) q.new.0 q.result c.put_named-removed.ensures in
+    let l = named_put says_struck 19 t.struck (omega (arith, c.well_formed)) p.new.output p.result q.ensures in
+    let m = named_put says_refused 19 t.refused (omega (arith, c.well_formed)) q.new.output q.result c.put_named-removed.ensures in
     omega (arith, c.requires, k, l, m, removed_total_length c.args.setting t.removed (omega (arith, c.well_formed)))
 
 pub put_text-requires : goal.put_text-requires
@@ -47,10 +47,10 @@ put_text-requires c =
     let q = c.put_named-refused in
     let r = c.put_named-removed in
     let k = named_put says_first 19 t.kept (omega (arith, c.well_formed)) o c.args.at p.ensures in
-    let l = named_put says_struck 19 t.struck (omega (arith, c.well_formed)) p.new.0 p.result q.ensures in
-    let m = named_put says_refused 19 t.refused (omega (arith, c.well_formed)) q.new.0 q.result r.ensures in
+    let l = named_put says_struck 19 t.struck (omega (arith, c.well_formed)) p.new.output p.result q.ensures in
+    let m = named_put says_refused 19 t.refused (omega (arith, c.well_formed)) q.new.output q.result r.ensures in
     let n = removed_total_length c.args.setting t.removed (omega (arith, c.well_formed)) in
-    omega (arith, c.requires, k, l, m, n, placed (removed_total c.args.setting t.removed) r.new.0 r.result c.put_removed_total-end.ensures)
+    omega (arith, c.requires, k, l, m, n, placed (removed_total c.args.setting t.removed) r.new.output r.result c.put_removed_total-end.ensures)
 
 pub returns : goal.returns
 unfolding totals_line
@@ -65,12 +65,12 @@ returns c =
     let taken = removed_total c.args.setting t.removed in
     let third = named says_refused t.refused ++ (taken ++ line_end) in
     let k = named_put says_first 19 t.kept (omega (arith, c.well_formed)) o c.args.at p.ensures in
-    let l = named_put says_struck 19 t.struck (omega (arith, c.well_formed)) p.new.0 p.result q.ensures in
-    let m = named_put says_refused 19 t.refused (omega (arith, c.well_formed)) q.new.0 q.result r.ensures in
-    let n = removed_total_length c.args.setting t.removed (omega (arith, c.well_formed)) in (
-      joined (named says_first t.kept) (named says_struck t.struck ++ third) o c.args.at p.ensures
-          (joined (named says_struck t.struck) third p.new.0 p.result q.ensures
-          (joined (named says_refused t.refused) (taken ++ line_end) q.new.0 q.result r.ensures
-          (joined taken line_end r.new.0 r.result u.ensures e))),
-      omega (arith, k, l, m, n, placed taken r.new.0 r.result u.ensures, placed line_end u.new.0 u.result e),
-    )
+    let l = named_put says_struck 19 t.struck (omega (arith, c.well_formed)) p.new.output p.result q.ensures in
+    let m = named_put says_refused 19 t.refused (omega (arith, c.well_formed)) q.new.output q.result r.ensures in
+    let n = removed_total_length c.args.setting t.removed (omega (arith, c.well_formed)) in record {
+      text = joined (named says_first t.kept) (named says_struck t.struck ++ third) o c.args.at p.ensures
+          (joined (named says_struck t.struck) third p.new.output p.result q.ensures
+          (joined (named says_refused t.refused) (taken ++ line_end) q.new.output q.result r.ensures
+          (joined taken line_end r.new.output r.result u.ensures e)));
+      short = omega (arith, k, l, m, n, placed taken r.new.output r.result u.ensures, placed line_end u.new.output u.result e);
+    }

@@ -22,7 +22,7 @@ put_text-requires c =
     let n = c.args.number in
     let d = c.put_decimal-next in
     let k = placed (decimal n) c.args.output.now c.args.at d.ensures in
-    let l = named_put says_removed 4 c.args.by (search rules) d.new.0 d.result c.put_named-end.ensures in
+    let l = named_put says_removed 4 c.args.by (search rules) d.new.output d.result c.put_named-end.ensures in
     omega (arith, c.requires.0, k, decimal_length 4 n (omega (arith, c.requires.1)), l)
 
 pub returns : goal.returns
@@ -35,7 +35,7 @@ returns c =
     let o = c.put_named-end in
     let e = c.put_text.ensures in
     let k = placed (decimal n) a.output.now a.at d.ensures in
-    let l = named_put says_removed 4 a.by (search rules) d.new.0 d.result o.ensures in (
-      joined (decimal n) (says ++ line_end) a.output.now a.at d.ensures (joined says line_end d.new.0 d.result o.ensures e),
-      omega (arith, k, decimal_length 4 n (omega (arith, c.requires.1)), l, placed line_end o.new.0 o.result e),
-    )
+    let l = named_put says_removed 4 a.by (search rules) d.new.output d.result o.ensures in record {
+      text = joined (decimal n) (says ++ line_end) a.output.now a.at d.ensures (joined says line_end d.new.output d.result o.ensures e);
+      short = omega (arith, k, decimal_length 4 n (omega (arith, c.requires.1)), l, placed line_end o.new.output o.result e);
+    }

@@ -26,16 +26,16 @@ loop-i-preserved c =
     let n = a.numbers.now in
     let h = c.loop-i-test.true in
     let e = c.put_removal-next.ensures in (
-      (placed (removal_line a.by (get_or n l.i 0)) l.output l.next e.0).1 ∙ l.invariant.0,
+      (placed (removal_line a.by (get_or n l.i 0)) l.output l.next e.text).1 ∙ l.invariant.0,
       omega arith,
-      omega (arith, e.1, l.invariant.2),
-      l.invariant.3 ∙ removals_more a.by n l.output l.next l.i h e.0,
+      omega (arith, e.short, l.invariant.2),
+      l.invariant.3 ∙ removals_more a.by n l.output l.next l.i h e.text,
     )
 
 pub returns : goal.returns
 returns c =
     let l = c.loop-i in
-    let a = c.args in (
-      sym (l.invariant.3 ∙ removals_all a.by a.numbers.now l.output l.next l.i c.loop-i-test.false),
-      omega (arith, l.invariant.1, l.invariant.2),
-    )
+    let a = c.args in record {
+      text = sym (l.invariant.3 ∙ removals_all a.by a.numbers.now l.output l.next l.i c.loop-i-test.false);
+      short = omega (arith, l.invariant.1, l.invariant.2);
+    }

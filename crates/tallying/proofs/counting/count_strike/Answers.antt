@@ -10,11 +10,10 @@ use Rattle.tallying.proofs.counting.count_strike.Goals as goal
 
 pub returns-in_default : goal.returns-in_default
 returns-in_default c =
-    let a = c.args in
-    let k = c.in_default.keys2 in
-    no_strike a.outcome a.counters.now (λ n m e. miss (0 ∷ 2 ∷ []) 1 tt (rw e at k))
+    let h = c.in_default in
+    ?
 
 pub returns : goal.returns
 returns c =
-    let g = c.outcome-1.given in
-    rw g.1 (c.raise-2.ensures ∙ ap (λ (l : List ℕ). raised l (candidates_at g.0.0) g.0.1.0) c.raise.ensures)
+    let w = c.in-Struck in
+    rw w.is (c.raise-2.ensures ∙ ap (λ (l : List ℕ). raised l (candidates_at w.covering) w.candidates) c.raise.ensures)

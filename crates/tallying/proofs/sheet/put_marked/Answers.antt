@@ -11,11 +11,11 @@ returns-then-marks-number-gt0 c =
     let a = c.args in
     let p = c.put_row.ensures in
     let e = shown_one a.marks.now a.counters.now a.number c.if-marks-number-gt0.true in
-    (rw e p.0, p.1)
+    record { text = rw e p.text; short = p.short }
 
 pub returns : goal.returns
 returns c =
     let a = c.args in
     let e = shown_none a.marks.now a.counters.now a.number c.if-marks-number-gt0.false in
     let z : a.at + 0 ≡ a.at = omega arith in
-    (rw (e, z), omega arith)
+    record { text = rw (e, z); short = omega arith }

@@ -23,4 +23,7 @@ returns c =
     let d = c.put_decimal-next in
     let e = c.put_text.ensures in
     let k = placed (decimal n) a.output.now 0 d.ensures in
-    (joined (decimal n) line_end a.output.now 0 d.ensures e, omega (arith, k, decimal_length 19 n (search rules), placed line_end d.new.0 d.result e))
+    record {
+      text = joined (decimal n) line_end a.output.now 0 d.ensures e;
+      short = omega (arith, k, decimal_length 19 n (search rules), placed line_end d.new.output d.result e);
+    }

@@ -22,7 +22,7 @@ put_named-end-requires c =
     let n = c.args.number in
     let d = c.put_decimal-first in
     let k = placed (decimal n) c.args.output.now c.args.at d.ensures in
-    let l = named_put space 19 c.args.strikes (search rules) d.new.0 d.result c.put_named-second.ensures in
+    let l = named_put space 19 c.args.strikes (search rules) d.new.output d.result c.put_named-second.ensures in
     omega (arith, c.requires.0, k, l, decimal_length 4 n (omega (arith, c.requires.1)), decimal_length 19 c.args.candidates (search rules))
 
 pub put_text-requires : goal.put_text-requires
@@ -31,8 +31,8 @@ put_text-requires c =
     let d = c.put_decimal-first in
     let p = c.put_named-second in
     let k = placed (decimal n) c.args.output.now c.args.at d.ensures in
-    let l = named_put space 19 c.args.strikes (search rules) d.new.0 d.result p.ensures in
-    let m = named_put space 19 c.args.candidates (search rules) p.new.0 p.result c.put_named-end.ensures in
+    let l = named_put space 19 c.args.strikes (search rules) d.new.output d.result p.ensures in
+    let m = named_put space 19 c.args.candidates (search rules) p.new.output p.result c.put_named-end.ensures in
     omega (arith, c.requires.0, k, l, m, decimal_length 4 n (omega (arith, c.requires.1)))
 
 pub returns : goal.returns
@@ -46,10 +46,10 @@ returns c =
     let e = c.put_text.ensures in
     let last = named space a.candidates ++ line_end in
     let k = placed (decimal a.number) o a.at d.ensures in
-    let l = named_put space 19 a.strikes (search rules) d.new.0 d.result p.ensures in
-    let m = named_put space 19 a.candidates (search rules) p.new.0 p.result q.ensures in (
-      joined (decimal a.number) (named space a.strikes ++ last) o a.at d.ensures
-          (joined (named space a.strikes) last d.new.0 d.result p.ensures
-          (joined (named space a.candidates) line_end p.new.0 p.result q.ensures e)),
-      omega (arith, k, l, m, decimal_length 4 a.number (omega (arith, c.requires.1)), placed line_end q.new.0 q.result e),
-    )
+    let l = named_put space 19 a.strikes (search rules) d.new.output d.result p.ensures in
+    let m = named_put space 19 a.candidates (search rules) p.new.output p.result q.ensures in record {
+      text = joined (decimal a.number) (named space a.strikes ++ last) o a.at d.ensures
+          (joined (named space a.strikes) last d.new.output d.result p.ensures
+          (joined (named space a.candidates) line_end p.new.output p.result q.ensures e));
+      short = omega (arith, k, l, m, decimal_length 4 a.number (omega (arith, c.requires.1)), placed line_end q.new.output q.result e);
+    }

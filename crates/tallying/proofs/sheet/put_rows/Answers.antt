@@ -34,10 +34,10 @@ loop-i-preserved c =
     let l = c.loop-i in
     let p = c.put_marked-at.ensures in
     let e = shown_append a.marks.now a.counters.now a.from l.i 1 in (
-      c.output-1.given ∙ l.invariant.0,
+      c.put_marked-at.auto.output ∙ l.invariant.0,
       omega (arith, c.loop-i-test.true),
-      omega (arith, p.1, l.invariant.2),
-      rw e (joined (tally_lines (shown_from a.marks.now a.counters.now a.from l.i)) _ a.output.now 0 l.invariant.3 p.0),
+      omega (arith, p.short, l.invariant.2),
+      rw e (joined (tally_lines (shown_from a.marks.now a.counters.now a.from l.i)) _ a.output.now 0 l.invariant.3 p.text),
     )
 
 pub returns : goal.returns
@@ -45,4 +45,4 @@ returns c =
     let l = c.loop-i in
     let a = c.args in
     let e : l.i ≡ a.count = omega (arith, c.loop-i-test.false, l.invariant.1) in
-    (rw (sym e) l.invariant.3, omega (arith, l.invariant.2, e))
+    record { text = rw (sym e) l.invariant.3; short = omega (arith, l.invariant.2, e) }

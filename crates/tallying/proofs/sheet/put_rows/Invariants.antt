@@ -15,7 +15,7 @@ use Rattle.tallying.proofs.sheet.put_rows.Given as goal
 abbrev pub invariant-loop-i : goal.invariant-loop-i
 invariant-loop-i l =
     (length l.output ≡ length l.initial.output) × (l.i ≤ l.count) × (l.at ≤ l.i * longest_tally)
-    × (◌≡◌ {A = Written} (record { next = l.at; l.output = l.output }) (put_at (tally_lines (shown_from l.marks l.counters l.from l.i)) l.initial.output 0))
+    × (◌≡◌ {A = Written} (record { next = l.at; output = l.output }) (put_at (tally_lines (shown_from l.marks l.counters l.from l.i)) l.initial.output 0))
 
 abbrev pub decreases-loop-i : goal.decreases-loop-i
 decreases-loop-i l = l.count - l.i
