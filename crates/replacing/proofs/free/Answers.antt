@@ -14,7 +14,7 @@ pub loop-i-init : goal.loop-i-init
 loop-i-init c = freeing_none _ _ c.requires.0
 
 pub overflow_cast-at : goal.overflow_cast-at
-overflow_cast-at c = record { fits = omega (arith, c.shared_slice_known-1.given c.loop-i.i) }
+overflow_cast-at c = record { fits = omega (arith, c.type_inv.numbers c.loop-i.i) }
 
 pub bounds-marks-at : goal.bounds-marks-at
 bounds-marks-at c = omega (arith, all_get c.args.numbers.now c.requires.1 c.loop-i.i 0 (omega arith), c.loop-i.invariant.many)

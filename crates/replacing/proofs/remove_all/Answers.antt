@@ -28,7 +28,7 @@ loop-i-preserved c =
       ap (λ (y : Called). y.slice) c.remove.ensures
           ∙ ap (λ (U : List ℕ). (removal U (get_or a.numbers.now c.loop-i.i 0)).slice) g.1
           ∙ remove_more a.tree.now a.numbers.now c.loop-i.i (omega arith),
-      c.tree-1.given ∙ g.2,
+      c.remove.auto.tree ∙ g.2,
     )
 
 pub shape_of-tree : goal.shape_of-tree

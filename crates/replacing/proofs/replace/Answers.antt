@@ -1,12 +1,11 @@
 -- `replace` meets its contract: what is done on the copy, or nothing.
 use borrow.Author.Rules.{rules}
 use mathlib.Core.Path.{refl, sym, ap, ◌∙◌}
-use mathlib.Core.List.{List, [], ◌∷◌}
+use mathlib.Core.List.{List}
 use Prim.Native.Nat.{ℕ}
 use native.Mathlib.Omega.{arith}
 use lib.ListN.{length, set}
 use lib.Seq.{take_all}
-use types.Run.{miss}
 use Rattle.book.specs.Book.{after}
 use Rattle.record.specs.Answer.{removals}
 use Rattle.record.specs.Marks.{freeing}
@@ -16,19 +15,20 @@ use Rattle.replacing.proofs.replace.Goals as goal
 pub returns-in_default : goal.returns-in_default
 returns-in_default c =
     let a = c.args in
-    let k = c.in_default.keys2 in
-    let ns = a.numbers.now in (
-      enters_kept a.tree.now ns (record { number = a.number; words = a.words.now }) (c.remove_all.ensures ∙ ap (λ (T : List ℕ). after T (removals ns)) c.copy.ensures)
-          c.insert-answer.ensures (λ f e. miss (1 ∷ 2 ∷ 3 ∷ []) 0 tt (rw e at k)) c.copy-in_default.ensures c.used.ensures,
-      (ap (λ (m : List ℕ). set m a.number 1) (c.free.ensures ∙ ap (λ (l : List ℕ). freeing l a.marks.now) (sym (take_all (length ns) ns (omega arith)))), omega arith),
-    )
+    let ns = a.numbers.now in record {
+      entered = enters_kept a.tree.now ns (record { number = a.number; words = a.words.now }) (c.remove_all.ensures ∙ ap (λ (T : List ℕ). after T (removals ns)) c.copy.ensures)
+          c.insert-answer.ensures c.in_default.not-Refused c.copy-in_default.ensures c.used.ensures;
+      marking = ap (λ (m : List ℕ). set m a.number 1) (c.free.ensures ∙ ap (λ (l : List ℕ). freeing l a.marks.now) (sym (take_all (length ns) ns (omega arith))));
+      many = omega arith;
+    }
 
 pub returns : goal.returns
 returns c =
     let a = c.args in
-    let g = c.answer-1.given in
-    let ns = a.numbers.now in (
-      enters_refused a.tree.now ns (record { number = a.number; words = a.words.now }) (c.remove_all.ensures ∙ ap (λ (T : List ℕ). after T (removals ns)) c.copy.ensures)
-          c.insert-answer.ensures g.0.0 g.1 c.code.ensures,
-      (refl, omega arith),
-    )
+    let w = c.in-Refused in
+    let ns = a.numbers.now in record {
+      entered = enters_refused a.tree.now ns (record { number = a.number; words = a.words.now }) (c.remove_all.ensures ∙ ap (λ (T : List ℕ). after T (removals ns)) c.copy.ensures)
+          c.insert-answer.ensures w.refusal w.is c.code.ensures;
+      marking = refl;
+      many = omega arith;
+    }

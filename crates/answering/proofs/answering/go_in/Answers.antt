@@ -6,7 +6,7 @@ use Rattle.answering.proofs.answering.go_in.Goals as goal
 pub returns-in-Plain : goal.returns-in-Plain
 returns-in-Plain c =
     let a = c.args in
-    in_plain a.setting a.tree.now a.words.now a.number c.in-Plain.is c.keep.ensures.0 c.keep.ensures.1
+    in_plain a.setting a.tree.now a.words.now a.number c.in-Plain.is c.keep.ensures.entered c.keep.ensures.marking
 
 pub returns-in-Back : goal.returns-in-Back
 returns-in-Back c =

@@ -8,19 +8,21 @@ use Rattle.answering.proofs.striking.exchange.Goals as goal
 pub returns-then-marks-mark-eq-TAKEN : goal.returns-then-marks-mark-eq-TAKEN
 returns-then-marks-mark-eq-TAKEN c =
     let a = c.args in
-    let g = insertable a.number c.requires.0 c.requires.2 (λ i. omega (arith, c.shared_slice_known-3-1.given i)) (omega (arith, c.ranges.number)) in
-    (exchange_marked g a.numbers.now c.if-marks-mark-eq-TAKEN.true c.code.ensures, (refl, omega arith))
+    let g = insertable a.number c.requires.0 c.requires.2 (λ i. omega (arith, c.type_inv.words i)) (omega (arith, c.ranges.number)) in
+    record { replaced = exchange_marked g a.numbers.now c.if-marks-mark-eq-TAKEN.true c.code.ensures; marking = refl; many = omega arith }
 
 pub returns-then-numbers-gt0 : goal.returns-then-numbers-gt0
 returns-then-numbers-gt0 c =
     let a = c.args in
-    let g = insertable a.number c.requires.0 c.requires.2 (λ i. omega (arith, c.shared_slice_known-3-1.given i)) (omega (arith, c.ranges.number)) in
-    (c.replace.ensures.0 ∙ exchange_free g a.numbers.now c.if-marks-mark-eq-TAKEN.false, c.replace.ensures.1)
+    let g = insertable a.number c.requires.0 c.requires.2 (λ i. omega (arith, c.type_inv.words i)) (omega (arith, c.ranges.number)) in
+    let r = c.replace.ensures in
+    record { replaced = r.entered ∙ exchange_free g a.numbers.now c.if-marks-mark-eq-TAKEN.false; marking = r.marking; many = r.many }
 
 pub returns : goal.returns
 returns c =
     let a = c.args in
-    let g = insertable a.number c.requires.0 c.requires.2 (λ i. omega (arith, c.shared_slice_known-3-1.given i)) (omega (arith, c.ranges.number)) in (
-      c.keep.ensures.0 ∙ exchange_none g a.numbers.now c.if-numbers-gt0.false ∙ exchange_free g a.numbers.now c.if-marks-mark-eq-TAKEN.false,
-      (c.keep.ensures.1, omega arith),
-    )
+    let g = insertable a.number c.requires.0 c.requires.2 (λ i. omega (arith, c.type_inv.words i)) (omega (arith, c.ranges.number)) in record {
+      replaced = c.keep.ensures.entered ∙ exchange_none g a.numbers.now c.if-numbers-gt0.false ∙ exchange_free g a.numbers.now c.if-marks-mark-eq-TAKEN.false;
+      marking = c.keep.ensures.marking;
+      many = omega arith;
+    }

@@ -8,42 +8,37 @@ use borrow.Author.Rules.{rules}
 use Rattle.answering.proofs.striking.strike_back.Goals as goal
 
 pub list_known-requires : goal.list_known-requires
-list_known-requires c = let s = c in (steady_passes s.requires.0, s.requires.2)
+list_known-requires c = (steady_passes c.requires.0, c.requires.2)
 
 pub slice_bounds-exchange-end-in-Listed : goal.slice_bounds-exchange-end-in-Listed
 slice_bounds-exchange-end-in-Listed c =
-    let s = c in
-    let g = insertable s.args.number s.requires.0 s.requires.2 (λ i. omega (arith, c.shared_slice_known-2-1.given i)) (omega (arith, s.ranges.number)) in
-    let e = c.count-1.given in
-    listed_inside g s.args.list.now s.requires.3 c.list_known.ensures e.0.0 e.0.1.0 e.1 c.list-1.given
+    let g = insertable c.args.number c.requires.0 c.requires.2 (λ i. omega (arith, c.type_inv.words i)) (omega (arith, c.ranges.number)) in
+    let u = c.in-Listed in
+    listed_inside g c.args.list.now c.requires.3 c.list_known.ensures u.count u.field-1 u.is c.list_known.auto.list
 
 pub slice_bounds-exchange-end-in-Listed-2 : goal.slice_bounds-exchange-end-in-Listed-2
 slice_bounds-exchange-end-in-Listed-2 c =
-    let s = c in
-    let g = insertable s.args.number s.requires.0 s.requires.2 (λ i. omega (arith, c.shared_slice_known-2-1.given i)) (omega (arith, s.ranges.number)) in
-    let e = c.count-1.given in
-    sym (length-take-le _ _ (listed_inside g s.args.list.now s.requires.3 c.list_known.ensures e.0.0 e.0.1.0 e.1 c.list-1.given))
+    let g = insertable c.args.number c.requires.0 c.requires.2 (λ i. omega (arith, c.type_inv.words i)) (omega (arith, c.ranges.number)) in
+    let u = c.in-Listed in
+    sym (length-take-le _ _ (listed_inside g c.args.list.now c.requires.3 c.list_known.ensures u.count u.field-1 u.is c.list_known.auto.list))
 
 pub exchange-requires : goal.exchange-requires
 exchange-requires c =
-    let s = c in
-    let g = insertable s.args.number s.requires.0 s.requires.2 (λ i. omega (arith, c.shared_slice_known-2-1.given i)) (omega (arith, s.ranges.number)) in
-    let e = c.count-1.given in
-    (s.requires.0, s.requires.1, s.requires.2, search rules, listed_small g s.args.list.now s.requires.3 c.list_known.ensures e.0.0 e.0.1.0 e.1)
+    let g = insertable c.args.number c.requires.0 c.requires.2 (λ i. omega (arith, c.type_inv.words i)) (omega (arith, c.ranges.number)) in
+    let u = c.in-Listed in
+    (c.requires.0, c.requires.1, c.requires.2, search rules, listed_small g c.args.list.now c.requires.3 c.list_known.ensures u.count u.field-1 u.is)
 
 pub returns-in-Unlisted : goal.returns-in-Unlisted
 returns-in-Unlisted c =
-    let s = c in
-    let g = insertable s.args.number s.requires.0 s.requires.2 (λ i. omega (arith, c.shared_slice_known-2-1.given i)) (omega (arith, s.ranges.number)) in
-    let e = c.refusal-1.given in
-    back_refused g s.args.list.now s.requires.3 c.list_known.ensures e.0.0 e.1 c.code.ensures
+    let g = insertable c.args.number c.requires.0 c.requires.2 (λ i. omega (arith, c.type_inv.words i)) (omega (arith, c.ranges.number)) in
+    let u = c.in-Unlisted in
+    back_refused g c.args.list.now c.requires.3 c.list_known.ensures u.refusal u.is c.code.ensures
 
 pub returns-in-Listed : goal.returns-in-Listed
 returns-in-Listed c =
-    let s = c in
-    let L = s.args.list.now in
-    let g = insertable s.args.number s.requires.0 s.requires.2 (λ i. omega (arith, c.shared_slice_known-2-1.given i)) (omega (arith, s.ranges.number)) in
-    let e = c.count-1.given in
+    let L = c.args.list.now in
+    let g = insertable c.args.number c.requires.0 c.requires.2 (λ i. omega (arith, c.type_inv.words i)) (omega (arith, c.ranges.number)) in
+    let u = c.in-Listed in
     let w = c.list_known.ensures in
     let x = c.exchange.ensures in
-    back_listed g L s.requires.3 w e.0.0 e.0.1.0 e.1 (listed_inside g L s.requires.3 w e.0.0 e.0.1.0 e.1 c.list-1.given) x.0 x.1.0 x.1.1
+    back_listed g L c.requires.3 w u.count u.field-1 u.is (listed_inside g L c.requires.3 w u.count u.field-1 u.is c.list_known.auto.list) x.replaced x.marking x.many

@@ -57,7 +57,7 @@ loop-taken-preserved c =
     let h : l.taken + r.result.taken ≤ length a.input.now = omega (arith, c.loop-taken-test.true, simp (length-take, length-drop) at r.ensures.inside) in (
       feeding_more a.setting a.session m a.input.now a.output.now l.invariant.0 r.ensures h c.proceed-after.ensures.took
           p.output r.auto.words p.tree p.marks p.counters,
-      p.list,
+      p.list ∙ l.invariant.1,
       c.proceed-after.ensures.indexed,
     )
 

@@ -1,7 +1,5 @@
 -- A word is stored; a number or a count is not.
-use mathlib.Core.List.{[], ◌∷◌}
 use lib.Seq.{set_out}
-use types.Run.{miss}
 use Rattle.intake.proofs.Bytes.{no_word}
 use borrow.Author.Rules.{rules}
 use Rattle.intake.proofs.input.store.Goals as goal
@@ -9,8 +7,7 @@ use Rattle.intake.proofs.input.store.Goals as goal
 pub returns-in_default : goal.returns-in_default
 returns-in_default c =
     let a = c.args in
-    let k = c.in_default.keys2 in
-    no_word a.stage a.words.now a.field (λ n m i e. miss (0 ∷ 1 ∷ []) 2 tt (rw e at k))
+    no_word a.stage a.words.now a.field c.in_default.not-AtWord
 
 pub returns-then-at-words : goal.returns-then-at-words
 returns-then-at-words c = rw c.in-AtWord.is
