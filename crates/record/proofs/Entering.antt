@@ -21,7 +21,6 @@ use Rattle.walk.specs.Walk.{Answer, covered, not_covered, spent, broken, up_to, 
 use Rattle.walk.specs.Query.{machine, witness_words, answer_by, query}
 use Rattle.walk.specs.Covering.{Subsumed, IsCovered, IsNotCovered, IsSpent, Answers}
 use Rattle.readback.specs.Saved.{IsTreeOf}
-use Rattle.readback.specs.Calls.{over}
 use Rattle.backward.specs.Calls.{backward}
 use Rattle.backward.specs.Laws.{tries_of, as_read, ListsKept}
 use Rattle.backward.specs.Listing.{rising}
@@ -43,7 +42,7 @@ use Rattle.backward.specs.declared.BackAnswer.TheVariants.{Unlisted, Listed}
 use Rattle.record.specs.declared.Setting.{Setting}
 use Rattle.record.specs.declared.Setting.TheVariants.{Plain, Back}
 use Rattle.record.specs.declared.Outcome.{Outcome}
-use Rattle.record.specs.declared.Outcome.TheVariants.{Kept, Refused}
+use Rattle.record.specs.declared.Outcome.TheVariants.{Refused}
 use Rattle.clause.proofs.Apart.{apart}
 use Rattle.clause.proofs.Lists.{all_mem}
 use Rattle.tree.proofs.Words.{length_layout}

@@ -27,7 +27,6 @@ use Rattle.clause.specs.declared.Shape.{Shape}
 use Rattle.clause.specs.declared.Shape.TheVariants.{Faulty, Whole}
 use Rattle.tree.specs.declared.Refusal.{Refusal}
 use Rattle.tree.specs.declared.Refusal.TheVariants.{BadClause, NumberTaken, Held, ListFull, NoRoom}
-use Rattle.tree.specs.declared.CallAnswer.TheVariants as call
 use Rattle.record.specs.declared.Setting.{Setting}
 use Rattle.record.specs.declared.Outcome.{Outcome}
 use Rattle.record.specs.declared.Outcome.TheVariants.{Kept, Struck, Refused}
