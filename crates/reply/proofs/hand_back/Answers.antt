@@ -1,6 +1,5 @@
 -- `hand_back` meets its contract, case by case.
 use Rattle.reply.proofs.Telling.{told_two}
-use borrow.Author.Rules.{rules}
 use Rattle.reply.proofs.hand_back.Goals as goal
 
 pub returns-in-Unlisted : goal.returns-in-Unlisted

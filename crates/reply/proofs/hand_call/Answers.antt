@@ -1,5 +1,4 @@
 -- `hand_call` meets its contract: a refusal is handed over, another answer tells nothing.
-use borrow.Author.Rules.{rules}
 use Rattle.reply.proofs.hand_call.Goals as goal
 
 pub returns-in-Refused : goal.returns-in-Refused

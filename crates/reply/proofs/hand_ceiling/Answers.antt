@@ -1,6 +1,5 @@
 -- `hand_ceiling` meets its contract, case by case.
 use Rattle.reply.proofs.Telling.{told_one}
-use borrow.Author.Rules.{rules}
 use Rattle.reply.proofs.hand_ceiling.Goals as goal
 
 pub returns-in-NoCeiling : goal.returns-in-NoCeiling

@@ -1,5 +1,4 @@
 -- `hand_query` meets its contract, case by case.
-use borrow.Author.Rules.{rules}
 use Rattle.reply.proofs.hand_query.Goals as goal
 
 pub returns-in-Unanswered : goal.returns-in-Unanswered

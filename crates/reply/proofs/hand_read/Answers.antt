@@ -1,6 +1,5 @@
 -- `hand_read` meets its contract, case by case.
 use Rattle.reply.proofs.Telling.{told_one}
-use borrow.Author.Rules.{rules}
 use Rattle.reply.proofs.hand_read.Goals as goal
 
 pub returns-in-Unread : goal.returns-in-Unread

@@ -1,7 +1,6 @@
 -- `tell` meets its contract: past the end nothing is stored.
 use mathlib.Core.Path.{sym}
 use lib.Seq.{set_out}
-use borrow.Author.Rules.{rules}
 use Rattle.reply.proofs.tell.Goals as goal
 
 pub returns-else-at-told : goal.returns-else-at-told

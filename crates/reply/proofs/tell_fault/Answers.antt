@@ -1,6 +1,5 @@
 -- `tell_fault` meets its contract: each case tells its position, or nothing.
 use Rattle.reply.proofs.Telling.{told_one}
-use borrow.Author.Rules.{rules}
 use Rattle.reply.proofs.tell_fault.Goals as goal
 
 pub returns-in-Bad : goal.returns-in-Bad

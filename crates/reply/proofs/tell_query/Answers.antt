@@ -1,6 +1,5 @@
 -- `tell_query` meets its contract: three values are told.
 use Rattle.reply.proofs.Telling.{told_three}
-use borrow.Author.Rules.{rules}
 use Rattle.reply.proofs.tell_query.Goals as goal
 
 pub returns : goal.returns

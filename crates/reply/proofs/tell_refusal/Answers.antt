@@ -1,6 +1,5 @@
 -- `tell_refusal` meets its contract: each case tells its value, or nothing.
 use Rattle.reply.proofs.Telling.{told_one}
-use borrow.Author.Rules.{rules}
 use Rattle.reply.proofs.tell_refusal.Goals as goal
 
 pub returns-in-BadClause : goal.returns-in-BadClause

@@ -1,7 +1,6 @@
 -- What one more field leads to, by its stage.
 use native.Mathlib.Omega.{arith}
 use borrow.Author.Tests.{lt-ltb, le-ltb, eq-eqb, ne_eqb}
-use borrow.Author.Rules.{rules}
 use Rattle.intake.proofs.input.advance.Goals as goal
 
 pub returns-then-field-gt0 : goal.returns-then-field-gt0

@@ -2,7 +2,6 @@
 use mathlib.Core.Path.{◌≡◌, ◌∙◌}
 use native.Mathlib.Omega.{arith}
 use Rattle.clause.proofs.Apart.{apart}
-use borrow.Author.Rules.{rules}
 use Rattle.intake.proofs.input.look_ahead.Goals as goal
 
 pub returns-in_default : goal.returns-in_default

@@ -2,7 +2,6 @@
 use mathlib.Core.Path.{refl}
 use Rattle.intake.specs.Feed.{store_of}
 use Rattle.intake.proofs.Bytes.{first_byte, second_byte}
-use borrow.Author.Rules.{rules}
 use Rattle.intake.proofs.input.read_byte.Goals as goal
 
 pub returns-in-Even : goal.returns-in-Even

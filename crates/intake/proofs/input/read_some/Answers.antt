@@ -5,7 +5,6 @@ use lib.ListN.{length-take, length-drop}
 use Rattle.intake.specs.Feed.{store_of}
 use Rattle.intake.proofs.Whole.{record_read}
 use Rattle.intake.proofs.Bytes.{feed_one}
-use borrow.Author.Rules.{rules}
 use Rattle.intake.proofs.input.read_some.Goals as goal
 
 pub returns-in_default : goal.returns-in_default

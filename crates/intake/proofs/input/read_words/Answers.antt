@@ -1,12 +1,9 @@
 -- The words from `i` on are still to be stored.
 use mathlib.Core.Path.{◌≡◌, refl, sym, ◌∙◌}
-use Prim.Native.Nat.{◌-◌, ◌+◌, ◌*◌, ◌≤◌, ◌<◌}
+use Prim.Native.Nat.{◌-◌, ◌+◌, ◌<◌}
 use native.Mathlib.Omega.{arith}
-use lib.ListN.{length, take, drop, length-set}
-use lib.Seq.{sets}
-use Rattle.record.specs.Output.{fields}
+use lib.ListN.{length, length-set}
 use Rattle.intake.proofs.Whole.{read_more, read_all}
-use borrow.Author.Rules.{rules}
 use Rattle.intake.proofs.input.read_words.Goals as goal
 
 pub loop-i-init : goal.loop-i-init

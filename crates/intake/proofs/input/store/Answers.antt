@@ -1,7 +1,6 @@
 -- A word is stored; a number or a count is not.
 use lib.Seq.{set_out}
 use Rattle.intake.proofs.Bytes.{no_word}
-use borrow.Author.Rules.{rules}
 use Rattle.intake.proofs.input.store.Goals as goal
 
 pub returns-in_default : goal.returns-in_default

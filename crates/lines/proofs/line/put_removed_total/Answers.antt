@@ -1,7 +1,6 @@
 -- Nothing, or how many were removed.
 use mathlib.Core.Path.{sym}
 use Rattle.lines.proofs.Writing.{put_none}
-use borrow.Author.Rules.{rules}
 use Rattle.lines.proofs.line.put_removed_total.Goals as goal
 
 pub put_named-requires : goal.put_named-requires

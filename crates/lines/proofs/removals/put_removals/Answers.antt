@@ -1,12 +1,9 @@
 -- The lines from number `i` on are still to be put.
-use mathlib.Core.Path.{◌≡◌, refl, sym, ◌∙◌}
-use Prim.Native.Nat.{◌-◌, ◌+◌, ◌*◌, ◌≤◌}
+use mathlib.Core.Path.{refl, sym, ◌∙◌}
 use native.Mathlib.Omega.{arith}
-use borrow.Author.Rules.{rules}
-use lib.ListN.{length, drop, get_or}
+use lib.ListN.{get_or}
 use Rattle.clause.proofs.Lists.{all_get}
-use Rattle.record.specs.Text.{put_at}
-use Rattle.record.specs.Line.{longest_removal, removal_line, removal_lines}
+use Rattle.record.specs.Line.{removal_line}
 use Rattle.lines.proofs.Writing.{placed, removals_more, removals_all}
 use Rattle.lines.proofs.removals.put_removals.Goals as goal
 

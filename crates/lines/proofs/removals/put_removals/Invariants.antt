@@ -1,13 +1,9 @@
 -- The lines from number `i` on are still to be put.
-use mathlib.Core.Path.{◌≡◌, refl, sym, ◌∙◌}
+use mathlib.Core.Path.{◌≡◌}
 use Prim.Native.Nat.{◌-◌, ◌+◌, ◌*◌, ◌≤◌}
-use native.Mathlib.Omega.{arith}
-use borrow.Author.Rules.{rules}
-use lib.ListN.{length, drop, get_or}
-use Rattle.clause.proofs.Lists.{all_get}
+use lib.ListN.{length, drop}
 use Rattle.record.specs.Text.{put_at}
-use Rattle.record.specs.Line.{longest_removal, removal_line, removal_lines}
-use Rattle.lines.proofs.Writing.{placed, removals_more, removals_all}
+use Rattle.record.specs.Line.{longest_removal, removal_lines}
 use Rattle.lines.proofs.removals.put_removals.Given as goal
 
 abbrev pub invariant-loop-i : goal.invariant-loop-i

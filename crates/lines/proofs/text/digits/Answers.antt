@@ -1,10 +1,6 @@
 -- The digits counted so far are those after the ones that are left.
-use mathlib.Core.Path.{◌≡◌}
-use Prim.Native.Nat.{◌+◌}
 use native.Mathlib.Omega.{arith}
 use borrow.Author.Rules.{rules}
-use lib.ListN.{length}
-use Rattle.record.specs.Text.{decimal}
 use Rattle.record.proofs.Text.{length_small, length_large, decimal_length}
 use Rattle.lines.proofs.text.digits.Goals as goal
 

@@ -1,11 +1,8 @@
 -- The digits before the place are those of what is left of the number.
-use mathlib.Core.Path.{◌≡◌, refl, ◌∙◌}
-use Prim.Native.Nat.{◌+◌, ◌/◌, ◌≤◌}
+use mathlib.Core.Path.{refl, ◌∙◌}
+use Prim.Native.Nat.{◌/◌}
 use native.Mathlib.Omega.{arith}
-use borrow.Author.Rules.{rules}
-use lib.ListN.{length, length-set}
-use lib.Seq.{sets}
-use Rattle.record.specs.Text.{decimal}
+use lib.ListN.{length-set}
 use Rattle.record.proofs.Text.{length_large, decimal_some}
 use Rattle.lines.proofs.Writing.{put_last, put_only}
 use Rattle.lines.proofs.text.put_decimal.Goals as goal

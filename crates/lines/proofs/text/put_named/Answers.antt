@@ -1,7 +1,6 @@
 -- The text, then the number.
 use Rattle.record.specs.Text.{decimal}
 use Rattle.lines.proofs.Writing.{first_fits, rest_fits, joined}
-use borrow.Author.Rules.{rules}
 use Rattle.lines.proofs.text.put_named.Goals as goal
 
 pub put_text-next-requires : goal.put_text-next-requires

@@ -1,13 +1,10 @@
 -- The text so far is in the output.
 use mathlib.Core.Path.{◌≡◌}
-use Prim.Native.Nat.{◌-◌, ◌≤◌}
 use native.Mathlib.Omega.{arith}
 use borrow.Author.Rules.{rules}
-use lib.ListN.{length, take, length-set}
-use lib.Seq.{sets, take-length}
+use lib.ListN.{length, length-set}
+use lib.Seq.{take-length}
 use Rattle.lines.proofs.Writing.{put_more}
-use Rattle.lines.proofs.text.put_text.Reads as reads
-use Rattle.lines.proofs.text.put_text.Lts as lts
 use Rattle.lines.proofs.text.put_text.Goals as goal
 
 pub loop-i-init : goal.loop-i-init

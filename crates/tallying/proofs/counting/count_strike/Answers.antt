@@ -4,7 +4,6 @@ use mathlib.Core.List.{List}
 use Prim.Native.Nat.{ℕ}
 use Rattle.record.specs.Counters.{candidates_at, raised}
 use Rattle.tallying.proofs.Rows.{no_strike}
-use borrow.Author.Rules.{rules}
 use Rattle.tallying.proofs.counting.count_strike.Goals as goal
 
 pub returns-in_default : goal.returns-in_default

@@ -2,7 +2,6 @@
 use Rattle.record.specs.Counters.{raised}
 use lib.Seq.{set_out}
 use mathlib.Core.Path.{sym}
-use borrow.Author.Rules.{rules}
 use Rattle.tallying.proofs.counting.raise.Goals as goal
 
 pub returns-then-at-counters : goal.returns-then-at-counters

@@ -1,6 +1,5 @@
 -- The sum, or the most that a counter counts.
 use native.Mathlib.Omega.{arith}
-use borrow.Author.Rules.{rules}
 use Rattle.tallying.proofs.counting.sum.Goals as goal
 
 pub returns-then-more-count : goal.returns-then-more-count

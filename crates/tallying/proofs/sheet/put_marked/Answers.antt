@@ -3,7 +3,6 @@ use mathlib.Core.Path.{◌≡◌}
 use Prim.Native.Nat.{◌+◌}
 use native.Mathlib.Omega.{arith}
 use Rattle.tallying.proofs.Rows.{shown_one, shown_none}
-use borrow.Author.Rules.{rules}
 use Rattle.tallying.proofs.sheet.put_marked.Goals as goal
 
 pub returns-then-marks-number-gt0 : goal.returns-then-marks-number-gt0

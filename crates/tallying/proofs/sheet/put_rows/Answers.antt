@@ -1,11 +1,6 @@
 -- The rows so far are in the output.
 use mathlib.Core.Path.{◌≡◌, refl, sym, ◌∙◌}
-use Prim.Native.Nat.{◌-◌, ◌*◌, ◌≤◌}
 use native.Mathlib.Omega.{arith}
-use lib.ListN.{length}
-use borrow.Author.Rules.{rules}
-use Rattle.record.specs.Text.{Written, put_at}
-use Rattle.record.specs.Line.{longest_tally}
 use Rattle.record.specs.Tally.{tally_lines}
 use Rattle.record.specs.Counters.{shown_from}
 use Rattle.lines.proofs.Writing.{joined}
