@@ -1,5 +1,4 @@
 -- `try_all` meets its contract: the clauses of the cards so far are queried.
-use mathlib.Core.Logic.{⊎_elim}
 use Prim.Native.Nat.{◌-◌, ◌^◌}
 use native.Mathlib.Nat.{lt_of_le_of_lt}
 use native.Mathlib.Omega.{arith}
@@ -9,11 +8,12 @@ use Rattle.clause.proofs.Lists.{all_below}
 use Rattle.listing.proofs.Turns.{Trying, lone_made, trying_first, trying_end, trying_ready, trying_spent}
 use Rattle.listing.proofs.Turns.{other_few, trying_other, found_few, trying_full, trying_found}
 use Rattle.listing.proofs.trying.try_all.Goals as goal
+use Rattle.listing.proofs.trying.try_all.Goals.{in-NotCovered, in-Covered+else-many-room}
 
 pub loop-i-init : goal.loop-i-init
 loop-i-init c =
     let p = c.requires in
-    let w = all_below (2 ^ 16) c.args.clause.now (λ j. omega (arith, c.shared_slice_known-1.given j)) in
+    let w = all_below (2 ^ 16) c.args.clause.now (λ j. omega (arith, c.type_inv.clause j)) in
     trying_first _ _ _
     record { accepts = p.0; words = w; slots = p.1; names = p.2; short = p.3; pairs = p.4; tree = lone_made _ p.0 w c.insert.ensures }
 
@@ -46,7 +46,7 @@ pub returns-then-many-room : goal.returns-then-many-room
 returns-then-many-room c = trying_full c.loop-i.invariant c.loop-i-test.true c.ask.ensures c.in-Covered.is (omega arith)
 
 pub overflow_cast-numbers : goal.overflow_cast-numbers
-overflow_cast-numbers c = omega (arith, c.shared_slice_known-in-loop-i-1.given c.loop-i.i)
+overflow_cast-numbers c = omega (arith, c.type_inv.cards c.loop-i.i)
 
 pub bounds-numbers-many : goal.bounds-numbers-many
 bounds-numbers-many c =
@@ -60,10 +60,11 @@ pub loop-i-preserved : goal.loop-i-preserved
 loop-i-preserved c =
     let g = c.loop-i.invariant in
     let h = c.loop-i-test.true in
-    ⊎_elim
-    (λ w. rw (w.3, w.4, w.5) (trying_other g h c.ask.ensures w.1.given.1))
-    (λ w. rw (w.4, w.5, w.6) (trying_found g h c.ask.ensures w.1.given.1 (omega (arith, w.3.left))))
-    c.match-ask.branch
+    elim c.match-ask.branch [
+      in-NotCovered w ↦ rw (w.numbers-is, w.many-is, w.tried-is) (trying_other g h c.ask.ensures w.in-NotCovered.is)
+    | in-Covered+else-many-room w ↦
+        rw (w.numbers-is, w.many-is, w.tried-is) (trying_found g h c.ask.ensures w.in-Covered.is (omega (arith, w.if-many-room.false)))
+    ]
 
 pub shape_of-numbers : goal.shape_of-numbers
 shape_of-numbers c = c.loop-i.invariant.places
