@@ -11,7 +11,7 @@ use lib.Seq.{drop-cons, take_at}
 use borrow.Author.Tests.{leb-true}
 use Rattle.tree.specs.Keys.{first_key}
 use Rattle.tree.specs.Forest.{Forest, size, encode, layout, find}
-use Rattle.tree.specs.Laid.{least_words, most_words, sized, used_of, well_laid, region, row, rows, decode}
+use Rattle.tree.specs.Laid.{least_words, most_words, sized, used_of, well_laid, region, row, decode}
 use Rattle.tree.specs.Laws.{Stands}
 use Rattle.tree.specs.Inner.Cut.{locate}
 use Rattle.merging.specs.Inner.Inserting.{Nested}

@@ -3,7 +3,6 @@ use mathlib.Core.Path.{sym}
 use native.Mathlib.Omega.{arith}
 use lib.Seq.{length-take-le}
 use Rattle.compiling.proofs.Puts.{acted_put, acted_check}
-use borrow.Author.Rules.{rules}
 use Rattle.compiling.proofs.act.Goals as goal
 
 pub slice_bounds-first_put-end-then-w-eq8 : goal.slice_bounds-first_put-end-then-w-eq8

@@ -1,12 +1,10 @@
 -- `compare_all` stores a literal's Compares, row by row.
 use mathlib.Core.Path.{◌≡◌, refl, ◌∙◌}
-use Prim.Native.Nat.{◌≤◌, ◌-◌}
 use native.Mathlib.Omega.{arith}
 use borrow.Author.Rules.{rules}
 use lib.ListN.{length}
-use Rattle.compiling.specs.Inner.Compiling.{Stored}
 use Rattle.compiling.proofs.Stores.{stored_none, stored_length}
-use Rattle.compiling.proofs.Rows.{rows_to, rows_none, rows_room, rows_stored, rows_to_whole}
+use Rattle.compiling.proofs.Rows.{rows_none, rows_room, rows_stored, rows_to_whole}
 use Rattle.compiling.proofs.compare_all.Goals as goal
 
 pub loop-m-init : goal.loop-m-init

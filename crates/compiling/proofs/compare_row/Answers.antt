@@ -1,11 +1,9 @@
 -- `compare_row` stores the Compares of one first put.
 use mathlib.Core.Path.{◌≡◌, refl}
-use Prim.Native.Nat.{◌≤◌, ◌<◌, ◌+◌, ◌-◌}
+use Prim.Native.Nat.{◌+◌}
 use native.Mathlib.Omega.{arith}
-use borrow.Author.Rules.{rules}
 use lib.ListN.{length, length-set}
-use Rattle.compiling.specs.Inner.Compiling.{Stored}
-use Rattle.compiling.proofs.Rows.{row_to, row_from, row_above, row_room, row_start, row_stored, row_over, row_to_whole}
+use Rattle.compiling.proofs.Rows.{row_from, row_above, row_room, row_start, row_stored, row_over, row_to_whole}
 use Rattle.compiling.proofs.compare_row.Goals as goal
 use Rattle.compiling.proofs.compare_row.Goals.{then-from-m, else-from-m, then-firsts-k, else-firsts-k}
 

@@ -1,11 +1,9 @@
 -- `compare_row` stores the Compares of one first put.
-use mathlib.Core.Path.{◌≡◌, refl}
-use Prim.Native.Nat.{◌≤◌, ◌<◌, ◌+◌, ◌-◌}
-use native.Mathlib.Omega.{arith}
-use borrow.Author.Rules.{rules}
-use lib.ListN.{length, length-set}
+use mathlib.Core.Path.{◌≡◌}
+use Prim.Native.Nat.{◌≤◌, ◌<◌, ◌-◌}
+use lib.ListN.{length}
 use Rattle.compiling.specs.Inner.Compiling.{Stored}
-use Rattle.compiling.proofs.Rows.{row_to, row_from, row_above, row_room, row_start, row_stored, row_over, row_to_whole}
+use Rattle.compiling.proofs.Rows.{row_to}
 use Rattle.compiling.proofs.compare_row.Given as goal
 
 abbrev pub invariant-loop-k : goal.invariant-loop-k

@@ -1,11 +1,9 @@
 -- `compile` writes the keys of a clause, word by word.
 use mathlib.Core.Path.{refl, sym}
-use Prim.Native.Nat.{◌-◌}
 use native.Mathlib.Omega.{arith}
 use borrow.Author.Rules.{rules}
-use lib.ListN.{length}
 use Rattle.compiling.proofs.Stores.{stored_length}
-use Rattle.compiling.proofs.Turns.{Compiling, compiling_starts, compiling_goes_on, compiling_ends}
+use Rattle.compiling.proofs.Turns.{compiling_starts, compiling_goes_on, compiling_ends}
 use Rattle.compiling.proofs.compile.Goals as goal
 
 pub loop-i-init : goal.loop-i-init

@@ -4,7 +4,6 @@ use native.Mathlib.Omega.{arith}
 use lib.Seq.{length-take-le}
 use Rattle.clause.specs.Word.{arity}
 use Rattle.compiling.proofs.Turns.{open_asks, act_asks, onward_asks, count_fits, close_asks, turn_on, turn_out}
-use borrow.Author.Rules.{rules}
 use Rattle.compiling.proofs.compile_word.Goals as goal
 
 pub open-a-requires : goal.open-a-requires

@@ -1,11 +1,8 @@
 -- `first_put` gives the number of a variable's first put: the invariant is that what was passed and the search in the rest give it.
 use mathlib.Core.Path.{◌≡◌}
 use Prim.Native.Nat.{◌≤◌, ◌+◌, ◌-◌}
-use native.Mathlib.Omega.{arith}
-use borrow.Author.Rules.{rules}
 use lib.ListN.{length, drop}
 use Rattle.machine.specs.Compile.{first}
-use Rattle.compiling.proofs.Puts.{first_here, first_past, first_end}
 use Rattle.compiling.proofs.first_put.Given as goal
 
 abbrev pub invariant-loop-i : goal.invariant-loop-i

@@ -4,9 +4,6 @@ use native.Mathlib.Omega.{arith}
 use lib.ListN.{length, length-set}
 use Rattle.compiling.specs.Inner.Compiling.{saved_in}
 use Rattle.compiling.proofs.Spots.{push_two, down_one, right_one, pop_one, went_push, went_down, went_right, went_pop, went_out}
-use borrow.Author.Rules.{rules}
-use Rattle.compiling.proofs.onward.Reads as reads
-use Rattle.compiling.proofs.onward.Lts as lts
 use Rattle.compiling.proofs.onward.Goals as goal
 
 -- there is room for both keys

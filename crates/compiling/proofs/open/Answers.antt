@@ -4,7 +4,6 @@ use mathlib.Core.Path.{ap}
 use lib.ListN.{length}
 use Rattle.compiling.specs.Inner.Compiling.{opening_keys}
 use Rattle.compiling.proofs.Spots.{open_on, open_new}
-use borrow.Author.Rules.{rules}
 use Rattle.compiling.proofs.open.Goals as goal
 
 pub returns-then-s : goal.returns-then-s

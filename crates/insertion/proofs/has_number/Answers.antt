@@ -1,10 +1,8 @@
 -- `insertion::has_number` meets its contract.
-use mathlib.Core.Path.{◌≡◌, refl, ◌∙◌}
-use Prim.Native.Nat.{◌-◌, ◌≤◌}
+use mathlib.Core.Path.{refl, ◌∙◌}
 use native.Mathlib.Omega.{arith}
-use lib.ListN.{length}
 use borrow.Author.Rules.{rules}
-use Rattle.insertion.proofs.Scanning.{Scanned, scanned_start, scanned_hit, scanned_miss, scanned_end}
+use Rattle.insertion.proofs.Scanning.{scanned_start, scanned_hit, scanned_miss, scanned_end}
 use Rattle.insertion.proofs.has_number.Goals as goal
 
 pub loop-at-init : goal.loop-at-init

@@ -1,7 +1,6 @@
 -- `insert` meets its contract: the tests in their order, and then the insertion of an accepted clause into a well-laid slice.
 use mathlib.Core.Path.{sym, ◌∙◌}
 use Rattle.tree.specs.Calls.{insertion}
-use borrow.Author.Rules.{rules}
 use Rattle.insertion.proofs.insert.Goals as goal
 
 pub returns-then-not-sized : goal.returns-then-not-sized

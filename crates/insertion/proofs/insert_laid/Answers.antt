@@ -2,7 +2,6 @@
 use mathlib.Core.Path.{sym, ◌∙◌}
 use Rattle.insertion.proofs.Scanning.{is_none, is_some_lem}
 use Rattle.insertion.proofs.InsertCases.{insert_taken}
-use borrow.Author.Rules.{rules}
 use Rattle.insertion.proofs.insert_laid.Goals as goal
 
 pub returns-then-taken : goal.returns-then-taken

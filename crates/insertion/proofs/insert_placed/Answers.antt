@@ -4,7 +4,6 @@ use native.Mathlib.Omega.{arith}
 use Rattle.merging.specs.Inner.Inserting.{holder_of}
 use Rattle.merging.proofs.Putting.{slice_parts}
 use Rattle.insertion.proofs.InsertCases.{insert_held, insert_full, insert_there}
-use borrow.Author.Rules.{rules}
 use Rattle.insertion.proofs.insert_placed.Goals as goal
 
 pub bounds-tree-0 : goal.bounds-tree-0

@@ -8,7 +8,6 @@ use Rattle.clause.proofs.Literals.{accepted}
 use Rattle.tree.proofs.ByWords.{insertion_words}
 use Rattle.merging.proofs.KeysOf.{all_below, keys_body, keys_few}
 use Rattle.machine.proofs.Compiled.{compiled_fits, compiled_keys}
-use borrow.Author.Rules.{rules}
 use Rattle.insertion.proofs.insert_read.Goals as goal
 
 pub compile-count-requires : goal.compile-count-requires

@@ -6,7 +6,6 @@ use native.Mathlib.Omega.{arith}
 use Rattle.tree.specs.Inner.Cut.{locate}
 use Rattle.insertion.specs.Inner.Taken.{is_some}
 use Rattle.merging.proofs.UsedWords.{parts}
-use borrow.Author.Rules.{rules}
 use Rattle.insertion.proofs.taken.Goals as goal
 
 pub bounds-tree-0 : goal.bounds-tree-0

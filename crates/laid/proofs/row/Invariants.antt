@@ -1,13 +1,8 @@
 -- The rest of the row from each sibling on decides.
-use mathlib.Core.Path.{◌≡◌, sym, ◌∙◌}
+use mathlib.Core.Path.{◌≡◌}
 use Prim.Native.Nat.{◌-◌, ◌≤◌}
-use native.Mathlib.Nat.{sub-zero}
-use native.Mathlib.Omega.{arith}
 use lib.ListN.{length, drop}
-use borrow.Author.Rules.{rules}
 use Rattle.tree.specs.Laid.{row}
-use Rattle.tree.proofs.Hops.{row_hop, row_low, row_none, row_wide, row_done}
-use Rattle.laid.proofs.WellLaid.{row_short}
 use Rattle.laid.proofs.row.Given as goal
 
 abbrev pub invariant-loop-at : goal.invariant-loop-at

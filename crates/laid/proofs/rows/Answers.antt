@@ -1,17 +1,14 @@
 -- The rest of the words and the Success words found so far decide.
 use mathlib.Core.Path.{◌≡◌, sym, ◌∙◌}
-use mathlib.Core.List.{List}
-use mathlib.Core.Bool.{◌&&◌, true, false}
-use Prim.Native.Nat.{ℕ, ◌+◌, ◌-◌, ◌≤◌}
+use Prim.Native.Nat.{◌+◌}
 use native.Mathlib.Nat.{add-zero, zero-add, add_assoc}
 use native.Mathlib.Omega.{arith}
 use borrow.Author.Rules.{rules}
-use lib.Dec.{eqb}
-use lib.ListN.{length, drop}
+use lib.ListN.{length}
 use lib.Seq.{drop-length}
 use Rattle.tree.specs.Forest.{leaf?}
-use Rattle.tree.specs.Laid.{row, rows, successes}
-use Rattle.tree.proofs.Hops.{key_at, extent_at}
+use Rattle.tree.specs.Laid.{successes}
+use Rattle.tree.proofs.Hops.{key_at}
 use Rattle.tree.proofs.Words.{leaf?-le}
 use Rattle.tree.proofs.InsertWords.{leaf_number, leaf_inner}
 use Rattle.laid.proofs.WellLaid.{rows_step, rows_unsound, rows_astray, successes_step, tail_part}

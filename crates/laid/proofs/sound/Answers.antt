@@ -3,7 +3,6 @@ use mathlib.Core.Path.{sym, ◌∙◌}
 use Prim.Native.Nat.{◌*◌, ◌^◌, ◌≤◌, ◌<◌}
 use native.Mathlib.Omega.{arith}
 use borrow.Author.Tests.{lt-ltb, le-ltb, le-leb, lt-leb}
-use borrow.Author.Rules.{rules}
 use Rattle.tree.specs.Keys.{first_key, lawful}
 use Rattle.tree.specs.Laid.{key_of}
 use Rattle.laid.proofs.WellLaid.{sound_success, sound_alone, sound_inner}

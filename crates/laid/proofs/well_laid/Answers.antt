@@ -1,12 +1,9 @@
 -- The tests of the code, one after the other, are the definition's.
 use mathlib.Core.Path.{◌≡◌, sym, ◌∙◌}
 use mathlib.Core.List.{List}
-use mathlib.Core.Bool.{◌&&◌}
 use Prim.Native.Nat.{ℕ, ◌-◌, ◌≤◌}
 use native.Mathlib.Omega.{arith}
-use lib.Dec.{leb}
 use lib.ListN.{length, get_or}
-use borrow.Author.Rules.{rules}
 use borrow.Author.Tests.{le-leb, lt-leb}
 use Rattle.tree.specs.Laid.{max_kept, used_of, kept_of, well_laid}
 use Rattle.laid.proofs.WellLaid.{words_by, laid_none, laid_parts}

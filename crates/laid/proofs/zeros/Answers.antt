@@ -1,11 +1,9 @@
 -- The rest of the words decides.
 use mathlib.Core.Path.{◌≡◌, refl, sym, ◌∙◌}
-use Prim.Native.Nat.{◌-◌, ◌≤◌}
 use native.Mathlib.Omega.{arith}
-use lib.ListN.{length, drop}
+use lib.ListN.{length}
 use lib.Seq.{drop-length}
 use borrow.Author.Rules.{rules}
-use Rattle.tree.specs.Laid.{zeros}
 use Rattle.laid.proofs.WellLaid.{zeros_step, zeros_stop}
 use Rattle.laid.proofs.zeros.Goals as goal
 

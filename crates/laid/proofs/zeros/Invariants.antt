@@ -1,12 +1,8 @@
 -- The rest of the words decides.
-use mathlib.Core.Path.{◌≡◌, refl, sym, ◌∙◌}
+use mathlib.Core.Path.{◌≡◌}
 use Prim.Native.Nat.{◌-◌, ◌≤◌}
-use native.Mathlib.Omega.{arith}
 use lib.ListN.{length, drop}
-use lib.Seq.{drop-length}
-use borrow.Author.Rules.{rules}
 use Rattle.tree.specs.Laid.{zeros}
-use Rattle.laid.proofs.WellLaid.{zeros_step, zeros_stop}
 use Rattle.laid.proofs.zeros.Given as goal
 
 abbrev pub invariant-loop-i : goal.invariant-loop-i

@@ -5,7 +5,6 @@ use native.Mathlib.Omega.{arith}
 use Rattle.tree.specs.Inner.Merge.{Descent}
 use Rattle.tree.proofs.Hops.{key_at, descend_found, descend_done}
 use Rattle.merging.proofs.Descending.{is_success, not_success}
-use borrow.Author.Rules.{rules}
 use Rattle.merging.proofs.first_success.Goals as goal
 
 pub returns-then-at-end : goal.returns-then-at-end

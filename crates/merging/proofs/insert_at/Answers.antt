@@ -2,10 +2,9 @@
 use mathlib.Core.Path.{ap, ◌∙◌}
 use Prim.Native.Nat.{◌+◌, ◌≤◌}
 use native.Mathlib.Omega.{arith}
-use lib.ListN.{length, length-set}
+use lib.ListN.{length}
 use Rattle.merging.proofs.Chain.{tail_writable}
 use Rattle.merging.proofs.Putting.{end_of, new_of, slice_parts, place_inside, insert_cramped, insert_room, insert_kept}
-use borrow.Author.Rules.{rules}
 use Rattle.merging.proofs.insert_at.Goals as goal
 
 pub bounds-tree-0 : goal.bounds-tree-0

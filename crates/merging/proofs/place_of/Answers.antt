@@ -1,5 +1,4 @@
 -- `merging::place_of` meets its contract.
-use borrow.Author.Rules.{rules}
 use Rattle.merging.proofs.Descending.{descending_start}
 use Rattle.merging.proofs.place_of.Goals as goal
 

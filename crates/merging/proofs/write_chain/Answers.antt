@@ -1,12 +1,12 @@
 -- `merging::write_chain` meets its contract: the first `i` of the new words are written.
 use mathlib.Core.Path.{◌≡◌, refl, sym, ap₂, ◌∙◌}
 use mathlib.Core.List.{List}
-use Prim.Native.Nat.{ℕ, ◌-◌, ◌≤◌}
+use Prim.Native.Nat.{ℕ}
 use native.Mathlib.Omega.{arith}
 use lib.ListN.{length, set, length-set}
 use borrow.Author.Rules.{rules}
 use Rattle.tree.specs.Inner.Merge.{new_words}
-use Rattle.merging.proofs.Chain.{over, over_set, new_length, new_key, written, body_small}
+use Rattle.merging.proofs.Chain.{over_set, new_length, new_key, written, body_small}
 use Rattle.merging.proofs.write_chain.Goals as goal
 
 pub loop-i-init : goal.loop-i-init

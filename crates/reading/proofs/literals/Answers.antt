@@ -1,13 +1,12 @@
 -- `literals` reads the literals. The invariant: the rest is the reading from here on, `count` literals having been read.
 use mathlib.Core.Path.{◌≡◌, refl, sym, ap, ◌∙◌}
 use mathlib.Core.List.{List}
-use Prim.Native.Nat.{ℕ, ◌+◌, ◌≤◌, ◌-◌}
+use Prim.Native.Nat.{ℕ, ◌+◌}
 use native.Mathlib.Numerals.{add-one}
 use native.Mathlib.Omega.{arith}
-use lib.ListN.{length, get_or, drop}
+use lib.ListN.{get_or}
 use borrow.Author.Rules.{rules}
 use Rattle.clause.specs.Word.{arity}
-use Rattle.clause.specs.Clause.{max_literals, scan}
 use Rattle.reading.specs.Inner.Cursor.{head_cursor, go_down}
 use Rattle.clause.specs.declared.Shape.{Shape}
 use Rattle.reading.specs.declared.Move.{Move}

@@ -1,19 +1,11 @@
 -- `literals` reads the literals. The invariant: the rest is the reading from here on, `count` literals having been read.
-use mathlib.Core.Path.{◌≡◌, refl, sym, ap, ◌∙◌}
-use Prim.Native.Nat.{◌+◌, ◌≤◌, ◌-◌}
-use native.Mathlib.Numerals.{add-one}
-use native.Mathlib.Omega.{arith}
-use lib.ListN.{length, get_or, drop}
-use borrow.Author.Rules.{rules}
-use borrow.Author.Tests.{not-true, not-false}
-use Rattle.clause.specs.Word.{arity}
+use mathlib.Core.Path.{◌≡◌}
+use Prim.Native.Nat.{◌≤◌, ◌-◌}
+use lib.ListN.{length}
 use Rattle.clause.specs.Clause.{max_literals, scan}
-use Rattle.reading.specs.Inner.Cursor.{head_cursor, go_down}
 use Rattle.reading.specs.declared.Cursor.{Cursor}
 use Rattle.reading.specs.declared.Move.TheVariants.{To}
-use Rattle.clause.proofs.Apart.{apart}
-use Rattle.reading.proofs.Past.{past_on}
-use Rattle.reading.proofs.Scanning.{read_on, first_at, read_off, read_right, scan_none, scan_other, scan_ninth, scan_down}
+use Rattle.reading.proofs.Scanning.{read_on}
 use Rattle.reading.proofs.literals.Given as goal
 
 abbrev pub invariant-loop-argument : goal.invariant-loop-argument

@@ -1,6 +1,5 @@
 -- `read` tests the length and reads the literals.
 use mathlib.Core.Path.{sym, ◌∙◌}
-use borrow.Author.Rules.{rules}
 use Rattle.reading.proofs.Scanning.{shape_empty, shape_long, shape_scan}
 use Rattle.reading.proofs.read.Goals as goal
 

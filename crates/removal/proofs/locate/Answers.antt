@@ -1,10 +1,9 @@
 -- `locate` meets its contract: the definition's scan of the words left gives what the whole scan gives.
 use mathlib.Core.Path.{◌≡◌, refl, sym, ◌∙◌}
-use Prim.Native.Nat.{◌-◌, ◌≤◌}
 use native.Mathlib.Omega.{arith}
-use lib.ListN.{length, drop, get_or}
+use lib.ListN.{get_or}
 use borrow.Author.Rules.{rules}
-use Rattle.tree.specs.Inner.Cut.{begin, locate}
+use Rattle.tree.specs.Inner.Cut.{begin}
 use Rattle.removal.proofs.Locating.{begin_on, begin_new, scan_stop, scan_on_lem, scan_end}
 use Rattle.removal.proofs.locate.Goals as goal
 use Rattle.removal.proofs.locate.Goals.{then-above-here, else-above-here}

@@ -1,11 +1,8 @@
 -- `locate` meets its contract: the definition's scan of the words left gives what the whole scan gives.
-use mathlib.Core.Path.{◌≡◌, refl, sym, ◌∙◌}
+use mathlib.Core.Path.{◌≡◌}
 use Prim.Native.Nat.{◌-◌, ◌≤◌}
-use native.Mathlib.Omega.{arith}
-use lib.ListN.{length, drop, get_or}
-use borrow.Author.Rules.{rules}
-use Rattle.tree.specs.Inner.Cut.{begin, locate}
-use Rattle.removal.proofs.Locating.{begin_on, begin_new, scan_stop, scan_on_lem, scan_end}
+use lib.ListN.{length, drop}
+use Rattle.tree.specs.Inner.Cut.{locate}
 use Rattle.removal.proofs.locate.Given as goal
 
 abbrev pub invariant-loop-at : goal.invariant-loop-at

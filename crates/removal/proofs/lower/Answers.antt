@@ -1,11 +1,8 @@
 -- `lower` meets its contract: the words passed are lowered, the others as they were.
-use mathlib.Core.Path.{◌≡◌, refl, ap}
-use Prim.Native.Nat.{◌-◌}
+use mathlib.Core.Path.{refl, ap}
 use native.Mathlib.Omega.{arith}
-use lib.ListN.{length}
-use borrow.Author.Rules.{rules}
 use Rattle.tree.specs.Laid.{extent_of}
-use Rattle.removal.proofs.Lowering.{Lowering, lowering_start, lowering_word, lowering_over, lowering_stay, lowering_end}
+use Rattle.removal.proofs.Lowering.{lowering_start, lowering_word, lowering_over, lowering_stay, lowering_end}
 use Rattle.removal.proofs.lower.Goals as goal
 use Rattle.removal.proofs.lower.Goals.{then-extent-words, else-extent-words}
 

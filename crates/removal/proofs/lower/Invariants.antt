@@ -1,11 +1,8 @@
 -- `lower` meets its contract: the words passed are lowered, the others as they were.
-use mathlib.Core.Path.{◌≡◌, refl, ap}
+use mathlib.Core.Path.{◌≡◌}
 use Prim.Native.Nat.{◌-◌}
-use native.Mathlib.Omega.{arith}
 use lib.ListN.{length}
-use borrow.Author.Rules.{rules}
-use Rattle.tree.specs.Laid.{extent_of}
-use Rattle.removal.proofs.Lowering.{Lowering, lowering_start, lowering_word, lowering_over, lowering_stay, lowering_end}
+use Rattle.removal.proofs.Lowering.{Lowering}
 use Rattle.removal.proofs.lower.Given as goal
 
 abbrev pub invariant-loop-at : goal.invariant-loop-at

@@ -3,7 +3,6 @@ use mathlib.Core.Path.{sym, ◌∙◌}
 use native.Mathlib.Omega.{arith}
 use Rattle.tree.specs.Calls.{removal}
 use Rattle.tree.proofs.ByWords.{removal_words}
-use borrow.Author.Rules.{rules}
 use Rattle.removal.proofs.remove.Goals as goal
 
 pub returns-then-not-sized : goal.returns-then-not-sized

@@ -10,7 +10,6 @@ use Rattle.removal.specs.declared.Located.{Located}
 use Rattle.removal.specs.Inner.Close.{span_of}
 use Rattle.tree.proofs.Grow.{sized_low, sized_high, laid_room}
 use Rattle.removal.proofs.TakingOut.{scan, hit_order, removable, removed, missed}
-use borrow.Author.Rules.{rules}
 use Rattle.removal.proofs.remove_laid.Goals as goal
 
 -- what the scan answers

@@ -1,10 +1,8 @@
 -- `take_out` meets its contract: what the two lent parts hold when they are back, with the header stored, is the definition's slice.
-use mathlib.Core.Path.{◌≡◌, ◌∙◌}
+use mathlib.Core.Path.{◌≡◌}
 use Prim.Native.Nat.{◌+◌, ◌-◌}
 use native.Mathlib.Omega.{arith}
-use lib.ListN.{length-set}
 use Rattle.removal.proofs.TakingOut.{taken}
-use borrow.Author.Rules.{rules}
 use Rattle.removal.proofs.take_out.Goals as goal
 
 pub lower-requires : goal.lower-requires

@@ -1,11 +1,7 @@
 -- `clause::tables::note_literals` meets its contract: the literals passed are noted. Assumes nothing.
-use Prim.Native.Nat.{◌-◌, ◌≤◌}
 use native.Mathlib.Omega.{arith}
-use lib.ListN.{length}
-use borrow.Author.Rules.{rules}
-use Rattle.clause.specs.Clause.{max_words, max_literals}
 use Rattle.clause.proofs.Literals.{accepted}
-use Rattle.clause.proofs.Hopping.{Hopped, hopped_none, hopped_high, hopped_room, hopped_next, hopped_all}
+use Rattle.clause.proofs.Hopping.{hopped_none, hopped_high, hopped_room, hopped_next, hopped_all}
 use Rattle.clause.proofs.tables.note_literals.Goals as goal
 
 pub loop-at-init : goal.loop-at-init

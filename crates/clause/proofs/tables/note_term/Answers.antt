@@ -1,12 +1,10 @@
 -- `clause::tables::note_term` meets its contract: the arguments passed are noted, and the others stand from where it is on. Assumes nothing.
 use mathlib.Core.Path.{◌≡◌, refl}
 use native.Mathlib.Omega.{arith}
-use Prim.Native.Nat.{◌-◌, ◌≤◌, ◌<◌}
-use Rattle.clause.specs.Word.{arities, arity}
-use Rattle.clause.specs.Clause.{max_words}
+use Prim.Native.Nat.{◌-◌, ◌<◌}
+use Rattle.clause.specs.Word.{arity}
 use Rattle.clause.proofs.Literals.{accepted}
-use borrow.Author.Rules.{rules}
-use Rattle.clause.proofs.Noting.{Noting, noting_none, noting_term, noting_all}
+use Rattle.clause.proofs.Noting.{noting_none, noting_term, noting_all}
 use Rattle.clause.proofs.tables.note_term.Goals as goal
 
 pub loop-left-init : goal.loop-left-init

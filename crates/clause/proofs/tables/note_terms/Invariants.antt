@@ -1,11 +1,8 @@
 -- `clause::tables::note_terms` meets its contract: from the position at hand on, the terms are noted. Assumes nothing.
-use mathlib.Core.Path.{◌≡◌, ap, ◌∙◌}
-use Prim.Native.Nat.{suc, ◌-◌, ◌≤◌}
-use native.Mathlib.Omega.{arith}
+use mathlib.Core.Path.{◌≡◌}
+use Prim.Native.Nat.{◌≤◌}
 use lib.ListN.{length}
-use borrow.Author.Rules.{rules}
 use Rattle.clause.specs.Inner.Tables.{tables_from}
-use Rattle.clause.proofs.Noting.{noted_none}
 use Rattle.clause.proofs.tables.note_terms.Given as goal
 
 abbrev pub invariant-loop-p : goal.invariant-loop-p

@@ -1,5 +1,4 @@
 -- The length decides; then every word is 0, or every word is as it was.
-use borrow.Author.Rules.{rules}
 use Rattle.tree.specs.Calls.{fresh}
 use Rattle.laid.proofs.freshen.fresh.Goals as goal
 

@@ -1,9 +1,9 @@
 -- `moves::open_up` meets its contract: the words from `at` on are moved, those before are as they were.
 use mathlib.Core.Path.{◌≡◌, refl, sym, ap, ◌∙◌}
 use mathlib.Core.List.{List}
-use Prim.Native.Nat.{ℕ, ◌+◌, ◌-◌, ◌≤◌}
+use Prim.Native.Nat.{ℕ, ◌+◌, ◌-◌}
 use native.Mathlib.Omega.{arith}
-use lib.ListN.{set, get_or, length, length-set}
+use lib.ListN.{set, get_or, length-set}
 use borrow.Author.Rules.{rules}
 use Rattle.merging.proofs.ShiftRight.{shifted, shifted_none, shifted_read, shifted_set}
 use Rattle.merging.proofs.moves.open_up.Goals as goal

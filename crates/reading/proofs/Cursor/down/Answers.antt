@@ -1,5 +1,4 @@
 -- `down` goes to the first argument of the term at the cursor, if it has one.
-use borrow.Author.Rules.{rules}
 use Rattle.reading.proofs.Past.{go_down_end, go_down_none, go_down_some}
 use Rattle.reading.proofs.Cursor.down.Goals as goal
 

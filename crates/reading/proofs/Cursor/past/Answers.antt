@@ -1,11 +1,9 @@
 -- `past` reads one term. The invariant: the rest is past the terms still to come, which are never many more than the words.
 use mathlib.Core.Path.{◌≡◌, refl, sym, ◌∙◌}
-use Prim.Native.Nat.{◌≤◌, ◌+◌, ◌-◌}
 use native.Mathlib.Omega.{arith}
-use lib.ListN.{length, drop}
 use borrow.Author.Rules.{rules}
 use Rattle.clause.specs.Word.{arity}
-use Rattle.reading.specs.Inner.Cursor.{past_terms, go_past}
+use Rattle.reading.specs.Inner.Cursor.{go_past}
 use Rattle.reading.proofs.Past.{past_none, past_end, past_off, past_word, past_many}
 use Rattle.reading.proofs.Cursor.past.Goals as goal
 use Rattle.reading.proofs.Cursor.past.Goals.{then-need-words, else-need-words}

@@ -1,5 +1,4 @@
 -- `right` goes to the right sibling of the term at the cursor, if it has one.
-use borrow.Author.Rules.{rules}
 use Rattle.reading.proofs.Past.{first_some}
 use Rattle.reading.proofs.Cursor.right.Goals as goal
 

@@ -1,15 +1,13 @@
 -- `is_whole` counts the terms to come. The invariant: the clause is whole where the rest is, with what is counted so far.
-use mathlib.Core.Path.{◌≡◌, sym, ap, ◌∙◌}
-use Prim.Native.Nat.{◌≤◌, ◌*◌, ◌-◌}
+use mathlib.Core.Path.{sym, ap, ◌∙◌}
 use native.Mathlib.Omega.{arith}
-use lib.ListN.{length, drop}
 use borrow.Author.Tests.{le-leb, lt-leb}
 use borrow.Author.Rules.{rules}
 use Rattle.clause.specs.Word.{arity}
-use Rattle.clause.specs.Clause.{max_literals, shape}
+use Rattle.clause.specs.Clause.{max_literals}
 use Rattle.reading.specs.Inner.Whole.{is_whole}
 use Rattle.reading.proofs.Scanning.{shape_empty, shape_long}
-use Rattle.reading.proofs.Counting.{counted, shape_counted, counted_end, counted_head, counted_inside}
+use Rattle.reading.proofs.Counting.{shape_counted, counted_end, counted_head, counted_inside}
 use Rattle.reading.proofs.whole.is_whole.Goals as goal
 use Rattle.reading.proofs.whole.is_whole.Goals.{then-need-eq0+else-not-is_head, else-need-eq0+else-not-is_inside}
 

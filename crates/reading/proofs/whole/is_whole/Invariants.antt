@@ -1,16 +1,10 @@
 -- `is_whole` counts the terms to come. The invariant: the clause is whole where the rest is, with what is counted so far.
-use mathlib.Core.Logic.{⊎_elim}
-use mathlib.Core.Path.{◌≡◌, sym, ap, ◌∙◌}
+use mathlib.Core.Path.{◌≡◌}
 use Prim.Native.Nat.{◌≤◌, ◌*◌, ◌-◌}
-use native.Mathlib.Omega.{arith}
 use lib.ListN.{length, drop}
-use borrow.Author.Tests.{not-true, not-false, le-leb, lt-leb}
-use borrow.Author.Rules.{rules}
-use Rattle.clause.specs.Word.{arity}
-use Rattle.clause.specs.Clause.{max_literals, shape}
+use Rattle.clause.specs.Clause.{shape}
 use Rattle.reading.specs.Inner.Whole.{is_whole}
-use Rattle.reading.proofs.Scanning.{shape_empty, shape_long}
-use Rattle.reading.proofs.Counting.{counted, shape_counted, counted_end, counted_head, counted_inside}
+use Rattle.reading.proofs.Counting.{counted}
 use Rattle.reading.proofs.whole.is_whole.Given as goal
 
 abbrev pub invariant-loop-at : goal.invariant-loop-at

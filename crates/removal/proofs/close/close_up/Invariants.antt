@@ -1,11 +1,8 @@
 -- `close_up` meets its contract: the words passed are moved to the left, the others as they were.
-use mathlib.Core.Path.{◌≡◌, refl, ap, ◌∙◌}
-use mathlib.Core.List.{List}
-use Prim.Native.Nat.{ℕ, ◌+◌, ◌-◌, ◌≤◌}
-use native.Mathlib.Omega.{arith}
-use lib.ListN.{set, get_or, length, length-set}
-use borrow.Author.Rules.{rules}
-use Rattle.removal.proofs.Closing.{left, left_read, left_set, left_zeros}
+use mathlib.Core.Path.{◌≡◌}
+use Prim.Native.Nat.{◌-◌, ◌≤◌}
+use lib.ListN.{length}
+use Rattle.removal.proofs.Closing.{left}
 use Rattle.removal.proofs.close.close_up.Given as goal
 
 abbrev pub invariant-loop-i : goal.invariant-loop-i
