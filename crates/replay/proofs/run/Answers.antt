@@ -42,7 +42,14 @@ returns c =
     let a = c.args in
     let none_left : calls_of (drop c.loop-at.at a.calls.now) ≡ [] = calls_short _ _ (simp length-drop (omega (arith, c.loop-at-test.false))) in
     let run : (fresh a.tree.now).answer ≡ Ready → Run a.tree.now (calls_of a.calls.now) =
-    λ r. record { ready = r; fit = c.loop-at.invariant.2 (rw none_left tt) } in (
-      sym (ap (λ T. after T (calls_of a.calls.now)) (sym (ap (λ y. y.slice) c.fresh.ensures)) ∙ c.loop-at.invariant.3 ∙ rw none_left),
-      (λ r. (run r, reach _ _ (run r)), (has_words, (believable, ((demand1, reach, demand2, demand3), (exact_count, (saved, lists_book)))))),
-    )
+    λ r. record { ready = r; fit = c.loop-at.invariant.2 (rw none_left tt) } in
+    record {
+      slice = sym (ap (λ T. after T (calls_of a.calls.now)) (sym (ap (λ y. y.slice) c.fresh.ensures)) ∙ c.loop-at.invariant.3 ∙ rw none_left);
+      reached = λ r. (run r, reach _ _ (run r));
+      lists = has_words;
+      definitions = believable;
+      demands = (demand1, reach, demand2, demand3);
+      count = exact_count;
+      saved = saved;
+      backward = lists_book;
+    }

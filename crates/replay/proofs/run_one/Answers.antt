@@ -13,7 +13,7 @@ pub returns-then-kind-eq0 : goal.returns-then-kind-eq0
 returns-then-kind-eq0 c =
     let ws = c.args.calls.now in
     let at = c.args.at in
-    let bound : (i : ℕ) → get_or ws i 0 < 2 ^ 16 = λ i. omega (arith, c.shared_slice_known-2-1.given i) in
+    let bound : (i : ℕ) → get_or ws i 0 < 2 ^ 16 = λ i. omega (arith, c.type_inv.calls i) in
     record {
       first = remove c.number_at-number.result;
       reads = λ f. reads_remove ws at c.requires c.if-kind-eq0.true f ∙ rw (c.number_at-number.ensures, add_assoc at 1 1);
@@ -24,14 +24,14 @@ returns-then-kind-eq0 c =
     }
 
 pub overflow_cast-kind : goal.overflow_cast-kind
-overflow_cast-kind c = omega (arith, c.shared_slice_known-2-1.given c.args.at)
+overflow_cast-kind c = omega (arith, c.type_inv.calls c.args.at)
 
 pub returns : goal.returns
 returns c =
     let ws = c.args.calls.now in
     let at = c.args.at in
     let m = get_or ws at 0 - 1 in
-    let bound : (i : ℕ) → get_or ws i 0 < 2 ^ 16 = λ i. omega (arith, c.shared_slice_known-2-1.given i) in
+    let bound : (i : ℕ) → get_or ws i 0 < 2 ^ 16 = λ i. omega (arith, c.type_inv.calls i) in
     let some : get_or ws at 0 ≡ suc m = omega (arith, c.if-kind-eq0.false) in
     record {
       first = insert (take m (drop (at + 3) ws)) c.number_at-number.result;
