@@ -1,12 +1,9 @@
 -- `free` meets its contract: the marks of the first numbers are freed.
-use Prim.Native.Nat.{◌-◌}
 use native.Mathlib.Omega.{arith}
-use lib.ListN.{length}
-use borrow.Author.Rules.{rules}
 use lib.ListN.{get_or}
 use mathlib.Core.Path.{◌∙◌}
 use Rattle.clause.proofs.Lists.{all_get}
-use Rattle.replacing.proofs.Copying.{Freeing, freeing_none, freeing_more, freeing_done, freed_marked, freed_free}
+use Rattle.replacing.proofs.Copying.{freeing_none, freeing_more, freeing_done, freed_marked, freed_free}
 use Rattle.replacing.proofs.free.Goals as goal
 use Rattle.replacing.proofs.free.Goals.{then-marks-at-gt0, else-marks-at-gt0}
 
@@ -30,8 +27,8 @@ loop-i-preserved c =
     let m = c.loop-i.marks in
     let n = get_or c.args.numbers.now c.loop-i.i 0 in
     freeing_more c.loop-i.invariant (omega arith) (elim c.if-marks-at-gt0.branch [
-      then-marks-at-gt0 w ↦ w.marks-is ∙ freed_marked m n w.if-marks-at-gt0.true
-    | else-marks-at-gt0 w ↦ w.marks-is ∙ freed_free m n w.if-marks-at-gt0.false
+      | then-marks-at-gt0 w ↦ w.marks-is ∙ freed_marked m n w.if-marks-at-gt0.true
+      | else-marks-at-gt0 w ↦ w.marks-is ∙ freed_free m n w.if-marks-at-gt0.false
     ])
 
 pub returns : goal.returns

@@ -1,13 +1,10 @@
 -- `remove_all` meets its contract: the first numbers are removed.
-use Prim.Native.Nat.{◌-◌}
 use native.Mathlib.Omega.{arith}
-use lib.ListN.{length, take}
-use borrow.Author.Rules.{rules}
 use mathlib.Core.List.{List}
-use Prim.Native.Nat.{ℕ, ◌≤◌}
+use Prim.Native.Nat.{ℕ}
 use lib.ListN.{get_or}
 use Rattle.tree.specs.Calls.{Called, removal}
-use mathlib.Core.Path.{◌≡◌, refl, ap, ◌∙◌}
+use mathlib.Core.Path.{refl, ap, ◌∙◌}
 use lib.Seq.{take_all}
 use Rattle.book.specs.Book.{after}
 use Rattle.record.specs.Answer.{removals}

@@ -1,17 +1,10 @@
 -- `remove_all` meets its contract: the first numbers are removed.
 use Prim.Native.Nat.{◌-◌}
-use native.Mathlib.Omega.{arith}
 use lib.ListN.{length, take}
-use borrow.Author.Rules.{rules}
-use mathlib.Core.List.{List}
-use Prim.Native.Nat.{ℕ, ◌≤◌}
-use lib.ListN.{get_or}
-use Rattle.tree.specs.Calls.{Called, removal}
-use mathlib.Core.Path.{◌≡◌, refl, ap, ◌∙◌}
-use lib.Seq.{take_all}
+use Prim.Native.Nat.{◌≤◌}
+use mathlib.Core.Path.{◌≡◌}
 use Rattle.book.specs.Book.{after}
 use Rattle.record.specs.Answer.{removals}
-use Rattle.replacing.proofs.Copying.{remove_more}
 use Rattle.replacing.proofs.remove_all.Given as goal
 
 abbrev pub invariant-loop-i : goal.invariant-loop-i

@@ -1,5 +1,4 @@
 -- `replace` meets its contract: what is done on the copy, or nothing.
-use borrow.Author.Rules.{rules}
 use mathlib.Core.Path.{refl, sym, ap, ◌∙◌}
 use mathlib.Core.List.{List}
 use Prim.Native.Nat.{ℕ}
