@@ -6,12 +6,7 @@ use lib.Dec.{eqb, ltb}
 use borrow.Author.Tests.{eq-eqb, ne_eqb}
 use Rattle.printing.specs.Handed.{reads_made, write_failed, reads_ended}
 use Rattle.streaming.specs.Fed.{most_reads}
-use borrow.Author.Rules.{rules}
 use Rattle.streaming.proofs.reading.may_read.Goals as goal
-
--- the reads have not ended
-unended : (c : tie.Else1) → let m = c.before.before.args.meters.now in eqb (reads_ended m) 0 ≡ true
-unended c = let m = c.before.before.args.meters.now in eq-eqb (reads_ended m) 0 (omega (arith, c.if1.false))
 
 pub returns-then-meters-gt0 : goal.returns-then-meters-gt0
 returns-then-meters-gt0 c =
@@ -23,10 +18,10 @@ pub returns-then-meters-gt0-2 : goal.returns-then-meters-gt0-2
 returns-then-meters-gt0-2 c =
     let m = c.args.meters.now in
     let n = ne_eqb (write_failed m) 0 (λ e. absurd (omega (arith, e, c.if-meters-gt0-2.true))) in
-    sym (ap₂ (λ (a b : Bool). a && (b && ltb (reads_made m) most_reads)) (unended c.before.before) n)
+    sym (ap₂ (λ (a b : Bool). a && (b && ltb (reads_made m) most_reads)) (eq-eqb (reads_ended m) 0 (omega (arith, c.if-meters-gt0.false))) n)
 
 pub returns : goal.returns
 returns c =
     let m = c.args.meters.now in
     let z : write_failed m ≡ 0 = omega (arith, c.if-meters-gt0-2.false) in
-    sym (ap₂ (λ (a b : Bool). a && (b && ltb (reads_made m) most_reads)) (unended c.before.before.before) (eq-eqb (write_failed m) 0 z))
+    sym (ap₂ (λ (a b : Bool). a && (b && ltb (reads_made m) most_reads)) (eq-eqb (reads_ended m) 0 (omega (arith, c.if-meters-gt0.false))) (eq-eqb (write_failed m) 0 z))
