@@ -13,7 +13,7 @@ use Rattle.clause.proofs.Lists.{all_append}
 use Rattle.clause.specs.Clause.{max_words}
 use Rattle.record.specs.declared.Setting.{Setting}
 use Rattle.record.specs.Answer.{tree_words}
-use Rattle.record.specs.Line.{totals_line}
+use Rattle.record.specs.Line.{longest_removal, totals_line}
 use Rattle.record.specs.Marks.{number_count}
 use Rattle.record.specs.Counters.{counter_words, shown_sheet}
 use Rattle.record.specs.Sheet.{Bytes}
@@ -23,8 +23,8 @@ use Rattle.intake.proofs.Bytes.{feed_append}
 use Rattle.answering.proofs.Renewing.{indexed_fresh}
 use Rattle.answering.proofs.Steady.{steady_few, fresh_kept, steady_fresh}
 use Rattle.index.specs.Inner.Heads.{entry_count, Indexed}
-use Rattle.feeding.specs.Inner.Blocks.{longest_text, Feedable, Stays}
-use Rattle.feeding.proofs.Blocks.{within_fewer}
+use Rattle.feeding.specs.Inner.Blocks.{longest_text, Feedable, Stays, Took}
+use Rattle.feeding.proofs.Blocks.{within_fewer, text_of}
 use Rattle.printing.specs.Handed.{meter_count, reads_made, write_failed, reads_ended, Holds, NextPiece, HandedOn}
 use Rattle.printing.proofs.Pieces.{stands_after}
 use Rattle.streaming.specs.Fed.{output_bytes, most_reads, block_bytes, may_read, FedSoFar}
@@ -104,6 +104,15 @@ module _ {v : Setting} {s : Session} {m : Store} {M : List ℕ} (r : Running v s
   pub lines_short : (n : ℕ) {k next : ℕ} → k ≤ block_bytes → next + n ≤ longest_text k s.totals.kept → next ≤ output_bytes
   unfolding longest_text
   lines_short n l e = omega (arith, e, r.kept, steady_few r.steady)
+
+  -- what was fed of a block that was read, and the text that is handed on
+  pub block_fed : {n : ℕ} (input : List ℕ) {o : List ℕ} {a : Session} {k : Store} {next : ℕ} {p : List ℕ} → n ≤ length input → n ≤ block_bytes → output_bytes ≤ length o
+      → Took (feed v s m (take n input)) (length (take n input)) 0 s.totals o a k (record { next = next; output = p })
+      → (◌≡◌ {A = Fed} (record { session = a; store = k; text = take next p }) (feed v s m (take n input))) × (next ≤ output_bytes)
+  block_fed {n} input {a = a} i l b t =
+      let w : length (take n input) ≤ block_bytes = rw (length-take-le n input i) l in
+      let q = block_ready w b in
+      (text_of t (omega (arith, q.room)), lines_short (a.totals.kept * longest_removal) w (omega (arith, t.short)))
 
   module _ {n : ℕ} {input N : List ℕ} (d : Delivered n input M N) {f : Fed} (e : f ≡ feed v s m (take n input)) (b : length f.text ≤ output_bytes) where
     -- what was fed of all bytes
