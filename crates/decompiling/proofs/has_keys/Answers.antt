@@ -1,5 +1,5 @@
 -- `has_keys` meets its contract: the shape decides, then the keys.
-use mathlib.Core.Path.{sym, ap, ◌∙◌}
+use mathlib.Core.Path.{ap, ◌∙◌}
 use Rattle.clause.specs.Lists.{alike}
 use Rattle.decompiling.proofs.Wording.{keys_faulty, keys_whole}
 use Rattle.machine.proofs.Compiled.{compiled_keys}

@@ -2,9 +2,6 @@
 use mathlib.Core.Path.{sym, ◌∙◌}
 use lib.Seq.{length-take-le}
 use Rattle.decompiling.proofs.Wording.{unreadable, written_fits, written_few, written_test}
-use borrow.Author.Rules.{rules}
-use Rattle.decompiling.proofs.has_keys.Reads as has-keys-reads
-use Rattle.decompiling.proofs.read_off.Reads as read-off-reads
 use Rattle.decompiling.proofs.is_path.Goals as goal
 
 pub returns-in_default : goal.returns-in_default

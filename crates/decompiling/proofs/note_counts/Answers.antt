@@ -22,7 +22,7 @@ loop-k-preserved c =
       omega arith,
       length-set l.counts (l.k + 1) c.if-origins-k.firsts ∙ l.invariant.1,
       elim c.if-origins-k.branch [
-        then-origins-k w ↦ rw w.firsts-is (counted_new a.origins.now l.counts l.firsts l.k l.invariant.2 (omega arith) w.if-origins-k.true)
-      | else-origins-k w ↦ rw w.firsts-is (counted_old a.origins.now l.counts l.firsts l.k l.invariant.2 (omega arith) w.if-origins-k.false)
+        | then-origins-k w ↦ rw w.firsts-is (counted_new a.origins.now l.counts l.firsts l.k l.invariant.2 (omega arith) w.if-origins-k.true)
+        | else-origins-k w ↦ rw w.firsts-is (counted_old a.origins.now l.counts l.firsts l.k l.invariant.2 (omega arith) w.if-origins-k.false)
       ],
     )

@@ -1,11 +1,8 @@
 -- `note_counts` meets its contract: the first puts among the first k are counted.
-use mathlib.Core.Path.{◌≡◌, ◌∙◌}
-use mathlib.Core.Logic.{⊎_elim}
-use Prim.Native.Nat.{◌+◌, ◌-◌, ◌≤◌}
-use lib.ListN.{length, length-set}
-use Rattle.decompiling.proofs.Tables.{Counted, counted_none, counted_new, counted_old, counted_low}
-use borrow.Author.Rules.{rules}
-use native.Mathlib.Omega.{arith}
+use mathlib.Core.Path.{◌≡◌}
+use Prim.Native.Nat.{◌-◌, ◌≤◌}
+use lib.ListN.{length}
+use Rattle.decompiling.proofs.Tables.{Counted}
 use Rattle.decompiling.proofs.note_counts.Given as goal
 
 abbrev pub invariant-loop-k : goal.invariant-loop-k

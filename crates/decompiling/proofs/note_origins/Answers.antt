@@ -1,11 +1,8 @@
 -- `note_origins` meets its contract: the Compares from i on are noted.
-use mathlib.Core.Path.{◌≡◌, ◌∙◌}
-use Prim.Native.Nat.{◌-◌, ◌≤◌}
-use lib.ListN.{length, drop, length-set}
-use Rattle.readback.specs.Readback.{instructions}
-use Rattle.decompiling.specs.Inner.Reader.{Origins}
+use mathlib.Core.Path.{◌∙◌}
+use Prim.Native.Nat.{◌-◌}
+use lib.ListN.{length-set}
 use Rattle.decompiling.proofs.Tables.{origins_none, origins_set, origins_far, origins_other, origins_all}
-use borrow.Author.Rules.{rules}
 use native.Mathlib.Omega.{arith}
 use Rattle.decompiling.proofs.note_origins.Goals as goal
 

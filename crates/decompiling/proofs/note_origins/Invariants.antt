@@ -1,12 +1,9 @@
 -- `note_origins` meets its contract: the Compares from i on are noted.
-use mathlib.Core.Path.{◌≡◌, ◌∙◌}
-use Prim.Native.Nat.{◌-◌, ◌≤◌}
-use lib.ListN.{length, drop, length-set}
+use mathlib.Core.Path.{◌≡◌}
+use Prim.Native.Nat.{◌≤◌}
+use lib.ListN.{length, drop}
 use Rattle.readback.specs.Readback.{instructions}
 use Rattle.decompiling.specs.Inner.Reader.{Origins}
-use Rattle.decompiling.proofs.Tables.{origins_none, origins_set, origins_far, origins_other, origins_all}
-use borrow.Author.Rules.{rules}
-use native.Mathlib.Omega.{arith}
 use Rattle.decompiling.proofs.note_origins.Given as goal
 
 abbrev pub invariant-loop-i : goal.invariant-loop-i

@@ -1,10 +1,9 @@
 -- `same_keys` meets its contract: lists of other lengths differ, and the loop keeps that what is left of both decides. Assumes nothing.
-use mathlib.Core.Path.{◌≡◌, refl, sym, ◌∙◌}
-use Prim.Native.Nat.{◌<◌, ◌≤◌, ◌-◌}
+use mathlib.Core.Path.{refl, sym, ◌∙◌}
+use Prim.Native.Nat.{◌<◌, ◌≤◌}
 use native.Mathlib.Omega.{arith}
-use lib.ListN.{length, drop}
+use lib.ListN.{length}
 use borrow.Author.Rules.{rules}
-use Rattle.clause.specs.Lists.{alike}
 use Rattle.clause.proofs.Alike.{alike_length, alike_on, alike_differ, alike_end}
 use Rattle.decompiling.proofs.same_keys.Goals as goal
 

@@ -1,11 +1,8 @@
 -- `same_keys` meets its contract: lists of other lengths differ, and the loop keeps that what is left of both decides. Assumes nothing.
-use mathlib.Core.Path.{◌≡◌, refl, sym, ◌∙◌}
-use Prim.Native.Nat.{◌<◌, ◌≤◌, ◌-◌}
-use native.Mathlib.Omega.{arith}
+use mathlib.Core.Path.{◌≡◌}
+use Prim.Native.Nat.{◌≤◌, ◌-◌}
 use lib.ListN.{length, drop}
-use borrow.Author.Rules.{rules}
 use Rattle.clause.specs.Lists.{alike}
-use Rattle.clause.proofs.Alike.{alike_length, alike_on, alike_differ, alike_end}
 use Rattle.decompiling.proofs.same_keys.Given as goal
 
 abbrev pub invariant-loop-i : goal.invariant-loop-i

@@ -1,10 +1,7 @@
 -- `start_origins` meets its contract: the numbers below k are stored.
-use mathlib.Core.Path.{◌≡◌, ◌∙◌}
+use mathlib.Core.Path.{◌≡◌}
 use Prim.Native.Nat.{ℕ, ◌-◌, ◌≤◌, ◌<◌}
-use lib.ListN.{length, get_or, length-set}
-use Rattle.decompiling.proofs.Tables.{own_turn}
-use borrow.Author.Rules.{rules}
-use native.Mathlib.Omega.{arith}
+use lib.ListN.{length, get_or}
 use Rattle.decompiling.proofs.start_origins.Given as goal
 
 abbrev pub invariant-loop-k : goal.invariant-loop-k

@@ -3,7 +3,6 @@ use Prim.Native.Nat.{◌%◌, ◌^◌}
 use lib.ListN.{get_or}
 use Rattle.readback.specs.Readback.{variable_word}
 use Rattle.decompiling.proofs.Wording.{names_check, outside_check, outside_put, outside_origin, names_put, names_none, number_low}
-use borrow.Author.Rules.{rules}
 use native.Mathlib.Omega.{arith}
 use Rattle.decompiling.proofs.word_of.Goals as goal
 

@@ -17,9 +17,9 @@ pub loop-i-preserved : goal.loop-i-preserved
 loop-i-preserved c =
     let l = c.loop-i in
     elim c.match-found.branch [
-      in-Stands+else-count-ge-WORDS w ↦
-        rw (w.out-is, w.count-is) (writing_word l.invariant (omega arith) w.in-Stands.w w.in-Stands.ensures (omega (arith, w.if-count-ge-WORDS.false)))
-    | in-Silent w ↦ rw (w.out-is, w.count-is) (writing_silent l.invariant (omega arith) w.in-Silent.ensures)
+      | in-Stands+else-count-ge-WORDS w ↦
+          rw (w.out-is, w.count-is) (writing_word l.invariant (omega arith) w.in-Stands.w w.in-Stands.ensures (omega (arith, w.if-count-ge-WORDS.false)))
+      | in-Silent w ↦ rw (w.out-is, w.count-is) (writing_silent l.invariant (omega arith) w.in-Silent.ensures)
     ]
 
 pub returns : goal.returns

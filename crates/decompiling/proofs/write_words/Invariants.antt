@@ -1,11 +1,7 @@
 -- `write_words` meets its contract: the words of the first i keys are written.
-use mathlib.Core.Logic.{⊎_elim}
 use Prim.Native.Nat.{◌-◌}
 use lib.ListN.{length}
-use Rattle.decompiling.proofs.Wording.{Writing, writing_first, writing_length, writing_end, writing_word, writing_silent, writing_many, writing_outside}
-use borrow.Author.Rules.{rules}
-use native.Mathlib.Omega.{arith}
-use Rattle.decompiling.proofs.word_of.Reads as word-of-reads
+use Rattle.decompiling.proofs.Wording.{Writing}
 use Rattle.decompiling.proofs.write_words.Given as goal
 
 abbrev pub invariant-loop-i : goal.invariant-loop-i
