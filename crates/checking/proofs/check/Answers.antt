@@ -1,10 +1,10 @@
 -- `check` meets its contract: size, layout, clauses.
 use mathlib.Core.Path.{◌≡◌, sym, ◌∙◌}
-use mathlib.Core.Bool.{Bool, true, false}
+use mathlib.Core.Bool.{Bool, true}
 use mathlib.Core.List.{List, []}
 use Prim.Native.Nat.{ℕ, ◌+◌, ◌-◌}
 use native.Mathlib.Omega.{arith}
-use lib.ListN.{length, get_or, take, drop}
+use lib.ListN.{get_or, take, drop}
 use Rattle.tree.specs.Laid.{used_of, sized, well_laid, decode}
 use Rattle.tree.proofs.Grow.{laid_room}
 use Rattle.readback.specs.Saved.{of_clauses}

@@ -1,10 +1,7 @@
 -- `next_success` meets its contract: what is left from the word at hand on is what was left at first.
 use mathlib.Core.Path.{refl, sym, ◌∙◌}
-use Prim.Native.Nat.{◌-◌}
 use native.Mathlib.Omega.{arith}
-use lib.ListN.{length}
-use borrow.Author.Rules.{rules}
-use Rattle.checking.proofs.Scanning.{Gone, gone_end, gone_success, gone_deep, gone_next}
+use Rattle.checking.proofs.Scanning.{gone_end, gone_success, gone_deep, gone_next}
 use Rattle.checking.proofs.going.next_success.Goals as goal
 
 pub loop-at-init : goal.loop-at-init

@@ -1,7 +1,5 @@
 -- `still_open` meets its contract: the words above are closed one by one, from the lowest up.
-use native.Mathlib.Omega.{arith}
-use borrow.Author.Rules.{rules}
-use Rattle.checking.proofs.Scanning.{Closing, closing_first, closing_stops, closing_next, closing_none}
+use Rattle.checking.proofs.Scanning.{Closing}
 use Rattle.checking.proofs.going.still_open.Given as goal
 
 abbrev pub invariant-loop-above : goal.invariant-loop-above

@@ -1,13 +1,8 @@
 -- `all_differ` meets its contract: no number so far stands again after it.
-use mathlib.Core.Path.{◌≡◌, refl, sym, ◌∙◌}
+use mathlib.Core.Path.{◌≡◌}
 use Prim.Native.Nat.{◌-◌, ◌≤◌}
-use native.Mathlib.Omega.{arith}
 use lib.ListN.{length, drop}
-use borrow.Author.Rules.{rules}
 use Rattle.readback.specs.Saved.{all_differ}
-use borrow.Author.Tests.{not-true, not-false}
-use Rattle.laid.proofs.WellLaid.{tail_part}
-use Rattle.checking.proofs.Differing.{differ_found, differ_next, differ_end}
 use Rattle.checking.proofs.numbers.all_differ.Given as goal
 
 abbrev pub invariant-loop-i : goal.invariant-loop-i

@@ -1,10 +1,6 @@
 -- `is_new` meets its contract: none of the numbers so far is this one.
-use mathlib.Core.Path.{◌≡◌, refl, sym, ◌∙◌}
-use Prim.Native.Nat.{◌-◌, ◌≤◌}
+use mathlib.Core.Path.{refl, sym, ◌∙◌}
 use native.Mathlib.Omega.{arith}
-use lib.ListN.{length, drop}
-use borrow.Author.Rules.{rules}
-use Rattle.readback.specs.Saved.{is_new}
 use Rattle.checking.proofs.Differing.{new_found, new_next, new_end}
 use Rattle.checking.proofs.numbers.is_new.Goals as goal
 

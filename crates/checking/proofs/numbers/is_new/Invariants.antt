@@ -1,11 +1,8 @@
 -- `is_new` meets its contract: none of the numbers so far is this one.
-use mathlib.Core.Path.{◌≡◌, refl, sym, ◌∙◌}
+use mathlib.Core.Path.{◌≡◌}
 use Prim.Native.Nat.{◌-◌, ◌≤◌}
-use native.Mathlib.Omega.{arith}
 use lib.ListN.{length, drop}
-use borrow.Author.Rules.{rules}
 use Rattle.readback.specs.Saved.{is_new}
-use Rattle.checking.proofs.Differing.{new_found, new_next, new_end}
 use Rattle.checking.proofs.numbers.is_new.Given as goal
 
 abbrev pub invariant-loop-i : goal.invariant-loop-i
