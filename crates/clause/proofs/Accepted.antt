@@ -47,7 +47,8 @@ scan_length [] zero lits p e = apart cc
 scan_length [] (suc k) lits p e = apart cc
 scan_length (w ∷ ws) need lits p e = go (sort w) need e (scan_length ws)
   where
-    go : (s : Sort) (need : ℕ) → scan_word s (arity w) need lits p (scan ws) ≡ Faulty BadLength → ((need lits p : ℕ) → scan ws need lits p ≡ Faulty BadLength → ⊥) → ⊥
+    go : (s : Sort) (need : ℕ) → scan_word s (arity w) need lits p (scan ws) ≡ Faulty BadLength
+        → ((need lits p : ℕ) → scan ws need lits p ≡ Faulty BadLength → ⊥) → ⊥
     go symbol zero e ih = apart cc
     go symbol (suc k) e ih = ih (arity w + k) lits (suc p) e
     go variable zero e ih = apart cc
@@ -198,7 +199,8 @@ module _ (ws : List ℕ) (F : Fits ws) (at : ℕ) (B : Breaks ws at) where
   place (Faulty BadLength) e = absurd ((bad_length ws).0 e F)
   place (Whole n) e = go ((accepts ws).0 (n, e)) B.there
     where
-      go : IsClause ws → ((at < length ws) × (Begins (take (suc at) ws) → ⊥) × (IsNinth ws at → ⊥)) ⊎ ((at ≡ length ws) × (Rules ws → ⊥)) → shape ws ≡ Faulty (Bad at)
+      go : IsClause ws → ((at < length ws) × (Begins (take (suc at) ws) → ⊥) × (IsNinth ws at → ⊥)) ⊎ ((at ≡ length ws) × (Rules ws → ⊥))
+          → shape ws ≡ Faulty (Bad at)
       go C (inl (l, f, g)) =
           let r : Rules (take (suc at) ws ++ drop (suc at) ws) = rw (take-append-drop (suc at) ws) (C.count, C.literals, C.high) in
           absurd (f (drop (suc at) ws, r))

@@ -64,7 +64,15 @@ unfolding scan scan_word
 stops [] zero lits p q e = apart cc
 stops [] (suc k) lits p q e =
     let z : p ≡ q = cc in
-    record { i = 0; place = omega arith; inside = omega arith; more = replicate (suc k) filler; n = lits; completed = filled (suc k) lits p; broken = λ h. absurd (omega arith) }
+    record {
+      i = 0;
+      place = omega arith;
+      inside = omega arith;
+      more = replicate (suc k) filler;
+      n = lits;
+      completed = filled (suc k) lits p;
+      broken = λ h. absurd (omega arith);
+    }
 stops (w ∷ ws) need lits p q e = go (sort w) need refl e (stops ws)
   where
     go : (s : Sort) (need : ℕ) → sort w ≡ s → scan_word s (arity w) need lits p (scan ws) ≡ Faulty (Bad q)
@@ -78,8 +86,10 @@ stops (w ∷ ws) need lits p q e = go (sort w) need refl e (stops ws)
     go head (suc k) u e ih = stops_here w ws (suc k) lits p q (λ xs. rw u) cc
     go head zero u e ih = room (ltb lits max_literals) refl e
       where
-        room : (b : Bool) → ltb lits max_literals ≡ b → cond b (scan ws (arity w) (suc lits) (suc p)) (Faulty (Ninth p)) ≡ Faulty (Bad q) → Stops (w ∷ ws) 0 lits p q
-        room true v e' = stops_later w ws 0 lits p q (arity w) (suc lits) (scan_head w u lits p (ltb-true lits max_literals v)) (ih (arity w) (suc lits) (suc p) q e')
+        room : (b : Bool) → ltb lits max_literals ≡ b → cond b (scan ws (arity w) (suc lits) (suc p)) (Faulty (Ninth p)) ≡ Faulty (Bad q)
+            → Stops (w ∷ ws) 0 lits p q
+        room true v e' = stops_later w ws 0 lits p q (arity w) (suc lits) (scan_head w u lits p (ltb-true lits max_literals v))
+            (ih (arity w) (suc lits) (suc p) q e')
         room false v e' = apart cc
 
 -- the reading meets a ninth head i words on: those before are whole
@@ -107,13 +117,15 @@ meets (w ∷ ws) need lits p q h e = go (sort w) need refl e (meets ws)
     go symbol zero u e ih = apart cc
     go symbol (suc k) u e ih = meets_later w ws (suc k) lits p q (arity w + k) lits (scan_inside w symbol u tt k lits p) (ih (arity w + k) lits (suc p) q h e)
     go variable zero u e ih = apart cc
-    go variable (suc k) u e ih = meets_later w ws (suc k) lits p q (arity w + k) lits (scan_inside w variable u tt k lits p) (ih (arity w + k) lits (suc p) q h e)
+    go variable (suc k) u e ih =
+        meets_later w ws (suc k) lits p q (arity w + k) lits (scan_inside w variable u tt k lits p) (ih (arity w + k) lits (suc p) q h e)
     go wrong zero u e ih = apart cc
     go wrong (suc k) u e ih = apart cc
     go head (suc k) u e ih = apart cc
     go head zero u e ih = room (ltb lits max_literals) refl e
       where
-        room : (b : Bool) → ltb lits max_literals ≡ b → cond b (scan ws (arity w) (suc lits) (suc p)) (Faulty (Ninth p)) ≡ Faulty (Ninth q) → Meets (w ∷ ws) 0 lits p q
+        room : (b : Bool) → ltb lits max_literals ≡ b → cond b (scan ws (arity w) (suc lits) (suc p)) (Faulty (Ninth p)) ≡ Faulty (Ninth q)
+            → Meets (w ∷ ws) 0 lits p q
         room true v e' =
             let r = ltb-true lits max_literals v in
             meets_later w ws 0 lits p q (arity w) (suc lits) (scan_head w u lits p r) (ih (arity w) (suc lits) (suc p) q r e')

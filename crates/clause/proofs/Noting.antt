@@ -16,7 +16,8 @@ use Rattle.clause.proofs.Skip.{Enough, enough_fewer}
 use Rattle.clause.proofs.Jump.{jump_zero, jump_suc, enough_here, enough_word, enough_term}
 use Rattle.clause.proofs.Literals.{accepted}
 use Rattle.clause.proofs.Ends.{skip_le, length_ends, ends_at, jump_one, jump_le, jump_from}
-use Rattle.clause.proofs.Siblings.{rights_of, after_term, total, Positive, siblings_cons, length_siblings, push_append, push_total, push_positive, enough_rights}
+use Rattle.clause.proofs.Siblings.{rights_of, after_term, total, Positive, siblings_cons, length_siblings, push_append, push_total, push_positive}
+use Rattle.clause.proofs.Siblings.{enough_rights}
 use Rattle.clause.proofs.Packing.{get_d_after, packed_zeros, end_at, set_end, set_right}
 
 -- right siblings up to the end of the arguments still to come, and after it

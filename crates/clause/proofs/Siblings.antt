@@ -110,7 +110,8 @@ due_term h due = go h refl
     go : {n : ℕ} {u : List ℕ} → Shaped n u → n ≡ 1 → due_after u due ≡ after_term due
     go end e = absurd (omega arith)
     go (next_word {w} h) e =
-        rw (push_append (arity w) [] (after_term due)) (clear h (push_due (arity w) []) (after_term due) (push_positive (arity w) none) (simp push_total (omega arith)))
+        rw (push_append (arity w) [] (after_term due))
+        (clear h (push_due (arity w) []) (after_term due) (push_positive (arity w) none) (simp push_total (omega arith)))
 
 -- the first k terms, where there are as many
 pub enough_shaped : {k : ℕ} {ws : List ℕ} → Enough k ws → Shaped k (take (skip k ws) ws)

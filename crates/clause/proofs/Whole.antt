@@ -12,7 +12,8 @@ use Rattle.clause.specs.Accepted.{IsLiteral, Literals}
 use Rattle.clause.proofs.Literals.{read, joined, shaped_zero}
 use Rattle.clause.specs.declared.Shape.TheVariants.{Whole}
 
-pub scan_inside : (w : ℕ) (s : Sort) → sort w ≡ s → Inside s → (k lits at : ℕ) (xs : List ℕ) → scan (w ∷ xs) (suc k) lits at ≡ scan xs (arity w + k) lits (suc at)
+pub scan_inside : (w : ℕ) (s : Sort) → sort w ≡ s → Inside s → (k lits at : ℕ) (xs : List ℕ)
+    → scan (w ∷ xs) (suc k) lits at ≡ scan xs (arity w + k) lits (suc at)
 unfolding scan scan_word
 scan_inside w symbol e i k lits at xs = rw e
 scan_inside w variable e i k lits at xs = rw e
@@ -35,7 +36,8 @@ scan_literal : {l : List ℕ} → IsLiteral l → (lits at : ℕ) → lits < max
     → scan (l ++ rest) 0 lits at ≡ scan rest 0 (suc lits) (at + length l)
 scan_literal L lits at h rest =
     rw L.parts
-    (scan_head L.top L.top_head lits at h (L.args ++ rest) ∙ scan_args L.args_shaped L.args_inner (suc lits) (suc at) rest ∙ ap (scan rest 0 (suc lits)) (omega arith))
+    (scan_head L.top L.top_head lits at h (L.args ++ rest) ∙ scan_args L.args_shaped L.args_inner (suc lits) (suc at) rest
+    ∙ ap (scan rest 0 (suc lits)) (omega arith))
 
 scan_literals : {ls : List (List ℕ)} → All IsLiteral ls → (lits at : ℕ) → lits + length ls ≤ max_literals → (rest : List ℕ)
     → scan (flatten ls ++ rest) 0 lits at ≡ scan rest 0 (lits + length ls) (at + length (flatten ls))

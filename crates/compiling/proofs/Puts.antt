@@ -43,7 +43,8 @@ map_get f g (x ∷ l) h = ap₂ ◌∷◌ (h 0 (omega arith)) (map_get f g l (λ
 firsts_snoc : (us : List ℕ) (w : ℕ) → firsts_of (us ++ (w ∷ [])) ≡ firsts_of us ++ (first w us ∷ [])
 firsts_snoc us w =
     map-append (λ v. first v (us ++ (w ∷ []))) us (w ∷ [])
-    ∙ ap₂ (λ (a : List ℕ) (b : ℕ). a ++ (b ∷ [])) (map_get _ _ us (λ k i. first_append (get_or us k 0) us (w ∷ []) (omega (arith, first_le us k i)))) (first_last us w)
+    ∙ ap₂ (λ (a : List ℕ) (b : ℕ). a ++ (b ∷ [])) (map_get _ _ us (λ k i. first_append (get_or us k 0) us (w ∷ []) (omega (arith, first_le us k i))))
+    (first_last us w)
 
 -- which words are variables
 pub variable_word_lem : (w : ℕ) → w / 0x800 ≡ 8 → sort w ≡ variable

@@ -119,13 +119,20 @@ module _ (firsts : List ℕ) (from : ℕ) where
   pub rows_room : (m : ℕ) → m < length firsts → length (rows_to m) + length (row_keys firsts from m) ≤ length (compare_keys firsts from)
   rows_room m h =
       let e : (m + 1) + (length firsts - (m + 1)) ≡ length firsts = omega arith in
-      omega (arith, ap length (rows_suc m), length-append (rows_to m) (row_keys firsts from m), rw e at (rows_grow (m + 1) (length firsts - (m + 1))), ap length rows_to_whole)
+      omega (
+        arith,
+        ap length (rows_suc m),
+        length-append (rows_to m) (row_keys firsts from m),
+        rw e at (rows_grow (m + 1) (length firsts - (m + 1))),
+        ap length rows_to_whole,
+      )
 
   pub rows_none : rows_to 0 ≡ []
   unfolding rows_to numbers_below flat_map
   rows_none = refl
 
-  pub rows_stored : {before after next : List ℕ} {at end stop : ℕ} (m : ℕ) → Stored (rows_to m) before at after end → Stored (row_keys firsts from m) after end next stop
+  pub rows_stored : {before after next : List ℕ} {at end stop : ℕ} (m : ℕ) → Stored (rows_to m) before at after end
+      → Stored (row_keys firsts from m) after end next stop
       → Stored (rows_to (m + 1)) before at next stop
   rows_stored m s t = rw rows_suc (stored_append s t)
 

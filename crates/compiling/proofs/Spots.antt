@@ -23,8 +23,10 @@ open_on s keys e =
 pub open_new : (s : Spot) (keys : List ℕ) → s.inside ≡ false
     → (at_head s ≡ opened s) × Stored (opening_keys s.inside) keys s.written (set keys s.written 0x1_0000_0000) (s.written + 1)
 unfolding key
-open_new s keys e =
-    (sym (ap (λ b. cond b s (at_head s)) e), let h : opening_keys s.inside ≡ 0x1_0000_0000 ∷ [] = ap opening_keys e in rw h (record { after_is = refl; end_is = refl }))
+open_new s keys e = (
+  sym (ap (λ b. cond b s (at_head s)) e),
+  let h : opening_keys s.inside ≡ 0x1_0000_0000 ∷ [] = ap opening_keys e in rw h (record { after_is = refl; end_is = refl }),
+)
 
 -- the positions to come back to: none of them is at or above the depth
 saved_set : (saved : List ℕ) (d x k : ℕ) → k ≤ d → saved_in (set saved d x) k ≡ saved_in saved k
@@ -35,7 +37,8 @@ saved_set saved d x (suc k) h =
     rw (get_or-set_other saved d k x 0 n, saved_set saved d x k (omega arith))
 
 -- one more
-saved_push : (saved : List ℕ) (d n l : ℕ) → d < length saved → l < arities → saved_in (set saved d (n * arities + l)) (d + 1) ≡ record { slot = n; left = l } ∷ saved_in saved d
+saved_push : (saved : List ℕ) (d n l : ℕ) → d < length saved → l < arities
+    → saved_in (set saved d (n * arities + l)) (d + 1) ≡ record { slot = n; left = l } ∷ saved_in saved d
 unfolding saved_in
 saved_push saved d n l h g =
     let a : (n * arities + l) / arities ≡ n = omega arith in
@@ -181,7 +184,15 @@ module _ (a : ℕ) (s : Spot) (saved keys : List ℕ) (within : s.inside ≡ tru
       })
 
   pub went_out : a ≡ 0 → s.left ≡ 0 → s.depth ≡ 0
-      → Went here s (record { inside = false; left = s.left; depth = s.depth; pushed = s.pushed; count = s.count; from = s.from; written = s.written }) saved keys keys
+      → Went here s (record {
+        inside = false;
+        left = s.left;
+        depth = s.depth;
+        pushed = s.pushed;
+        count = s.count;
+        from = s.from;
+        written = s.written;
+      }) saved keys keys
   unfolding saved_in
   went_out e f g =
       rw (ap₂ (λ a l. way a l (saved_in saved s.depth) s.pushed) e f ∙ ap (λ d. way 0 0 (saved_in saved d) s.pushed) g ∙ way_end s.pushed)

@@ -14,7 +14,8 @@ use Rattle.machine.specs.Instr.{Do, key}
 use Rattle.machine.specs.Machine.{slots}
 use Rattle.machine.specs.Compile.{Place, ended, inside, Way, way, way_from, opening, begun, closing, act, puts_after, sequence_from, sequence, keys}
 use Rattle.machine.specs.Compiled.{max_keys, Compiled}
-use Rattle.compiling.specs.Inner.Compiling.{Room, firsts_of, compare_keys, saved_in, place_at, opening_keys, opened, step_keys, to_come, Stored, Acted, Went, CompilingAt, Advanced}
+use Rattle.compiling.specs.Inner.Compiling.{Room, firsts_of, compare_keys, saved_in, place_at, opening_keys, opened, step_keys, to_come, Stored}
+use Rattle.compiling.specs.Inner.Compiling.{Acted, Went, CompilingAt, Advanced}
 use Rattle.compiling.specs.declared.Spot.{Spot}
 use Rattle.compiling.proofs.Stores.{stored_none, stored_append, stored_length}
 use Rattle.compiling.proofs.Rows.{compare_keys_lem}
@@ -91,11 +92,13 @@ word_at words i = get_or words i 0
 abbrev pub puts_of : Spot → (variables : List ℕ) → List ℕ
 puts_of s variables = take s.count variables
 
-module _ {words : List ℕ} {i : ℕ} {s : Spot} {variables firsts saved keys : List ℕ} (R : CompilingAt words i s variables firsts saved keys) (h : i < length words)
+module _ {words : List ℕ} {i : ℕ} {s : Spot} {variables firsts saved keys : List ℕ} (R : CompilingAt words i s variables firsts saved keys)
+    (h : i < length words)
     {o : Spot} (eo : o ≡ opened s) where
   split : to_come words i s variables saved ≡ all_keys (drop (i + 1) words) s o saved (puts_of s variables) (word_at words i)
   unfolding to_come
-  split = rw (add-one, drop-cons words i 0 h, eo) (keys_spot (word_at words i) (drop (suc i) words) s saved (puts_of s variables) (length-take-le s.count variables (omega arith)))
+  split = rw (add-one, drop-cons words i 0 h, eo)
+      (keys_spot (word_at words i) (drop (suc i) words) s saved (puts_of s variables) (length-take-le s.count variables (omega arith)))
 
   -- there is room for all of them
   word_room : s.written + (length (opening_keys s.inside) + (1 + (length (step_keys (way_at o saved (word_at words i)).steps)
@@ -140,7 +143,15 @@ module _ {words : List ℕ} {i : ℕ} {s : Spot} {variables firsts saved keys : 
       (so : Stored (opening_keys s.inside) keys s.written keys₁ o.written)
       (ac : Acted (word_at words i) o.count variables count variables' firsts' keys₁ o.written keys₂)
       (we : Went (way_at o saved (word_at words i))
-      (record { inside = o.inside; left = o.left; depth = o.depth; pushed = o.pushed; count = count; from = o.from; written = o.written + 1 }) r saved' keys₂ keys₃)
+      (record {
+        inside = o.inside;
+        left = o.left;
+        depth = o.depth;
+        pushed = o.pushed;
+        count = count;
+        from = o.from;
+        written = o.written + 1;
+      }) r saved' keys₂ keys₃)
     where
       acts : Stored (key (Do (act (puts_of s variables) (word_at words i))) ∷ []) keys₁ o.written keys₂ (o.written + 1)
       acts = let a : o.count ≡ s.count = (opens s eo).count in record { after_is = rw a at ac.stored; end_is = refl }
@@ -162,7 +173,8 @@ module _ {words : List ℕ} {i : ℕ} {s : Spot} {variables firsts saved keys : 
       pub closing_out : r.inside ≡ false → compare_keys (take count firsts') r.from ≡ closing_keys o saved (puts_of s variables) (word_at words i)
       unfolding closing_keys closing
       closing_out e =
-          let f : take count firsts' ≡ firsts_of (puts_after (puts_of s variables) (word_at words i)) = ac.numbers ∙ ap firsts_of (rw we.same_count at puts_after_lem) in
+          let f : take count firsts' ≡ firsts_of (puts_after (puts_of s variables) (word_at words i)) =
+          ac.numbers ∙ ap firsts_of (rw we.same_count at puts_after_lem) in
           ap₂ compare_keys f we.same_from
           ∙ sym (compare_keys_lem (puts_after (puts_of s variables) (word_at words i)) o.from)
           ∙ ap (λ q. step_keys (closing q (puts_after (puts_of s variables) (word_at words i)) o.from)) (sym (place_when e) ∙ we.place)
@@ -192,7 +204,8 @@ module _ {words : List ℕ} {i : ℕ} {s : Spot} {variables firsts saved keys : 
             ),
           )
 
-      module _ {C keys₄ : List ℕ} {end : ℕ} (e_c : C ≡ closing_keys o saved (puts_of s variables) (word_at words i)) (s_c : Stored C keys₃ r.written keys₄ end) where
+      module _ {C keys₄ : List ℕ} {end : ℕ} (e_c : C ≡ closing_keys o saved (puts_of s variables) (word_at words i))
+          (s_c : Stored C keys₃ r.written keys₄ end) where
         rest_is : to_come words (i + 1) (ended_at r end) variables' saved' ≡ after (drop (i + 1) words) o saved (puts_of s variables) (word_at words i)
         unfolding to_come after
         rest_is = rw (we.place, puts_after_lem, we.same_from, we.pushed)
@@ -200,7 +213,8 @@ module _ {words : List ℕ} {i : ℕ} {s : Spot} {variables firsts saved keys : 
         pub advanced : Advanced words i s variables saved keys (ended_at r end) variables' saved' keys₄
         advanced =
             record {
-              new = opening_keys s.inside ++ (key (Do (act (puts_of s variables) (word_at words i))) ∷ (step_keys (way_at o saved (word_at words i)).steps ++ C));
+              new = opening_keys s.inside ++
+                  (key (Do (act (puts_of s variables) (word_at words i))) ∷ (step_keys (way_at o saved (word_at words i)).steps ++ C));
               comes = split ∙ rw (rest_is, ← e_c) (simp append_assoc);
               stored = stored_append so (stored_append acts (stored_append we.stored s_c));
             }
@@ -231,7 +245,8 @@ module _ {words : List ℕ} {i : ℕ} {s : Spot} {variables firsts saved keys : 
         turn_on e = let n = stored_none keys₃ r.written in (ready (closing_on e) n lv lf ls, advanced (closing_on e) n)
 
         pub turn_out : {keys₄ : List ℕ} {end : ℕ} → r.inside ≡ false → Stored (compare_keys (take count firsts') r.from) keys₃ r.written keys₄ end
-            → CompilingAt words (i + 1) (ended_at r end) variables' firsts' saved' keys₄ × Advanced words i s variables saved keys (ended_at r end) variables' saved' keys₄
+            → CompilingAt words (i + 1) (ended_at r end) variables' firsts' saved' keys₄
+            × Advanced words i s variables saved keys (ended_at r end) variables' saved' keys₄
         turn_out e s_c = (ready (closing_out e) s_c lv lf ls, advanced (closing_out e) s_c)
 
 -- ---- all words
@@ -292,7 +307,8 @@ none_to_come : (words : List ℕ) (i : ℕ) (s : Spot) (variables saved : List �
 unfolding to_come sequence_from
 none_to_come words i s variables saved h = rw (drop_of_length-le words h)
 
-pub compiling_ends : {words before variables firsts saved now : List ℕ} {i : ℕ} {s : Spot} → Compiling words before i s variables firsts saved now → length words ≤ i
+pub compiling_ends : {words before variables firsts saved now : List ℕ} {i : ℕ} {s : Spot} → Compiling words before i s variables firsts saved now
+    → length words ≤ i
     → max_keys ≤ length before → Compiled words before s.written now
 compiling_ends {words} {before} {variables} {saved = saved} {i = i} {s = s} C h wide =
     let e : keys words ≡ C.done = C.comes ∙ ap (λ l. C.done ++ l) (none_to_come words i s variables saved h) ∙ append-nil C.done in

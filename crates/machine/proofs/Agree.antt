@@ -102,5 +102,10 @@ consistent_more d puts poss vs ps e h g k i j = go (dec_lt k (length puts))
     go (yes l) =
         let b : first (get_or puts k 0) puts < length puts = omega (arith, first_le puts k l) in
         let f = first (get_or puts k 0) puts in
-        rw (get_or-append puts vs 0 k l, first_append (get_or puts k 0) puts vs b, get_or-append poss ps 0 k (omega arith), get_or-append poss ps 0 f (omega arith))
+        rw (
+          get_or-append puts vs 0 k l,
+          first_append (get_or puts k 0) puts vs b,
+          get_or-append poss ps 0 k (omega arith),
+          get_or-append poss ps 0 f (omega arith),
+        )
         (h k (omega arith) l)

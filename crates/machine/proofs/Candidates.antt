@@ -29,7 +29,8 @@ module _ (d : List ℕ) where
   run_enough (Success n ∷ sequence) js s t e = omega arith
 
   -- any more of them are not looked at
-  pub run_take : (sequence : List Instr) (js : List ℕ) (s : State) → firsts sequence ≤ length js → run d sequence (take (firsts sequence) js) s ≡ run d sequence js s
+  pub run_take : (sequence : List Instr) (js : List ℕ) (s : State) → firsts sequence ≤ length js
+      → run d sequence (take (firsts sequence) js) s ≡ run d sequence js s
   unfolding run firsts start
   run_take [] js s h = refl
   run_take (First ∷ sequence) [] s h = absurd (omega arith)

@@ -39,7 +39,11 @@ record Leads (t : Way) (n : ℕ) : Type 0 where
 way_leads : (a l : ℕ) (saved : List Saved) (n : ℕ) → n < slots → All (λ v. v.slot < n) saved → Leads (way a l saved n) n
 unfolding way
 way_leads (suc a) (suc l) saved n h p =
-    record { fitting = also {x = Push n} (omega arith) (also tt none); below = also {x = record { slot = n; left = l }} (omega arith) (later p); few = omega arith }
+    record {
+      fitting = also {x = Push n} (omega arith) (also tt none);
+      below = also {x = record { slot = n; left = l }} (omega arith) (later p);
+      few = omega arith;
+    }
 way_leads (suc a) zero saved n h p = record { fitting = also tt none; below = p; few = omega arith }
 way_leads zero (suc l) saved n h p = record { fitting = also tt none; below = p; few = omega arith }
 way_leads zero zero [] n h p = record { fitting = none; below = tt; few = omega arith }

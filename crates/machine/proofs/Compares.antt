@@ -161,4 +161,5 @@ module _ (d : List ℕ) (sequence : List Instr) (js : List ℕ) (s : State) (c :
   pub run_compares : (from : ℕ) → GoesIf (Consistent d puts poss from) (run d (map Do (compares puts from) ++ sequence) js s) (run d sequence js s)
   run_compares from =
       goes_if_iff (consistent from) (all_pass from)
-      (run_tests d sequence js s (compares_all puts from λ m k i j e. goes_if_iff (λ h. goes_if_then (one m k i j) h) (λ h. goes_if_next (one m k i j) h) (one m k i j)))
+      (run_tests d sequence js s
+      (compares_all puts from λ m k i j e. goes_if_iff (λ h. goes_if_then (one m k i j) h) (λ h. goes_if_next (one m k i j) h) (one m k i j)))

@@ -71,8 +71,10 @@ module _ (d : List ℕ) (D : Clause d) where
       → length puts ≡ length poss → Consistent d puts poss 0 → All (λ p. IsTerm (term_at d p)) poss
       → (R : Replaces ls js puts poss) × Agree R.replace d (puts ++ vars (flatten ls)) (places F)
   unfolding places flatten vars
-  fits_replaces {puts = puts} {poss} fits_none L J e c t =
-      (record { replace = look d puts poss; terms = look_term d puts poss e t; agrees = look_agrees d puts poss e c; made = refl }, rw append-nil (look_agrees d puts poss e c))
+  fits_replaces {puts = puts} {poss} fits_none L J e c t = (
+    record { replace = look d puts poss; terms = look_term d puts poss e t; agrees = look_agrees d puts poss e c; made = refl },
+    rw append-nil (look_agrees d puts poss e c),
+  )
   fits_replaces {puts = puts} {poss} (fits_also {l} {ls} {j} {js} {ps = ps} f g F) (also L Ls) (also J Js) e c t =
       let m = literal_match l L j J ps f in
       let e' : length (puts ++ vars l) ≡ length (poss ++ ps) = simp length-append (omega (arith, match_length m)) in

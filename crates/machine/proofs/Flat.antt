@@ -162,7 +162,8 @@ module _ (d rest : List ℕ) (from : ℕ) (js : List ℕ) where
         let z : arity w ≡ 0 = variable_arity w e in
         let o : Onto d (arity w) p (jump d 1 p) = record { spans = rw z (jump_zero d (jump d 1 p)); steps = λ b f. absurd (omega arith) } in
         agrees_put p (run_put d (onward (puts ++ (w ∷ []))) js s r.stands.0 (length puts) (omega arith))
-        (rw length-snoc at (go_on (jump d 1 p) (puts ++ (w ∷ [])) (putting s (length puts) p) o (rw (z, zero-add) (enough_term d _ p r.enough)) (rw length-snoc (omega arith))
+        (rw length-snoc at (go_on (jump d 1 p) (puts ++ (w ∷ [])) (putting s (length puts) p) o (rw (z, zero-add) (enough_term d _ p r.enough))
+        (rw length-snoc (omega arith))
         record { shaped = r.shaped; enough = r.enough; stands = r.stands; put_room = r.put_room; push_room = r.push_room; pushes = r.pushes }))
 
     -- another word is at p, or does not match
@@ -190,7 +191,17 @@ module _ (d rest : List ℕ) (from : ℕ) (js : List ℕ) where
   pub reach : Clause d → (ws : List ℕ) → Reaches ws
   unfolding flat puts_all closing need StandsAt
   reach D [] ended puts n p s r =
-      hit record { state = s; pushed = n; goes = refl; chosen = refl; stored = refl; pushes = r.pushes; cursor = r.stands.0; placed = r.stands.1; room = r.push_room }
+      hit record {
+        state = s;
+        pushed = n;
+        goes = refl;
+        chosen = refl;
+        stored = refl;
+        pushes = r.pushes;
+        cursor = r.stands.0;
+        placed = r.stands.1;
+        room = r.push_room;
+      }
   reach D [] (inside l saved) puts n p s r = absurd (omega (arith, shaped_nil r.shaped))
   reach D (w ∷ ws) ended puts n p s r = absurd (omega (arith, shaped_cons r.shaped))
   reach D (w ∷ ws) (inside l saved) puts n p s r = reach_word D w ws (reach D ws) l saved puts n p s r

@@ -10,7 +10,8 @@ use lib.ListN.{length, get_or, length-append, length-map}
 use Rattle.clause.specs.Word.{arity}
 use Rattle.machine.specs.Instr.{Step, Compare}
 use Rattle.machine.specs.Compiled.{max_keys}
-use Rattle.machine.specs.Compile.{Saved, Place, ended, inside, way, way_from, first, repeats, compares, opening, begun, closing, puts_after, sequence_from, sequence}
+use Rattle.machine.specs.Compile.{Saved, Place, ended, inside, way, way_from, first, repeats, compares, opening, begun, closing, puts_after}
+use Rattle.machine.specs.Compile.{sequence_from, sequence}
 use Rattle.clause.proofs.Literals.{Clause}
 use Rattle.machine.proofs.Compares.{repeats_true}
 use Rattle.machine.proofs.Codes.{length_puts}

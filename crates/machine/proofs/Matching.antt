@@ -65,7 +65,8 @@ module _ (c d : List ℕ) (C : Clause c) (D : Clause d) (js : List ℕ) (J : Cho
           let (R, a) = fits_replaces d D F C.all J.valid refl (λ k i j. absurd (omega arith)) All-none in
           covers (record { replace = R.replace; terms = R.terms; made = R.made }) N (places F) (rw C.whole at a) s e q p
       go (mismatch n e) =
-          misses (λ M N. n (replaces_fits d D (literals c) js [] [] J.valid (record { replace = M.replace; terms = M.terms; agrees = no_more; made = M.made })) N) e
+          misses (λ M N. n (replaces_fits d D (literals c) js [] [] J.valid
+          (record { replace = M.replace; terms = M.terms; agrees = no_more; made = M.made })) N) e
 
 -- the places of a subsumption, as a list of candidates
 module _ (c d : List ℕ) (S : Subsumes c d) where
@@ -99,7 +100,8 @@ module _ (c d : List ℕ) (S : Subsumes c d) where
       each i h =
           let b : i < length (literals c) = rw length-map at h in
           let b' : i < length picks = omega (arith, length_picks) in
-          get_or-map-lt (inst S.replace) (literals c) i [] [] b ∙ S.covered i b ∙ ap (chosen d) (sym (pick i b)) ∙ sym (get_or-map-lt (chosen d) picks i 0 [] b')
+          get_or-map-lt (inst S.replace) (literals c) i [] [] b ∙ S.covered i b ∙ ap (chosen d) (sym (pick i b))
+          ∙ sym (get_or-map-lt (chosen d) picks i 0 [] b')
 
 module _ (c d : List ℕ) (C : Clause c) (D : Clause d) where
   pub subsumes_matched : Subsumes c d → Matched c d

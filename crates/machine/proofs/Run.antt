@@ -100,7 +100,8 @@ module _ (d : List ℕ) (D : Clause d) where
     room = omega arith
 
     literal_starts : (from : ℕ) → used j s.chosen ≡ false
-        → run d (sequence_from (l ++ flatten ls) ended puts from n) (j ∷ js) s ≡ run d (sequence_from (l ++ flatten ls) (inside 0 []) puts (length puts) n) js (starting d s j)
+        → run d (sequence_from (l ++ flatten ls) ended puts from n) (j ∷ js) s
+        ≡ run d (sequence_from (l ++ flatten ls) (inside 0 []) puts (length puts) n) js (starting d s j)
     literal_starts from u = rw L.parts (rw sequence_first (run_first d _ s j js room u))
 
     -- it is not taken a second time
@@ -146,7 +147,8 @@ module _ (d : List ℕ) (D : Clause d) where
       literal_compares =
           goes_if_from (rw puts_vars at A.goes)
           (run_compares d _ js A.state A.cursor A.placed (puts ++ vars l) (poss ++ ps) (omega (arith, begins_next.put_room))
-          (λ i h. rw stored_more (filled_get (poss ++ ps) i (omega (arith, begins_next.put_room, begins_next.equal)) (omega (arith, begins_next.equal)))) (length puts))
+          (λ i h. rw stored_more (filled_get (poss ++ ps) i (omega (arith, begins_next.put_room, begins_next.equal)) (omega (arith, begins_next.equal))))
+          (length puts))
 
     -- it fits, and then the others, or it does not
     module _ (rest : Runs ls) (Ls : All IsLiteral ls) (Js : All (λ j. j < length (literals d)) js) (e : length ls ≡ length js) where
@@ -170,7 +172,8 @@ module _ (d : List ℕ) (D : Clause d) where
       literal_ends : (from : ℕ) → Ended d (l ∷ ls) (j ∷ js) puts poss s.chosen (run d (sequence_from (l ++ flatten ls) ended puts from n) (j ∷ js) s)
       literal_ends from = go (used j s.chosen) refl
         where
-          go : (b : Bool) → used j s.chosen ≡ b → Ended d (l ∷ ls) (j ∷ js) puts poss s.chosen (run d (sequence_from (l ++ flatten ls) ended puts from n) (j ∷ js) s)
+          go : (b : Bool) → used j s.chosen ≡ b
+              → Ended d (l ∷ ls) (j ∷ js) puts poss s.chosen (run d (sequence_from (l ++ flatten ls) ended puts from n) (j ∷ js) s)
           go true u = mismatch (λ F N. differ_used s.chosen j js u N) (literal_used from u)
           go false u = ended_from (literal_starts from u) (literal_goes u _ _ refl literal_reached)
 

@@ -49,4 +49,5 @@ filled_none ps k h g =
     let n : ℕ = k - length ps in
     let e : length (map {B = Option ℕ} some ps) + n ≡ k = rw length-map (omega arith) in
     let f : length ps + n ≡ k = omega arith in
-    rw (filled_is ps h, ← e) (get_or-append-add (map some ps) (drop (length ps) unfilled) n none ∙ get_or-drop (length ps) unfilled n none ∙ rw f (unfilled_get k))
+    rw (filled_is ps h, ← e)
+    (get_or-append-add (map some ps) (drop (length ps) unfilled) n none ∙ get_or-drop (length ps) unfilled n none ∙ rw f (unfilled_get k))

@@ -70,7 +70,8 @@ over_all N s i e h =
     rw (take_all i N (omega arith), z) (append-nil N)
 
 -- the Success is written last
-pub written : (cs s U : List ℕ) (n i : ℕ) → i ≡ length cs → length s ≡ length cs + 1 → U ≡ over (new_words cs n) s i → set U (length cs) (n * 2 ^ 28 + 1) ≡ new_words cs n
+pub written : (cs s U : List ℕ) (n i : ℕ) → i ≡ length cs → length s ≡ length cs + 1 → U ≡ over (new_words cs n) s i
+    → set U (length cs) (n * 2 ^ 28 + 1) ≡ new_words cs n
 written cs s U n i e h u =
     let N = new_words cs n in
     let l : length N ≡ length s = omega (arith, new_length cs n) in

@@ -53,7 +53,8 @@ begin_le w at from up h = go (eqb up (suc (extent_of w)))
     go true = h
     go false = omega arith
 
-found_here : (w : ℕ) (ws : List ℕ) (n at from up : ℕ) (s : Span) → n < first_key → from ≤ at → key_of w ≡ n → locate (w ∷ ws) n at from up ≡ some s → Found (w ∷ ws) at s
+found_here : (w : ℕ) (ws : List ℕ) (n at from up : ℕ) (s : Span) → n < first_key → from ≤ at → key_of w ≡ n → locate (w ∷ ws) n at from up ≡ some s
+    → Found (w ∷ ws) at s
 found_here w ws n at from up s l h q e =
     let one : leaf? (key_of w) ≡ 1 = leaf_number (key_of w) (omega arith) in
     let hit : some (record { place = begin w at from up; last = at }) ≡ some s = sym (locate_hit w ws n at from up q) ∙ e in

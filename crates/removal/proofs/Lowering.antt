@@ -28,7 +28,8 @@ module _ (W : List ℕ) (r : ℕ) (U : List ℕ) (p : ℕ) (L : Lowering W r U p
   pub lowering_word : get_or U p 0 ≡ get_or W p 0
   lowering_word =
       let z : p ≡ p + 0 = omega arith in
-      ap (λ (k : ℕ). get_or U k 0) z ∙ sym (get_or-drop p U 0 0) ∙ ap (λ (l : List ℕ). get_or l 0 0) L.rest ∙ get_or-drop p W 0 0 ∙ ap (λ (k : ℕ). get_or W k 0) (sym z)
+      ap (λ (k : ℕ). get_or U k 0) z ∙ sym (get_or-drop p U 0 0) ∙ ap (λ (l : List ℕ). get_or l 0 0) L.rest ∙ get_or-drop p W 0 0
+      ∙ ap (λ (k : ℕ). get_or W k 0) (sym z)
 
   -- the word at p becomes v, and the words after it stay
   stored : (v : ℕ) → v ≡ cond (ltb (length W - p) (extent_at U p)) (get_or U p 0 - r) (get_or U p 0) → Lowering W r (set U p v) (p + 1)

@@ -135,7 +135,8 @@ hit h ws n s l w e =
     }
 
 -- what is found is among them
-pub hit_order : (t : List ℕ) (n : ℕ) (s : Span) → n < first_key → well_laid t ≡ true → some s ≡ scan t n → (s.place ≤ s.last) × (s.last < used_of (get_or t 0 0))
+pub hit_order : (t : List ℕ) (n : ℕ) (s : Span) → n < first_key → well_laid t ≡ true → some s ≡ scan t n
+    → (s.place ≤ s.last) × (s.last < used_of (get_or t 0 0))
 hit_order [] n s l w e = apart cc
 hit_order (h ∷ ws) n s l w e = let f : Hit h ws n s = hit h ws n s l w e in (f.order, f.inside)
 

@@ -75,7 +75,8 @@ module _ (len : ℕ) (F : Forest) (f : WellFormed F) (room : size F < len) (high
         let next : size F + 1 + new ≡ suc (size F + new) = omega arith in
         let fits : ltb (length S) (used_of (get_or S 0 0) + 1 + new) ≡ false =
         rw (length_layout len F room, header_layout len F (omega arith)) (le-ltb len (size F + 1 + new) (omega (arith, larger))) in
-        let rest : drop (used_of (get_or S 0 0) + 1 + new) S ≡ drop (size F + new) (filled len F) = rw (header_layout len F (omega arith), next, laid_words len F) in
+        let rest : drop (used_of (get_or S 0 0) + 1 + new) S ≡ drop (size F + new) (filled len F) =
+        rw (header_layout len F (omega arith), next, laid_words len F) in
         rw fits
         (changes_to G Kept _ _ (rw (laid_words len F) (omega (arith, larger, ins_leaves e.keys e.number F b l)))
         (ap₂ ◌++◌ (ins_words e.keys F (omega arith) e.number) rest ∙ over_filled len new F G larger small))
@@ -126,7 +127,8 @@ module _ (len : ℕ) (F : Forest) (f : WellFormed F) (room : size F < len) (high
     remove_laid =
         rw (laid_words len F, used_layout len F (omega arith), take_layout len F (omega arith)) (rw (← laid_words len F) (go (find n F) refl))
       where
-        go : (o : Option (List ℕ)) → find n F ≡ o → remove_at header (filled len F) (locate (encode F) n 0 0 0) ≡ changed (layout len F) Removed (remove_from F n)
+        go : (o : Option (List ℕ)) → find n F ≡ o
+            → remove_at header (filled len F) (locate (encode F) n 0 0 0) ≡ changed (layout len F) Removed (remove_from F n)
         go (some cs) u = rw (u, remove_from) (remove_found cs u (closes n F l f (omega arith) cs u))
         go none u = rw (locate_none n F l f (omega arith) u) (rw (u, remove_from) (rw (laid_words len F)))
 
@@ -145,7 +147,8 @@ module _ (T : List ℕ) (s : sized T ≡ true) (w : well_laid T ≡ true) where
   insertion_words c n q e u l =
       let p : Pair = record { number = n; clause = c } in
       rw (s, e, w)
-      (sym (rw (← stands.words) at (insert_laid (length T) (decode T) stands.formed stands.room short (entry p) (plain_body (sequence_plain c (accepted c (q, e)) u)) l)))
+      (sym (rw (← stands.words) at
+      (insert_laid (length T) (decode T) stands.formed stands.room short (entry p) (plain_body (sequence_plain c (accepted c (q, e)) u)) l)))
 
   pub removal_words : (n : ℕ) → n < 2 ^ 32 → removal T n ≡ remove_by_words T n
   unfolding removal

@@ -46,7 +46,8 @@ module _ (n : ℕ) (l : n < first_key) where
   first_under i (e ∷ es) fs = go (eqb e.number n) (first_under i es fs)
     where
       go : (b : Bool) → first_with n (map (under i) es ++ fs) ≡ elim (first_with n es) [ some cs ↦ some (i ∷ cs) | none ↦ first_with n fs ]
-          → cond b (some (i ∷ e.keys)) (first_with n (map (under i) es ++ fs)) ≡ elim (cond b (some e.keys) (first_with n es)) [ some cs ↦ some (i ∷ cs) | none ↦ first_with n fs ]
+          → cond b (some (i ∷ e.keys)) (first_with n (map (under i) es ++ fs))
+          ≡ elim (cond b (some e.keys) (first_with n es)) [ some cs ↦ some (i ∷ cs) | none ↦ first_with n fs ]
       go true ih = refl
       go false ih = ih
 
@@ -62,7 +63,8 @@ module _ (n : ℕ) (l : n < first_key) where
       let ne : eqb i n ≡ false = ne_eqb i n (λ e. omega (arith, f.shape)) in
       let B : List Entry = paths_of (node j C S) in
       rw (ne, find, first_found 0 (node j C S) f.below)
-      (ap (λ (o : Option (List ℕ)). elim (first_with n B) [ some cs ↦ some (i ∷ cs) | none ↦ o ]) (first_found (next_key i) R f.rest) ∙ sym (first_under i B (paths_of R)))
+      (ap (λ (o : Option (List ℕ)). elim (first_with n B) [ some cs ↦ some (i ∷ cs) | none ↦ o ]) (first_found (next_key i) R f.rest)
+      ∙ sym (first_under i B (paths_of R)))
 
 module _ (F : Forest) (f : WellFormed F) where
   held : (cs : List ℕ) (m : ℕ) (o : Option ℕ) → Holding cs F o → (o ≡ some m) ↔ Has F cs m

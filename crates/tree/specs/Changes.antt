@@ -21,7 +21,8 @@ insert_into len F e =
       | some cs ↦ refuse NumberTaken
       | none ↦ elim (holder e.keys F) [
         | some m ↦ refuse (Held m)
-        | none ↦ cond (leb max_kept (leaves F)) (refuse ListFull) (cond (leb len (size (ins e.keys e.number F))) (refuse NoRoom) (change (ins e.keys e.number F)))
+        | none ↦ cond (leb max_kept (leaves F)) (refuse ListFull)
+            (cond (leb len (size (ins e.keys e.number F))) (refuse NoRoom) (change (ins e.keys e.number F)))
       ]
     ]
 

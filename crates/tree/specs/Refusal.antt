@@ -2,7 +2,8 @@
 use Rattle.std.specs.Prelude.{List, [], ◌∷◌, ℕ}
 use Rattle.clause.specs.declared.Fault.TheVariants.{BadLength, Bad, Ninth}
 use Rattle.tree.specs.declared.Refusal.{Refusal}
-use Rattle.tree.specs.declared.Refusal.TheVariants.{BadSlice, Broken, BadClause, ShortWitness, NumberTaken, Held, NoSuchNumber, ListFull, NoRoom, Spent, BadSize, NoSuchTree, ShortOutput, ShortList}
+use Rattle.tree.specs.declared.Refusal.TheVariants.{BadSlice, Broken, BadClause, ShortWitness, NumberTaken, Held, NoSuchNumber, ListFull, NoRoom}
+use Rattle.tree.specs.declared.Refusal.TheVariants.{Spent, BadSize, NoSuchTree, ShortOutput, ShortList}
 
 -- its code
 abbrev pub code_of : Refusal → ℕ

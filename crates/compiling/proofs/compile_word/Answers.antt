@@ -39,7 +39,8 @@ pub slice_bounds-compare_all-end-2 : goal.slice_bounds-compare_all-end-2
 unfolding arity
 slice_bounds-compare_all-end-2 c =
     let w = rw c.arity.ensures at c.onward-t.ensures in
-    sym (length-take-le c.act-count.result _ (count_fits c.requires.1 c.requires.0 c.open-a.ensures.0 c.open-a.ensures.1 c.act-count.ensures w c.act-count.auto.firsts))
+    sym (length-take-le c.act-count.result _
+    (count_fits c.requires.1 c.requires.0 c.open-a.ensures.0 c.open-a.ensures.1 c.act-count.ensures w c.act-count.auto.firsts))
 
 pub compare_all-end-requires : goal.compare_all-end-requires
 unfolding arity

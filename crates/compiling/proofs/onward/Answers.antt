@@ -21,7 +21,8 @@ bounds-keys-written-then-left-gt0 c = simp length-set (omega (arith, push_room c
 pub returns-then-left-gt0 : goal.returns-then-left-gt0
 returns-then-left-gt0 c =
     let a = c.args in
-    went_push a.arity a.s a.saved.now a.keys.now c.requires.0 c.requires.1 c.requires.2 c.requires.3 c.if-arity-gt0.true c.if-left-gt0.true (omega (arith, c.requires.5))
+    went_push a.arity a.s a.saved.now a.keys.now c.requires.0 c.requires.1 c.requires.2 c.requires.3 c.if-arity-gt0.true c.if-left-gt0.true
+    (omega (arith, c.requires.5))
 
 pub bounds-keys-written-then-arity-gt0 : goal.bounds-keys-written-then-arity-gt0
 bounds-keys-written-then-arity-gt0 c =

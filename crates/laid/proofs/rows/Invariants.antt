@@ -9,7 +9,8 @@ use Rattle.laid.proofs.rows.Given as goal
 
 abbrev pub invariant-loop-at : goal.invariant-loop-at
 invariant-loop-at l =
-    (l.at ≤ length l.words) × (l.found ≤ l.at) × ((rows l.words && eqb (successes l.words) l.kept) ≡ (rows (drop l.at l.words) && eqb (l.found + successes (drop l.at l.words)) l.kept))
+    (l.at ≤ length l.words) × (l.found ≤ l.at)
+    × ((rows l.words && eqb (successes l.words) l.kept) ≡ (rows (drop l.at l.words) && eqb (l.found + successes (drop l.at l.words)) l.kept))
 
 abbrev pub decreases-loop-at : goal.decreases-loop-at
 decreases-loop-at l = length l.words - l.at

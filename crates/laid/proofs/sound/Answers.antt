@@ -27,7 +27,8 @@ returns-then-k-ge-PUT c =
     let w = c.args.w in
     let small : key_of w < 9 * 2 ^ 32 = omega arith in
     let more : 4 * 2 ^ 32 ≤ key_of w = omega arith in
-    sym (sound_inner w (omega arith) (omega arith) ∙ rw (lt-ltb (key_of w) (9 * 2 ^ 32) small, le-ltb (key_of w) first_key (omega arith), le-leb (4 * 2 ^ 32) (key_of w) more))
+    sym (sound_inner w (omega arith) (omega arith)
+    ∙ rw (lt-ltb (key_of w) (9 * 2 ^ 32) small, le-ltb (key_of w) first_key (omega arith), le-leb (4 * 2 ^ 32) (key_of w) more))
 
 pub returns : goal.returns
 unfolding lawful
@@ -35,4 +36,5 @@ returns c =
     let w = c.args.w in
     let less : key_of w < 4 * 2 ^ 32 = omega arith in
     rw c.key-k.ensures
-    (sym (sound_inner w (omega arith) (omega arith) ∙ rw (lt-ltb (key_of w) (9 * 2 ^ 32) (omega arith), le-ltb (key_of w) first_key (omega arith), lt-leb (4 * 2 ^ 32) (key_of w) less)))
+    (sym (sound_inner w (omega arith) (omega arith)
+    ∙ rw (lt-ltb (key_of w) (9 * 2 ^ 32) (omega arith), le-ltb (key_of w) first_key (omega arith), lt-leb (4 * 2 ^ 32) (key_of w) less)))

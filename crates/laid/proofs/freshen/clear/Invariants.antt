@@ -6,7 +6,8 @@ use lib.ListN.{length, drop, replicate}
 use Rattle.laid.proofs.freshen.clear.Given as goal
 
 abbrev pub invariant-loop-i : goal.invariant-loop-i
-invariant-loop-i l = (length l.words ≡ length l.initial.words) × (l.i-end ≡ length l.initial.words) × (l.i ≤ length l.initial.words) × (l.words ≡ replicate l.i 0 ++ drop l.i l.initial.words)
+invariant-loop-i l = (length l.words ≡ length l.initial.words) × (l.i-end ≡ length l.initial.words) × (l.i ≤ length l.initial.words)
+    × (l.words ≡ replicate l.i 0 ++ drop l.i l.initial.words)
 
 abbrev pub decreases-loop-i : goal.decreases-loop-i
 decreases-loop-i l = length l.initial.words - l.i

@@ -48,7 +48,8 @@ loop-at-preserved c =
       | else-need-eq0+else-not-is_inside w ↦ (
         omega arith,
         omega arith,
-        e ∙ counted_inside _ _ c.loop-at-test.true _ _ _ w.if-need-eq0.false (sym w.is_inside.ensures ∙ w.if-not-is_inside.false) ∙ rw (w.need-is, w.count-is, a),
+        e ∙ counted_inside _ _ c.loop-at-test.true _ _ _ w.if-need-eq0.false (sym w.is_inside.ensures ∙ w.if-not-is_inside.false)
+            ∙ rw (w.need-is, w.count-is, a),
       )
     ]
 
