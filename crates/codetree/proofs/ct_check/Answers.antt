@@ -9,4 +9,8 @@ use Rattle.codetree.proofs.ct_check.Goals as goal
 
 pub returns : goal.returns
 unfolding ct_check
-returns c = (c.hand_check.ensures ∙ ap (λ a. number_of (said_check a).title) c.check.ensures, (ct_checked, ct_reads_book, ct_saved_is_made))
+returns c =
+    record {
+      hands = c.hand_check.ensures ∙ ap (λ a. number_of (said_check a).title) c.check.ensures;
+      saved = (ct_checked, ct_reads_book, ct_saved_is_made);
+    }

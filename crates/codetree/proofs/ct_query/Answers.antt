@@ -10,7 +10,10 @@ use Rattle.codetree.proofs.ct_query.Goals as goal
 
 pub returns : goal.returns
 unfolding ct_query
-returns c = (
-  hands c.args.told.now (ap asked c.query.ensures) c.hand_query.ensures,
-  ((ct_reach, ct_demand2, ct_demand3), (ct_exact_count, told_apart)),
-)
+returns c =
+    record {
+      hands = hands c.args.told.now (ap asked c.query.ensures) c.hand_query.ensures;
+      lists = (ct_reach, ct_demand2, ct_demand3);
+      count = ct_exact_count;
+      apart = told_apart;
+    }
