@@ -18,7 +18,6 @@ word-requires c = (omega (arith, body_small c.args.keys.now c.requires.0.body c.
 pub loop-i-preserved : goal.loop-i-preserved
 loop-i-preserved c =
     let l = c.loop-i in
-    let s = c.before.before.before.before.before.before in
     let a = c.args in
     let N = new_words a.keys.now a.number in
     let m : length N ≡ length a.words.now = omega (arith, new_length a.keys.now a.number, c.requires.1) in (
