@@ -229,20 +229,6 @@ nothing_over (suc (suc (suc (suc (suc (suc (suc zero))))))) x h = absurd (omega 
 nothing_over (suc (suc (suc (suc (suc (suc (suc (suc zero)))))))) x h = absurd (omega arith)
 nothing_over (suc (suc (suc (suc (suc (suc (suc (suc (suc op))))))))) x h = refl
 
--- an operation that is none of 0 to 8
-pub rest_over : (op : ℕ) → (op ≡ 0 → ⊥) → (op ≡ 1 → ⊥) → (op ≡ 2 → ⊥) → (op ≡ 3 → ⊥) → (op ≡ 4 → ⊥)
-    → (op ≡ 5 → ⊥) → (op ≡ 6 → ⊥) → (op ≡ 7 → ⊥) → (op ≡ 8 → ⊥) → 9 ≤ op
-rest_over zero n0 n1 n2 n3 n4 n5 n6 n7 n8 = absurd (n0 refl)
-rest_over (suc zero) n0 n1 n2 n3 n4 n5 n6 n7 n8 = absurd (n1 refl)
-rest_over (suc (suc zero)) n0 n1 n2 n3 n4 n5 n6 n7 n8 = absurd (n2 refl)
-rest_over (suc (suc (suc zero))) n0 n1 n2 n3 n4 n5 n6 n7 n8 = absurd (n3 refl)
-rest_over (suc (suc (suc (suc zero)))) n0 n1 n2 n3 n4 n5 n6 n7 n8 = absurd (n4 refl)
-rest_over (suc (suc (suc (suc (suc zero))))) n0 n1 n2 n3 n4 n5 n6 n7 n8 = absurd (n5 refl)
-rest_over (suc (suc (suc (suc (suc (suc zero)))))) n0 n1 n2 n3 n4 n5 n6 n7 n8 = absurd (n6 refl)
-rest_over (suc (suc (suc (suc (suc (suc (suc zero))))))) n0 n1 n2 n3 n4 n5 n6 n7 n8 = absurd (n7 refl)
-rest_over (suc (suc (suc (suc (suc (suc (suc (suc zero)))))))) n0 n1 n2 n3 n4 n5 n6 n7 n8 = absurd (n8 refl)
-rest_over (suc (suc (suc (suc (suc (suc (suc (suc (suc op))))))))) n0 n1 n2 n3 n4 n5 n6 n7 n8 = omega arith
-
 -- First is the instruction of operation 1 alone
 first_op : (op x : ℕ) → instruction op x ≡ some First → op ≡ 1
 unfolding instruction

@@ -22,7 +22,6 @@ use Rattle.clause.proofs.Lists.{all_append, all_take, all_replicate, all_mem, al
 use Rattle.clause.proofs.Literals.{Clause, accepted, some_literal}
 use Rattle.machine.proofs.Agree.{agree_get, agree_length}
 use Rattle.machine.proofs.Table.{filled_get, filled_none}
-use Rattle.machine.proofs.Fits.{chosen}
 use Rattle.machine.proofs.Matching.{Result, covers, misses, made_at, runs, subsumes_matched}
 use Rattle.machine.proofs.Codes.{firsts as firsts_of, sequence_plain, sequence_firsts, sequence_begins}
 use Rattle.machine.proofs.Effects.{fails≢next, stuck≢next, fails≢stuck}

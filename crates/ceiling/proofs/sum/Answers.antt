@@ -1,6 +1,5 @@
 -- `sum` meets its contract: what it reads is the table's entry for q and m.
 use mathlib.Core.Path.{◌≡◌, ◌∙◌}
-use borrow.Author.Rules.{rules}
 use Rattle.ceiling.specs.Table.{entry}
 use Rattle.ceiling.proofs.Table.{last_entry}
 use Rattle.ceiling.proofs.sum.Goals as goal

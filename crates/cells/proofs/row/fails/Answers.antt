@@ -1,5 +1,5 @@
 -- `fails` meets its contract.
-use Rattle.std.proofs.Common.{rules, ltb-true}
+use Rattle.std.proofs.Common.{ltb-true}
 use Rattle.cells.proofs.Unlike.{unlike}
 use Rattle.cells.proofs.row.fails.Goals as goal
 

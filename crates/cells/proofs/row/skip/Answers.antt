@@ -1,7 +1,5 @@
--- `skip` meets its contract. The loop's invariant: only Checks that fail stand between the place where it began and the latest word, and before the
--- next word too, unless the latest is too long for the row.
-use Rattle.std.proofs.Common.{◌≡◌, ◌-◌, ◌≤◌, length, arith, rules}
-use Rattle.cells.specs.Inner.Cells.{Skipped}
+-- `skip` meets its contract.
+use Rattle.std.proofs.Common.{◌≡◌, ◌-◌, length, arith}
 use Rattle.cells.proofs.Rows.{skipped_none, skipped_more, skipped_left}
 use Rattle.cells.proofs.row.skip.Goals as goal
 

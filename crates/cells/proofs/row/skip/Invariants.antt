@@ -1,8 +1,6 @@
--- `skip` meets its contract. The loop's invariant: only Checks that fail stand between the place where it began and the latest word, and before the
-use Rattle.std.proofs.Common.{◌≡◌, ◌-◌, ◌≤◌, length, arith, rules}
-use borrow.Author.Tests.{not-false}
+-- `skip`: only Checks that fail stand between the place where it began and the latest word, and before the next too, unless the latest is too long.
+use Rattle.std.proofs.Common.{◌-◌, ◌≤◌, length}
 use Rattle.cells.specs.Inner.Cells.{Skipped}
-use Rattle.cells.proofs.Rows.{skipped_none, skipped_more, skipped_left}
 use Rattle.cells.proofs.row.skip.Given as goal
 
 abbrev pub invariant-loop-to : goal.invariant-loop-to

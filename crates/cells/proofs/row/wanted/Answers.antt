@@ -1,5 +1,5 @@
 -- `wanted` meets its contract.
-use Rattle.std.proofs.Common.{refl, arith, rules}
+use Rattle.std.proofs.Common.{refl, arith}
 use Rattle.cells.specs.Inner.Cells.{wanted_at}
 use Rattle.cells.proofs.row.wanted.Goals as goal
 

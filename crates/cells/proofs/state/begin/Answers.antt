@@ -1,5 +1,5 @@
 -- `begin` meets its contract.
-use Rattle.std.proofs.Common.{◌∙◌, arith, rules}
+use Rattle.std.proofs.Common.{◌∙◌, arith}
 use Rattle.clause.proofs.Literals.{accepted}
 use Rattle.cells.specs.Inner.Cells.{candidate, pass_head}
 use Rattle.cells.proofs.state.begin.Goals as goal

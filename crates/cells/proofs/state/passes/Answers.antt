@@ -1,5 +1,4 @@
 -- `passes` meets its contract.
-use Rattle.std.proofs.Common.{rules}
 use Rattle.cells.specs.Inner.Cells.{passes_of}
 use Rattle.cells.proofs.state.passes.Goals as goal
 

@@ -1,5 +1,5 @@
 -- `release` meets its contract.
-use Rattle.std.proofs.Common.{refl, arith, rules}
+use Rattle.std.proofs.Common.{refl, arith}
 use Rattle.cells.specs.Inner.Cells.{released}
 use Rattle.cells.proofs.state.release.Goals as goal
 

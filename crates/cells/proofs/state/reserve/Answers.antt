@@ -1,5 +1,5 @@
 -- `reserve` meets its contract.
-use Rattle.std.proofs.Common.{◌≡◌, ◌+◌, ◌*◌, ◌/◌, ◌%◌, ◌∙◌, arith, get_or-set_other, rules}
+use Rattle.std.proofs.Common.{◌≡◌, ◌+◌, ◌*◌, ◌/◌, ◌%◌, ◌∙◌, arith, get_or-set_other}
 use Rattle.cells.specs.Inner.Cells.{count_at, use_limit, count_in, reserved, kept_in, uses_of, saved_byte}
 use Rattle.cells.proofs.Bits.{taken_low}
 use Rattle.cells.proofs.state.reserve.Goals as goal

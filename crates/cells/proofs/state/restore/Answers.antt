@@ -1,5 +1,5 @@
 -- `restore` meets its contract.
-use Rattle.std.proofs.Common.{rules, eq-eqb, ne_eqb}
+use Rattle.std.proofs.Common.{eq-eqb, ne_eqb}
 use Rattle.cells.specs.Inner.Cells.{restored}
 use Rattle.cells.proofs.state.restore.Goals as goal
 

@@ -1,7 +1,6 @@
 -- `unwind` meets its contract. The loop's invariant: storing back what is left on the trail gives what storing back the whole trail gave.
-use Rattle.std.proofs.Common.{◌≡◌, ◌^◌, ◌<◌, length, sym, refl, ap, ◌∙◌, arith}
+use Rattle.std.proofs.Common.{◌≡◌, ◌^◌, ◌<◌, length}
 use Rattle.cells.specs.Inner.Cells.{cell_count, unwound}
-use Rattle.cells.proofs.Places.{restored_size, unwound_none, unwound_next}
 use Rattle.cells.proofs.state.unwind.Given as goal
 
 abbrev pub invariant-loop-left : goal.invariant-loop-left

@@ -1,10 +1,6 @@
 -- `used` meets its contract.
-use Rattle.std.proofs.Common.{◌≡◌, ◌-◌, ◌<◌, ◌≤◌, get_or, take, drop, ◌∙◌, arith, rules}
-use Rattle.clause.specs.Clause.{max_literals}
-use Rattle.cells.specs.Inner.Cells.{count_in, bits_of}
+use Rattle.std.proofs.Common.{◌≡◌, ◌∙◌, arith}
 use Rattle.cells.proofs.Bits.{bits_none, bits_more, candidate_small}
-use Rattle.cells.proofs.state.used.Reads as reads
-use Rattle.cells.proofs.state.used.Lts as lts
 use Rattle.cells.proofs.state.used.Goals as goal
 
 pub loop-i-init : goal.loop-i-init
@@ -26,7 +22,8 @@ overflow_shl-bits c =
 
 pub loop-i-preserved : goal.loop-i-preserved
 loop-i-preserved c =
-    (omega (arith, c.loop-i.invariant.0), bits_more c.args.cells.now c.requires.0 c.requires.1 c.loop-i.i c.loop-i-test.true c.loop-i.invariant.0 c.loop-i.invariant.1)
+    let v = c.loop-i.invariant in
+    (omega (arith, v.0), bits_more c.args.cells.now c.requires.0 c.requires.1 c.loop-i.i c.loop-i-test.true v.0 v.1)
 
 pub returns : goal.returns
 returns c = let z : c.loop-i.i ≡ 0 = omega arith in c.loop-i.invariant.1 ∙ rw z

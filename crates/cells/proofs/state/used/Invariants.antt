@@ -1,10 +1,6 @@
 -- `used` meets its contract.
-use Rattle.std.proofs.Common.{◌≡◌, ◌-◌, ◌<◌, ◌≤◌, get_or, take, drop, ◌∙◌, arith, rules}
-use Rattle.clause.specs.Clause.{max_literals}
+use Rattle.std.proofs.Common.{◌≡◌, ◌≤◌, take, drop}
 use Rattle.cells.specs.Inner.Cells.{count_in, bits_of}
-use Rattle.cells.proofs.Bits.{bits_none, bits_more, candidate_small}
-use Rattle.cells.proofs.state.used.Reads as reads
-use Rattle.cells.proofs.state.used.Lts as lts
 use Rattle.cells.proofs.state.used.Given as goal
 
 abbrev pub invariant-loop-i : goal.invariant-loop-i

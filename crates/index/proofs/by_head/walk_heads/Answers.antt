@@ -16,7 +16,8 @@ use Rattle.walking.specs.declared.End.TheVariants.{Missed}
 use Rattle.walking.specs.declared.Finding.{Finding}
 use Rattle.walking.specs.Inner.Findings.{walk_below, walk_top, Walked}
 use Rattle.walking.proofs.Passes.{missed_of, walked_missed}
-use Rattle.walking.proofs.Turns.{walkable_literals, Entry, Between, Begun, entry_start, between_size, between_room, between_literal, between_ends, between_spent, by_bit}
+use Rattle.walking.proofs.Turns.{walkable_literals, Entry, Between, Begun, entry_start, by_bit}
+use Rattle.walking.proofs.Turns.{between_size, between_room, between_literal, between_ends, between_spent}
 use Rattle.walking.proofs.Turns.{begun_ready, pass_missed, pass_ends}
 use Rattle.index.proofs.ByHead.{walked_top, top_none, none_used}
 use Rattle.index.proofs.by_head.walk_heads.Goals as goal

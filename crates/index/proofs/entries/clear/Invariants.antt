@@ -11,7 +11,9 @@ use Rattle.index.specs.Inner.Heads.{entry_count}
 use Rattle.index.proofs.entries.clear.Given as goal
 
 abbrev pub invariant-loop-i : goal.invariant-loop-i
-invariant-loop-i l = (length l.heads ≡ length l.initial.heads) × (l.i-end ≡ length l.initial.heads) × (l.i ≤ length l.initial.heads) × (l.heads ≡ replicate l.i 0 ++ drop l.i l.initial.heads)
+invariant-loop-i l =
+    (length l.heads ≡ length l.initial.heads) × (l.i-end ≡ length l.initial.heads)
+    × (l.i ≤ length l.initial.heads) × (l.heads ≡ replicate l.i 0 ++ drop l.i l.initial.heads)
 
 abbrev pub decreases-loop-i : goal.decreases-loop-i
 decreases-loop-i l = length l.initial.heads - l.i

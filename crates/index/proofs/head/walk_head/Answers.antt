@@ -51,7 +51,8 @@ returns-then-at-eq0 c =
     let R = row_of a.words.now c.requires.0 c.requires.1.tree c.requires.4 in
     let w : get_or a.query.now a.here 0 < entry_count = omega (arith, c.type_inv.query a.here) in
     walked_missed
-    (head_missed a.words.now c.requires.0 a.query.now (up_to a.budget) (state_of a.here a.cells.now) a.here (head_some a.query.now a.tables.now a.here a.cells.now c.requires.2 c.requires.3) R.1 a.count
+    (head_missed a.words.now c.requires.0 a.query.now (up_to a.budget) (state_of a.here a.cells.now) a.here
+    (head_some a.query.now a.tables.now a.here a.cells.now c.requires.2 c.requires.3) R.1 a.count
     (sym (entry_place c.requires.1 R.1 (get_or a.query.now a.here 0) w) ∙ c.if-at-eq0.true))
     refl
 

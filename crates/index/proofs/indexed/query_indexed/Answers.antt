@@ -44,4 +44,5 @@ pub returns : goal.returns
 returns c =
     let whole = whole_accepted c.args.words.now c.is_whole.ensures c.if-not-is_whole.false in
     let a = c.args in
-    decided a.tree.now a.words.now a.budget c.requires.0 c.requires.1 whole (ap (λ (u : ℕ). u + 1) c.used-end.ensures) c.walk_heads-finding.ensures.comes (c.told.ensures _ _)
+    decided a.tree.now a.words.now a.budget c.requires.0 c.requires.1 whole (ap (λ (u : ℕ). u + 1) c.used-end.ensures)
+    c.walk_heads-finding.ensures.comes (c.told.ensures _ _)

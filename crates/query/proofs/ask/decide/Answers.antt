@@ -23,4 +23,5 @@ walk_top-finding-requires c = fresh_ready c.requires.2 (clause_read c.args.words
 pub returns : goal.returns
 returns c =
     let a = c.args in
-    decided a.tree.now a.words.now a.budget c.requires.0 c.requires.1 c.requires.2 (ap (λ (u : ℕ). u + 1) c.used-end.ensures) c.walk_top-finding.ensures.comes (c.told.ensures _ _)
+    decided a.tree.now a.words.now a.budget c.requires.0 c.requires.1 c.requires.2 (ap (λ (u : ℕ). u + 1) c.used-end.ensures)
+    c.walk_top-finding.ensures.comes (c.told.ensures _ _)

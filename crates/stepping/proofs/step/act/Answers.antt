@@ -3,8 +3,8 @@ use mathlib.Core.Path.{sym}
 use Prim.Native.Nat.{◌≤◌}
 use native.Mathlib.Omega.{arith}
 use Rattle.cells.proofs.Places.{few_words}
-use Rattle.stepping.proofs.Visits.{sticks, sized_other, act_success, act_first, act_down, act_right, act_put, act_push, act_pop, act_check, act_compare, act_over}
-use borrow.Author.Rules.{rules}
+use Rattle.stepping.proofs.Visits.{sticks, sized_other, act_success, act_first}
+use Rattle.stepping.proofs.Visits.{act_down, act_right, act_put, act_push, act_pop, act_check, act_compare, act_over}
 use Rattle.stepping.proofs.step.act.Goals as goal
 
 pub down-requires : goal.down-requires

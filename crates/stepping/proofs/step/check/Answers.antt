@@ -1,7 +1,6 @@
 -- `check` meets its contract.
 use mathlib.Core.Path.{refl, sym, ◌∙◌}
 use Rattle.stepping.proofs.Visits.{stays, misses, check_same, check_other}
-use borrow.Author.Rules.{rules}
 use Rattle.stepping.proofs.step.check.Goals as goal
 
 pub returns-then-word-x : goal.returns-then-word-x

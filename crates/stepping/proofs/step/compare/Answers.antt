@@ -3,7 +3,6 @@ use mathlib.Core.Path.{refl, sym, ◌∙◌}
 use Rattle.cells.proofs.Places.{few_words}
 use Rattle.stepping.proofs.Visits.{stays, sticks, misses, compare_over_m, compare_over_k, compare_no_m, compare_no_k}
 use Rattle.stepping.proofs.Visits.{compare_same, compare_other, put_inside_m, put_inside_k}
-use borrow.Author.Rules.{rules}
 use Rattle.stepping.proofs.step.compare.Goals as goal
 
 pub returns-then-m-ge-SLOTS : goal.returns-then-m-ge-SLOTS
@@ -33,10 +32,12 @@ same_terms-requires c =
 
 pub returns-then-same_terms : goal.returns-then-same_terms
 returns-then-same_terms c =
-    stays _ _ _ refl (compare_same _ _ _ _ c.requires _ _ c.if-m-ge-SLOTS.false c.if-k-ge-SLOTS.false c.wide-p.ensures.0 c.if-p-eq-NONE.false c.wide-q.ensures.0
+    stays _ _ _ refl (compare_same _ _ _ _ c.requires _ _ c.if-m-ge-SLOTS.false c.if-k-ge-SLOTS.false
+    c.wide-p.ensures.0 c.if-p-eq-NONE.false c.wide-q.ensures.0
     c.if-q-eq-NONE.false (sym c.same_terms.ensures ∙ c.if-same_terms.true))
 
 pub returns-else-same_terms : goal.returns-else-same_terms
 returns-else-same_terms c =
-    misses _ (compare_other _ _ _ _ c.requires _ _ c.if-m-ge-SLOTS.false c.if-k-ge-SLOTS.false c.wide-p.ensures.0 c.if-p-eq-NONE.false c.wide-q.ensures.0 c.if-q-eq-NONE.false
+    misses _ (compare_other _ _ _ _ c.requires _ _ c.if-m-ge-SLOTS.false c.if-k-ge-SLOTS.false
+    c.wide-p.ensures.0 c.if-p-eq-NONE.false c.wide-q.ensures.0 c.if-q-eq-NONE.false
     (sym c.same_terms.ensures ∙ c.if-same_terms.false))

@@ -2,7 +2,6 @@
 use mathlib.Core.Path.{refl}
 use Rattle.clause.specs.Word.{arity}
 use Rattle.stepping.proofs.Visits.{stays, sticks, down_stuck, down_below}
-use borrow.Author.Rules.{rules}
 use Rattle.stepping.proofs.step.down.Goals as goal
 
 pub returns-then-query-head-eq0 : goal.returns-then-query-head-eq0

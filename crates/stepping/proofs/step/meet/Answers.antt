@@ -4,7 +4,6 @@ use native.Mathlib.Omega.{arith}
 use Rattle.stepping.specs.Inner.Visits.{met_of}
 use Rattle.cells.proofs.Rows.{extends_zero, extends_long}
 use Rattle.stepping.proofs.Visits.{sticks, met_unfit, met_sized}
-use borrow.Author.Rules.{rules}
 use Rattle.stepping.proofs.step.meet.Goals as goal
 
 pub returns-then-words-eq0 : goal.returns-then-words-eq0

@@ -7,7 +7,6 @@ use Rattle.cells.specs.Inner.Cells.{no_position}
 use Rattle.cells.proofs.Places.{place_none}
 use Rattle.cells.proofs.Rows.{extends_zero, extends_long, extends_in}
 use Rattle.stepping.proofs.Visits.{sticks, met_unfit, met_early, met_tries}
-use borrow.Author.Rules.{rules}
 use Rattle.stepping.proofs.step.meet_top.Goals as goal
 
 pub returns-then-words-eq0 : goal.returns-then-words-eq0

@@ -1,6 +1,5 @@
 -- `pop` meets its contract.
 use Rattle.stepping.proofs.Visits.{sticks, over, pop_visit}
-use borrow.Author.Rules.{rules}
 use Rattle.stepping.proofs.step.pop.Goals as goal
 
 pub returns-then-n-ge-SLOTS : goal.returns-then-n-ge-SLOTS

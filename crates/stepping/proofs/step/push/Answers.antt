@@ -1,7 +1,6 @@
 -- `push` meets its contract.
 use Rattle.cells.specs.Inner.Cells.{state_of}
 use Rattle.stepping.proofs.Visits.{sticks, over, push_none, push_visit}
-use borrow.Author.Rules.{rules}
 use Rattle.stepping.proofs.step.push.Goals as goal
 
 pub returns-then-n-ge-SLOTS : goal.returns-then-n-ge-SLOTS

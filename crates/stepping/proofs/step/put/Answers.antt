@@ -1,6 +1,5 @@
 -- `put` meets its contract.
 use Rattle.stepping.proofs.Visits.{sticks, over, put_visit}
-use borrow.Author.Rules.{rules}
 use Rattle.stepping.proofs.step.put.Goals as goal
 
 pub returns-then-k-ge-SLOTS : goal.returns-then-k-ge-SLOTS

@@ -2,7 +2,6 @@
 use native.Mathlib.Omega.{arith}
 use Rattle.cells.proofs.Places.{few_words}
 use Rattle.stepping.proofs.Visits.{right_none, right_some}
-use borrow.Author.Rules.{rules}
 use Rattle.stepping.proofs.step.right.Goals as goal
 
 pub bounds-tables-siblings : goal.bounds-tables-siblings

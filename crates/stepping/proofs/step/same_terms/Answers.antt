@@ -3,7 +3,6 @@ use Rattle.machine.specs.Machine.{same_terms}
 use Rattle.clause.specs.Lists.{alike}
 use mathlib.Core.Path.{ap₂, ◌∙◌}
 use Rattle.stepping.proofs.Visits.{part_start, part_end, part_term}
-use borrow.Author.Rules.{rules}
 use Rattle.stepping.proofs.step.same_terms.Goals as goal
 
 pub slice_bounds-same-count : goal.slice_bounds-same-count

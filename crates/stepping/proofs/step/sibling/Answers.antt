@@ -3,7 +3,6 @@ use mathlib.Core.Path.{refl}
 use native.Mathlib.Omega.{arith}
 use Rattle.cells.proofs.Places.{few_words}
 use Rattle.stepping.proofs.Visits.{stays, sticks, right_stuck, right_below}
-use borrow.Author.Rules.{rules}
 use Rattle.stepping.proofs.step.sibling.Goals as goal
 
 pub bounds-tables-siblings : goal.bounds-tables-siblings

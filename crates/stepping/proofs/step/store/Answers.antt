@@ -1,7 +1,6 @@
 -- `store` meets its contract.
 use native.Mathlib.Omega.{arith}
 use mathlib.Core.Path.{refl}
-use borrow.Author.Rules.{rules}
 use Rattle.stepping.proofs.step.store.Goals as goal
 
 pub returns : goal.returns

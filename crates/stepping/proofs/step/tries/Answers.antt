@@ -7,7 +7,6 @@ use Rattle.clause.specs.Clause.{max_literals}
 use Rattle.cells.specs.Inner.Cells.{count_in}
 use Rattle.stepping.specs.Inner.Visits.{met_of}
 use Rattle.stepping.proofs.Visits.{stays, sticks}
-use borrow.Author.Rules.{rules}
 use Rattle.stepping.proofs.step.tries.Goals as goal
 
 pub returns-then-wide-lt-LITERALS : goal.returns-then-wide-lt-LITERALS

@@ -3,7 +3,7 @@ use mathlib.Core.Path.{◌≡◌, sym, ◌∙◌}
 use mathlib.Core.Logic.{◌⊎◌, inl, inr}
 use mathlib.Core.List.{List}
 use mathlib.Core.Bool.{false}
-use Prim.Native.Nat.{ℕ, ◌+◌, ◌%◌, ◌≤◌, ◌<◌}
+use Prim.Native.Nat.{ℕ, ◌+◌, ◌%◌, ◌<◌}
 use native.Mathlib.Omega.{arith}
 use lib.ListN.{length, get_or, length-take, length-drop}
 use Rattle.machine.specs.Machine.{State}
@@ -17,8 +17,9 @@ use Rattle.stepping.specs.Inner.Visits.{meeting, Visited}
 use Rattle.stepping.specs.declared.Visit.{Visit}
 use Rattle.stepping.specs.declared.Go.TheVariants.{Tries}
 use Rattle.walking.specs.declared.End.TheVariants.{Missed}
-use Rattle.walking.proofs.Walking.{Walking, Meeting, Lower, tail_less, walking_start, walking_end, met_size, met_back, undo_small}
-use Rattle.walking.proofs.Walking.{node_stuck, node_hit, node_fails, node_plain, node_last, node_inside, node_ends, node_missed, fits_fails, call_fits, call_ready}
+use Rattle.walking.proofs.Walking.{Walking, Meeting, Lower, tail_less, walking_start, walking_end, met_size}
+use Rattle.walking.proofs.Walking.{node_stuck, node_hit, node_fails, node_plain, node_last, node_inside}
+use Rattle.walking.proofs.Walking.{node_ends, node_missed, fits_fails, call_fits, call_ready}
 use Rattle.walking.proofs.Turns.{small, walkable_literals, Entry, Between, Begun, first_few, entry_start}
 use Rattle.walking.proofs.Turns.{between_size, between_room, between_literal, between_over, between_ends, between_spent}
 use Rattle.walking.proofs.Turns.{begun_ready, pass_missed, pass_broken, pass_found, pass_ends}

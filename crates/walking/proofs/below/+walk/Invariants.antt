@@ -1,5 +1,5 @@
 -- `walk`: over the passes the invariant is `Between`, along a row `Walking`; the words below a node are fewer.
-use Rattle.std.proofs.Common.{ℕ, ◌-◌, ◌<◌, length}
+use Rattle.std.proofs.Common.{◌-◌, ◌<◌, length}
 use Rattle.cells.specs.Inner.Cells.{state_of}
 use Rattle.walking.proofs.Walking.{Walking}
 use Rattle.walking.proofs.Turns.{Between}
