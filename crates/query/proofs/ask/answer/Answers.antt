@@ -1,6 +1,6 @@
 -- `answer` meets its contract: where a clause is found the witness is shown, else it stays.
 use mathlib.Core.Path.{◌≡◌, refl, ap, ◌∙◌}
-use mathlib.Core.List.{List, [], ◌∷◌}
+use mathlib.Core.List.{List}
 use Prim.Native.Nat.{ℕ}
 use Rattle.cells.specs.Inner.Cells.{no_position, state_of}
 use Rattle.walk.specs.Query.{shown, with_shown}
@@ -9,7 +9,6 @@ use Rattle.walking.specs.declared.End.{End}
 use Rattle.walking.specs.declared.End.TheVariants.{Missed, Found, Broken, Spent}
 use Rattle.walking.specs.Inner.Findings.{out_by}
 use Rattle.query.specs.Inner.Telling.{told_out}
-use borrow.Author.Rules.{rules}
 use Rattle.query.proofs.ask.answer.Goals as goal
 
 -- the witness stays where no clause is found

@@ -5,7 +5,6 @@ use Rattle.query.proofs.Asking.{fresh_ready, decided}
 use Rattle.query.proofs.Packed.{clause_read}
 use native.Mathlib.Omega.{arith}
 use Rattle.tree.proofs.Grow.{sized_low, sized_high, laid_room}
-use borrow.Author.Rules.{rules}
 use Rattle.query.proofs.ask.decide.Goals as goal
 
 pub bounds-tree-0 : goal.bounds-tree-0

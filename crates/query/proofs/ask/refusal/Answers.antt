@@ -1,7 +1,6 @@
 -- `refusal` meets its contract.
 use mathlib.Core.Path.{sym, ap}
 use Rattle.query.specs.Inner.Telling.{refusal_of}
-use borrow.Author.Rules.{rules}
 use Rattle.query.proofs.ask.refusal.Goals as goal
 
 pub returns-in-Faulty : goal.returns-in-Faulty

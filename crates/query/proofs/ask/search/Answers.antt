@@ -4,7 +4,6 @@ use Prim.Native.Nat.{ℕ, ◌+◌}
 use Rattle.query.specs.Inner.Telling.{told_out}
 use Rattle.query.proofs.Asking.{fresh_ready, searched}
 use Rattle.query.proofs.Packed.{clause_read}
-use borrow.Author.Rules.{rules}
 use Rattle.query.proofs.ask.search.Goals as goal
 
 pub walk_top-finding-requires : goal.walk_top-finding-requires

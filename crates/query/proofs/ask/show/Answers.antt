@@ -5,9 +5,9 @@ use mathlib.Core.List.{List}
 use lib.ListN.{length, get_or, take}
 use Rattle.query.proofs.Showing.{shown_all, show_one, show_none}
 use borrow.Author.Rules.{rules}
-use Prim.Native.Nat.{ℕ, ◌+◌, ◌≤◌, ◌-◌}
+use Prim.Native.Nat.{ℕ, ◌+◌}
 use Rattle.cells.specs.Inner.Cells.{no_position, state_of}
-use Rattle.walk.specs.Query.{witness_words, shown, with_shown}
+use Rattle.walk.specs.Query.{shown, with_shown}
 use Rattle.query.proofs.ask.show.Goals as goal
 use Rattle.query.proofs.ask.show.Goals.{then-shows, else-shows}
 

@@ -1,12 +1,7 @@
 -- `show` meets its contract. The invariant: the first i words to show are written.
-use Rattle.walk.proofs.Witnessed.{length_with_shown}
-use mathlib.Core.Path.{◌≡◌, refl, ap, ◌∙◌}
-use mathlib.Core.List.{List}
-use lib.ListN.{length, get_or, take}
-use Rattle.query.proofs.Showing.{shown_all, show_one, show_none}
-use mathlib.Core.Logic.{⊎_elim}
-use borrow.Author.Rules.{rules}
-use Prim.Native.Nat.{ℕ, ◌+◌, ◌≤◌, ◌-◌}
+use mathlib.Core.Path.{◌≡◌}
+use lib.ListN.{length, take}
+use Prim.Native.Nat.{◌≤◌, ◌-◌}
 use Rattle.cells.specs.Inner.Cells.{no_position, state_of}
 use Rattle.walk.specs.Query.{witness_words, shown, with_shown}
 use Rattle.query.proofs.ask.show.Given as goal

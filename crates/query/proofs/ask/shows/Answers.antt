@@ -1,5 +1,4 @@
 -- `shows` meets its contract.
-use borrow.Author.Rules.{rules}
 use Rattle.query.proofs.Showing.{shows_front, shows_back}
 use Rattle.query.proofs.ask.shows.Goals as goal
 

@@ -3,7 +3,6 @@ use mathlib.Core.Path.{sym, ap}
 use Rattle.walking.specs.declared.End.{End}
 use Rattle.walking.specs.Inner.Findings.{out_by}
 use Rattle.query.specs.Inner.Telling.{told_out}
-use borrow.Author.Rules.{rules}
 use Rattle.query.proofs.ask.told.Goals as goal
 
 pub returns-in-Missed : goal.returns-in-Missed
