@@ -9,7 +9,7 @@ use native.Mathlib.Decide.{ℕ_discrete}
 use lib.Dec.{T}
 use lib.ListN.{length, get_or, drop, set, length-set, length-drop, drop_of_length-le}
 use lib.Seq.{get_or-set_same, get_or-set_other}
-use Rattle.machine.specs.Instr.{operands, instr, key}
+use Rattle.machine.specs.Instr.{operands, instr}
 use Rattle.tree.specs.Keys.{next_key}
 use Rattle.tree.specs.Forest.{Forest, empty, node, size, encode, Formed, WellFormed}
 use Rattle.tree.specs.Laid.{most_words, key_of, extent_of, region, sized, well_laid, parse, decode}

@@ -9,7 +9,7 @@ use lib.ListN.{length, get_or, take, drop, length-drop}
 use lib.Seq.{take_at, drop_at, drop-drop, drop-cons}
 use borrow.Author.Tests.{eq-eqb, ne_eqb}
 use Rattle.tree.specs.Keys.{next_key}
-use Rattle.tree.specs.Forest.{Forest, empty, node, size, word, encode, extent_limit, Formed}
+use Rattle.tree.specs.Forest.{Forest, empty, node, size, encode, extent_limit, Formed}
 use Rattle.tree.specs.Laid.{key_of, extent_of}
 use Rattle.tree.proofs.Words.{key_word, extent_word, length_encode}
 use Rattle.index.specs.Inner.Heads.{place_of, below_key}

@@ -2,19 +2,16 @@
 use mathlib.Core.Path.{◌≡◌, refl, ◌∙◌}
 use mathlib.Core.Logic.{inl}
 use mathlib.Core.Bool.{false}
-use mathlib.Core.List.{List, [], ◌∷◌}
+use mathlib.Core.List.{List}
 use Prim.Native.Nat.{ℕ, ◌+◌, ◌%◌, ◌<◌}
 use native.Mathlib.Omega.{arith}
 use lib.ListN.{get_or, drop}
-use borrow.Author.Rules.{rules}
 use Rattle.walk.specs.Walk.{up_to}
 use Rattle.clause.specs.Inner.Tables.{at_count}
 use Rattle.cells.specs.Inner.Cells.{no_position, above_of, state_of, has_bit, count_in, Walkable}
 use Rattle.cells.specs.Inner.Cells.{use_limit, uses_of, saved_byte, reserved, candidate, kept_in, pass_head, passes_of}
 use Rattle.cells.specs.declared.Above.TheVariants.{First}
 use Rattle.walking.specs.declared.End.TheVariants.{Missed}
-use Rattle.walking.specs.declared.Finding.{Finding}
-use Rattle.walking.specs.Inner.Findings.{walk_below, walk_top, Walked}
 use Rattle.walking.proofs.Passes.{missed_of, walked_missed}
 use Rattle.walking.proofs.Turns.{walkable_literals, Entry, Between, Begun, entry_start, by_bit}
 use Rattle.walking.proofs.Turns.{between_size, between_room, between_literal, between_ends, between_spent}

@@ -3,7 +3,6 @@ use mathlib.Core.Path.{ap}
 use Prim.Native.Nat.{ℕ, ◌+◌}
 use native.Mathlib.Omega.{arith}
 use Rattle.tree.proofs.Grow.{sized_low, sized_high, laid_room}
-use borrow.Author.Rules.{rules}
 use Rattle.index.proofs.Noting.{decode_region, laid_encoded}
 use Rattle.query.proofs.Asking.{used_part}
 use Rattle.index.proofs.entries.renew.Goals as goal

@@ -5,7 +5,6 @@ use mathlib.Core.Logic.{◌≢◌}
 use mathlib.Core.List.{List}
 use native.Mathlib.Omega.{arith}
 use lib.ListN.{length, get_or, take, drop}
-use borrow.Author.Rules.{rules}
 use Rattle.tree.specs.Laid.{extent_of, parse}
 use Rattle.index.specs.Inner.Heads.{entry_count, IndexOf, Encoded}
 use Rattle.walk.specs.Walk.{up_to}

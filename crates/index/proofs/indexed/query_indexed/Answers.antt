@@ -2,8 +2,6 @@
 use mathlib.Core.Path.{refl, ap}
 use Prim.Native.Nat.{ℕ, ◌+◌}
 use native.Mathlib.Omega.{arith}
-use borrow.Author.Rules.{rules}
-use Rattle.clause.specs.Clause.{Accepted}
 use Rattle.tree.proofs.Grow.{sized_low, sized_high, laid_room}
 use Rattle.index.proofs.Noting.{decode_region, laid_encoded}
 use Rattle.index.proofs.Reading.{whole_accepted, undecided}

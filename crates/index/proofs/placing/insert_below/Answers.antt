@@ -2,7 +2,6 @@
 use native.Mathlib.Omega.{arith}
 use Rattle.merging.proofs.Putting.{slice_parts}
 use Rattle.insertion.proofs.InsertCases.{in_region}
-use borrow.Author.Rules.{rules}
 use Rattle.index.proofs.placing.insert_below.Goals as goal
 
 pub bounds-tree-0 : goal.bounds-tree-0

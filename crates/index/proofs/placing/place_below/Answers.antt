@@ -1,6 +1,5 @@
 -- `place_below` meets its contract.
 use native.Mathlib.Omega.{arith}
-use borrow.Author.Rules.{rules}
 use Rattle.index.proofs.Below.{leads_below}
 use Rattle.index.proofs.placing.place_below.Goals as goal
 
