@@ -1,6 +1,5 @@
 -- `backward` meets its contract: size, clause, the check, and the listing.
 use mathlib.Core.Path.{sym, ap, ◌∙◌}
-use borrow.Author.Rules.{rules}
 use Rattle.clause.specs.Clause.{fault_of}
 use Rattle.listing.proofs.Known.{back_bad, back_faulty, back_failed}
 use Rattle.listing.proofs.backward.Goals as goal

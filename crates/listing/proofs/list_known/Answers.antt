@@ -4,7 +4,6 @@ use Prim.Native.Nat.{ℕ, ◌*◌}
 use native.Mathlib.Omega.{arith}
 use lib.ListN.{length-replicate}
 use lib.Seq.{length-take-le}
-use borrow.Author.Rules.{rules}
 use Rattle.clause.specs.Clause.{max_words}
 use Rattle.tree.specs.Laid.{max_kept}
 use Rattle.shelving.proofs.Holding.{fresh_slots}

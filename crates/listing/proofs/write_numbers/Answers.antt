@@ -1,9 +1,6 @@
 -- `write_numbers` meets its contract: the numbers so far stand over the first words.
-use Prim.Native.Nat.{◌-◌}
 use native.Mathlib.Omega.{arith}
-use lib.ListN.{length}
-use borrow.Author.Rules.{rules}
-use Rattle.readback.proofs.Overwriting.{Overwriting, overwriting_first, overwriting_next, overwriting_end}
+use Rattle.readback.proofs.Overwriting.{overwriting_first, overwriting_next, overwriting_end}
 use Rattle.listing.proofs.write_numbers.Goals as goal
 
 pub loop-i-init : goal.loop-i-init

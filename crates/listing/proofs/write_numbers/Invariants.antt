@@ -1,9 +1,7 @@
 -- `write_numbers` meets its contract: the numbers so far stand over the first words.
 use Prim.Native.Nat.{◌-◌}
-use native.Mathlib.Omega.{arith}
 use lib.ListN.{length}
-use borrow.Author.Rules.{rules}
-use Rattle.readback.proofs.Overwriting.{Overwriting, overwriting_first, overwriting_next, overwriting_end}
+use Rattle.readback.proofs.Overwriting.{Overwriting}
 use Rattle.listing.proofs.write_numbers.Given as goal
 
 abbrev pub invariant-loop-i : goal.invariant-loop-i

@@ -1,5 +1,4 @@
 -- `ask` meets its contract: the words in the slot of the card are lent to the query.
-use Prim.Native.Nat.{◌-◌}
 use borrow.Author.Rules.{rules}
 use Rattle.listing.proofs.Turns.{slot_row, slot_words}
 use Rattle.listing.proofs.trying.ask.Goals as goal

@@ -1,11 +1,9 @@
 -- `try_all` meets its contract: the clauses of the cards so far are queried.
-use Prim.Native.Nat.{◌-◌, ◌^◌}
+use Prim.Native.Nat.{◌^◌}
 use native.Mathlib.Nat.{lt_of_le_of_lt}
 use native.Mathlib.Omega.{arith}
-use lib.ListN.{length}
-use borrow.Author.Rules.{rules}
 use Rattle.clause.proofs.Lists.{all_below}
-use Rattle.listing.proofs.Turns.{Trying, lone_made, trying_first, trying_end, trying_ready, trying_spent}
+use Rattle.listing.proofs.Turns.{lone_made, trying_first, trying_end, trying_ready, trying_spent}
 use Rattle.listing.proofs.Turns.{other_few, trying_other, found_few, trying_full, trying_found}
 use Rattle.listing.proofs.trying.try_all.Goals as goal
 use Rattle.listing.proofs.trying.try_all.Goals.{in-NotCovered, in-Covered+else-many-room}
@@ -61,9 +59,9 @@ loop-i-preserved c =
     let g = c.loop-i.invariant in
     let h = c.loop-i-test.true in
     elim c.match-ask.branch [
-      in-NotCovered w ↦ rw (w.numbers-is, w.many-is, w.tried-is) (trying_other g h c.ask.ensures w.in-NotCovered.is)
-    | in-Covered+else-many-room w ↦
-        rw (w.numbers-is, w.many-is, w.tried-is) (trying_found g h c.ask.ensures w.in-Covered.is (omega (arith, w.if-many-room.false)))
+      | in-NotCovered w ↦ rw (w.numbers-is, w.many-is, w.tried-is) (trying_other g h c.ask.ensures w.in-NotCovered.is)
+      | in-Covered+else-many-room w ↦
+          rw (w.numbers-is, w.many-is, w.tried-is) (trying_found g h c.ask.ensures w.in-Covered.is (omega (arith, w.if-many-room.false)))
     ]
 
 pub shape_of-numbers : goal.shape_of-numbers
