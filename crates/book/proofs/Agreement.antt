@@ -18,7 +18,6 @@ use Rattle.walk.specs.Covering.{Subsumed, candidates, IsCovered, IsNotCovered, A
 use Rattle.book.specs.Book.{Call, slice_of, book_of, tree_of}
 use Rattle.book.specs.Claims.{Run, Under, Renamed, Same, Alone, Demand3}
 use Rattle.clause.proofs.Lists.{all_mem}
-use Rattle.clause.proofs.Literals.{accepted}
 use Rattle.clause.proofs.Order.{subsumes_refl, subsumes_trans}
 use Rattle.tree.proofs.Mirror.{build_same}
 use Rattle.walk.proofs.Bound.{enough_full}

@@ -14,7 +14,6 @@ use Rattle.tree.specs.Refusal.{code_of, values_of}
 use Rattle.book.specs.Table.{Title, ready, kept, removed, is_covered, is_not_covered, returned, passed, read, listed, code, said_call, said_query, said_ceiling, said_check, said_read, said_back}
 use Rattle.book.specs.Laws.{BookLaws}
 use Rattle.clause.proofs.Lists.{all_mem}
-use Rattle.clause.proofs.Literals.{accepted}
 use Rattle.book.proofs.Beginnings.{counted}
 use Rattle.tree.proofs.Changes.{kept_numbered, numbered_kept, kept_varied, varied_kept}
 use Rattle.tree.proofs.Pairs.{kept_pair, pair_kept}
