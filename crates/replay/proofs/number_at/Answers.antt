@@ -1,7 +1,6 @@
 -- `number_at` meets its contract: two words of 16 bits make a number of 32.
 use Prim.Native.Nat.{◌+◌}
 use native.Mathlib.Omega.{arith}
-use borrow.Author.Rules.{rules}
 use Rattle.replay.proofs.number_at.Goals as goal
 
 pub overflow_cast-result : goal.overflow_cast-result

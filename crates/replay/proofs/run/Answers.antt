@@ -1,10 +1,9 @@
 -- `run` meets its contract: the calls still to come, on the slice as it is, give what all of them give; and the claims are proved.
 use mathlib.Core.Path.{◌≡◌, refl, sym, ap, ◌∙◌}
 use mathlib.Core.List.{[]}
-use Prim.Native.Nat.{◌-◌, ◌≤◌}
 use native.Mathlib.Omega.{arith}
-use lib.ListN.{length, drop, length-drop}
-use Rattle.book.specs.Book.{AllFit, after}
+use lib.ListN.{drop, length-drop}
+use Rattle.book.specs.Book.{after}
 use Rattle.book.specs.Claims.{Run}
 use Rattle.book.specs.Encoding.{calls_of}
 use Rattle.book.proofs.Encoding.{calls_short, ran_after, ran_fit, has_words}

@@ -6,7 +6,6 @@ use native.Mathlib.Omega.{arith}
 use lib.ListN.{get_or, take, drop}
 use Rattle.book.specs.Book.{insert, remove}
 use Rattle.book.proofs.Encoding.{words_part, reads_remove, reads_insert, clause_part}
-use borrow.Author.Rules.{rules}
 use Rattle.replay.proofs.run_one.Goals as goal
 
 pub returns-then-kind-eq0 : goal.returns-then-kind-eq0
