@@ -41,4 +41,5 @@ returns-in-Listed c =
     let u = c.in-Listed in
     let w = c.list_known.ensures in
     let x = c.exchange.ensures in
-    back_listed g L c.requires.3 w u.count u.field-1 u.is (listed_inside g L c.requires.3 w u.count u.field-1 u.is c.list_known.auto.list) x.replaced x.marking x.many
+    let i = listed_inside g L c.requires.3 w u.count u.field-1 u.is c.list_known.auto.list in
+    back_listed g L c.requires.3 w u.count u.field-1 u.is i x.replaced x.marking x.many

@@ -10,6 +10,7 @@ use Rattle.record.specs.declared.Came.{Came}
 use Rattle.record.specs.declared.Setting.{Setting}
 use Rattle.record.specs.declared.Totals.{Totals}
 use Rattle.answering.specs.Inner.Steady.{CameOut}
+use Rattle.intake.specs.declared.Heading.{Heading}
 use Rattle.intake.specs.Feed.{Store, finishing}
 use Rattle.feeding.specs.Inner.Blocks.{Feedable}
 use Rattle.feeding.proofs.Blocks.{Ended, ended, removed_many, removed_few, one_room, line_room, finishes}
@@ -17,40 +18,40 @@ use borrow.Author.Rules.{rules}
 use Rattle.feeding.proofs.feeding.finish.Goals as goal
 
 -- the record came out, and so it goes on
-came : (v : Setting) (n count : ℕ) {t : Totals} {m : Store} {bytes at : ℕ} {o : List ℕ} {x : Came} {list T K : List ℕ} → Feedable m t bytes at o
-    → n < number_count → ((i : ℕ) → get_or m.words i 0 < 2 ^ 16) → CameOut (finishing v n count m.words m.slice) n m.marks x list T K
-    → Ended v n count t m x list T K
-came v n count {t = t} {m = m} f h w e = ended v n count t m f.steady h w f.kept e
+came : (v : Setting) (h : Heading) {t : Totals} {m : Store} {bytes at : ℕ} {o : List ℕ} {x : Came} {list T K : List ℕ} → Feedable m t bytes at o
+    → h.number < number_count → ((i : ℕ) → get_or m.words i 0 < 2 ^ 16) → CameOut (finishing v h.number h.count m.words m.slice) h.number m.marks x list T K
+    → Ended v h.number h.count t m x list T K
+came v h {t = t} {m = m} f n w e = ended v h.number h.count t m f.steady n w f.kept e
 
 pub slice_bounds-put_removals-end-2 : goal.slice_bounds-put_removals-end-2
 slice_bounds-put_removals-end-2 c =
     let a = c.args in
-    let e = came a.setting a.heading.number a.heading.count c.requires.0 (omega (arith, c.well_formed)) (λ i. omega (arith, c.type_inv.words i)) c.outcome_of-came.ensures.came in
+    let e = came a.setting a.heading c.requires.0 (omega (arith, c.well_formed)) (λ i. omega (arith, c.type_inv.words i)) c.outcome_of-came.ensures.came in
     sym (length-take-le _ _ e.out.many)
 
 pub put_removals-place-requires : goal.put_removals-place-requires
 put_removals-place-requires c =
     let a = c.args in
-    let e = came a.setting a.heading.number a.heading.count c.requires.0 (omega (arith, c.well_formed)) (λ i. omega (arith, c.type_inv.words i)) c.outcome_of-came.ensures.came in
+    let e = came a.setting a.heading c.requires.0 (omega (arith, c.well_formed)) (λ i. omega (arith, c.type_inv.words i)) c.outcome_of-came.ensures.came in
     (one_room a.turn.next (removed_many e) (removed_few e) c.requires.0.room, e.on.small)
 
 pub put_line-next-requires : goal.put_line-next-requires
 put_line-next-requires c =
     let a = c.args in
-    let e = came a.setting a.heading.number a.heading.count c.requires.0 (omega (arith, c.well_formed)) (λ i. omega (arith, c.type_inv.words i)) c.outcome_of-came.ensures.came in
+    let e = came a.setting a.heading c.requires.0 (omega (arith, c.well_formed)) (λ i. omega (arith, c.type_inv.words i)) c.outcome_of-came.ensures.came in
     let p = c.put_removals-place in
     line_room a.turn.next (removed_many e) (removed_few e) c.requires.0.room p.ensures.short p.auto.output
 
 pub count_outcome-after-requires : goal.count_outcome-after-requires
 count_outcome-after-requires c =
     let a = c.args in
-    let e = came a.setting a.heading.number a.heading.count c.requires.0 (omega (arith, c.well_formed)) (λ i. omega (arith, c.type_inv.words i)) c.outcome_of-came.ensures.came in
+    let e = came a.setting a.heading c.requires.0 (omega (arith, c.well_formed)) (λ i. omega (arith, c.type_inv.words i)) c.outcome_of-came.ensures.came in
     (c.requires.0.counts, removed_few e)
 
 pub returns : goal.returns
 returns c =
     let a = c.args in
-    let e = came a.setting a.heading.number a.heading.count c.requires.0 (omega (arith, c.well_formed)) (λ i. omega (arith, c.type_inv.words i)) c.outcome_of-came.ensures.came in
+    let e = came a.setting a.heading c.requires.0 (omega (arith, c.well_formed)) (λ i. omega (arith, c.type_inv.words i)) c.outcome_of-came.ensures.came in
     let p = c.put_removals-place.ensures in
     let q = c.put_line-next.ensures in record {
       took = finishes e a.output.now a.turn.next c.count_strike.ensures c.count_outcome-after.ensures p.text p.short q.text q.short;
