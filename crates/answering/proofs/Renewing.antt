@@ -9,7 +9,7 @@ use Rattle.clause.specs.Word.{Words}
 use Rattle.machine.specs.Compile.{keys}
 use Rattle.tree.specs.Forest.{Has}
 use Rattle.tree.specs.Laid.{sized, well_laid, decode, region}
-use Rattle.tree.specs.Entries.{Pair, entry}
+use Rattle.tree.specs.Entries.{Pair}
 use Rattle.tree.proofs.Pairs.{kept_pair, pair_kept}
 use Rattle.index.specs.Inner.Heads.{entry_count, place_of, top_row, head_at, Headed, Indexed, Renewable}
 use Rattle.index.proofs.Paths.{begins, more_heads}

@@ -6,7 +6,6 @@ use Rattle.record.proofs.Reading.{Narrow}
 use Rattle.answering.proofs.Steady.{steady_sized, steady_laid}
 use Rattle.answering.proofs.Keeping.{of, asked_refused, asked_struck, asked_accepted, asked_in}
 use Rattle.answering.proofs.Renewing.{outdated}
-use borrow.Author.Rules.{rules}
 use Rattle.answering.proofs.answering.answer.Goals as goal
 
 pub query_indexed-requires : goal.query_indexed-requires

@@ -1,6 +1,5 @@
 -- `go_in` meets its contract, by the setting.
 use Rattle.answering.proofs.Keeping.{in_plain, in_back}
-use borrow.Author.Rules.{rules}
 use Rattle.answering.proofs.answering.go_in.Goals as goal
 
 pub returns-in-Plain : goal.returns-in-Plain

@@ -1,7 +1,6 @@
 -- `reindex` meets its contract: the entries stay, or the places are noted anew, after a removal over no entries.
 use mathlib.Core.Path.{◌∙◌}
 use native.Mathlib.Omega.{arith}
-use borrow.Author.Rules.{rules}
 use Rattle.answering.proofs.Renewing.{cleared_spare}
 use Rattle.answering.proofs.indexing.reindex.Goals as goal
 use Rattle.answering.proofs.indexing.reindex.Goals.{then-removed-gt0, else-removed-gt0}
@@ -15,7 +14,7 @@ renew-requires c =
       c.requires.0,
       c.requires.1,
       elim c.if-removed-gt0.branch [
-        then-removed-gt0 w ↦ cleared_spare c.args.tree.now o.tree (w.heads-is ∙ w.clear.ensures)
-      | else-removed-gt0 w ↦ rw w.heads-is (o.more (omega (arith, w.if-removed-gt0.false)))
+        | then-removed-gt0 w ↦ cleared_spare c.args.tree.now o.tree (w.heads-is ∙ w.clear.ensures)
+        | else-removed-gt0 w ↦ rw w.heads-is (o.more (omega (arith, w.if-removed-gt0.false)))
       ],
     )

@@ -2,7 +2,6 @@
 use mathlib.Core.Path.{refl, ◌∙◌}
 use native.Mathlib.Omega.{arith}
 use Rattle.answering.proofs.Keeping.{insertable, exchange_marked, exchange_free, exchange_none}
-use borrow.Author.Rules.{rules}
 use Rattle.answering.proofs.striking.exchange.Goals as goal
 
 pub returns-then-marks-mark-eq-TAKEN : goal.returns-then-marks-mark-eq-TAKEN

@@ -6,7 +6,6 @@ use lib.Seq.{length-take-le}
 use Rattle.machine.proofs.Compiled.{compiled_fits, compiled_keys}
 use Rattle.answering.proofs.Renewing.{entry_begins}
 use Rattle.answering.proofs.Keeping.{clause_short, clause_some, insertable, ready, number_new, keep_marked, keep_refused, keep_kept}
-use borrow.Author.Rules.{rules}
 use Rattle.answering.proofs.striking.keep.Goals as goal
 
 pub returns-then-marks-mark-eq-TAKEN : goal.returns-then-marks-mark-eq-TAKEN

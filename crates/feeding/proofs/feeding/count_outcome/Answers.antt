@@ -1,5 +1,4 @@
 -- One more of a kind, by cases.
-use borrow.Author.Rules.{rules}
 use Rattle.feeding.proofs.feeding.count_outcome.Goals as goal
 
 pub returns-in-Kept : goal.returns-in-Kept

@@ -1,14 +1,11 @@
 -- The bytes so far are fed, and their text is in the output.
-use mathlib.Core.Path.{◌≡◌, sym, ◌∙◌}
-use Prim.Native.Nat.{ℕ, ◌+◌, ◌-◌, ◌≤◌}
-use native.Mathlib.Omega.{arith}
-use lib.ListN.{length, length-take, length-drop, length-replicate}
+use mathlib.Core.Path.{◌≡◌}
+use Prim.Native.Nat.{◌-◌}
+use lib.ListN.{length}
 use Rattle.record.specs.Answer.{list_words}
 use Rattle.intake.specs.Feed.{store_of}
 use Rattle.index.specs.Inner.Heads.{Indexed}
-use Rattle.feeding.proofs.Blocks.{within_fewer, Feeding, feeding_none, feeding_room, feeding_more, feeding_done}
-use Rattle.intake.proofs.Records.{whole_input}
-use borrow.Author.Rules.{rules}
+use Rattle.feeding.proofs.Blocks.{Feeding}
 use Rattle.feeding.proofs.feeding.feed.Given as goal
 
 abbrev pub invariant-loop-taken : goal.invariant-loop-taken

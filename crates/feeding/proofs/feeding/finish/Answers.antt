@@ -14,7 +14,6 @@ use Rattle.intake.specs.declared.Heading.{Heading}
 use Rattle.intake.specs.Feed.{Store, finishing}
 use Rattle.feeding.specs.Inner.Blocks.{Feedable}
 use Rattle.feeding.proofs.Blocks.{Ended, ended, removed_many, removed_few, one_room, line_room, finishes}
-use borrow.Author.Rules.{rules}
 use Rattle.feeding.proofs.feeding.finish.Goals as goal
 
 -- the record came out, and so it goes on

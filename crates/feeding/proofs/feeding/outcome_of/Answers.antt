@@ -5,7 +5,6 @@ use lib.Seq.{length-take-le}
 use Rattle.intake.specs.Feed.{finishing}
 use Rattle.clause.specs.Clause.{max_words}
 use borrow.Author.Tests.{lt-ltb, le-ltb}
-use borrow.Author.Rules.{rules}
 use Rattle.feeding.proofs.feeding.outcome_of.Goals as goal
 
 pub returns-then-end-gt-WORDS : goal.returns-then-end-gt-WORDS

@@ -1,7 +1,6 @@
 -- The reading goes on, or a record is ended.
 use Rattle.intake.specs.Feed.{store_of}
 use Rattle.feeding.proofs.Blocks.{goes, ends, took_as}
-use borrow.Author.Rules.{rules}
 use Rattle.feeding.proofs.feeding.proceed.Goals as goal
 
 pub returns-in-Reads : goal.returns-in-Reads
