@@ -323,14 +323,8 @@ module _ {d t words : List ℕ} {b : ℕ} {s : State} {n₀ : ℕ} {cells₀ cel
       let u = met.undoable in
       node_on (inr g) last to (rw tr (unwound_traced trail v.undo m room (undoable_small u) (undoable_some u (rw g)) ∙ rw (restored_undoable u)))
 
-  pub undo_small : v.undo < 2 ^ 16
-  undo_small = undoable_small met.undoable
-
   pub met_size : length m ≡ cell_count
   met_size = undoable_size met.undoable ∙ W.ready.size
-
-  pub met_back : {a : Answer State} {out : List ℕ} {r : Finding} → Walked a m out r → r.end ≡ Missed → length out ≡ cell_count
-  met_back w e = ap (λ (l : List ℕ). length l) (w.back e) ∙ met_size
 
   pub node_inside : Lower v.go → v.head < length d
   node_inside = visit_inside d t here cells W.ready (get_or rest 0 0) (length rest) h m v met
