@@ -1,15 +1,12 @@
 -- Block after block is taken, until no more are read.
-use mathlib.Core.Path.{◌≡◌, refl, sym, ◌∙◌}
+use mathlib.Core.Path.{◌≡◌}
 use Prim.Native.Nat.{◌-◌}
-use native.Mathlib.Omega.{arith}
 use lib.ListN.{length}
-use borrow.Author.Tests.{not-true, not-false}
 use Rattle.intake.specs.Feed.{store_of}
 use Rattle.index.specs.Inner.Heads.{Indexed}
 use Rattle.printing.specs.Handed.{reads_made}
 use Rattle.streaming.specs.Fed.{most_reads}
 use Rattle.streaming.specs.Inner.Running.{Running}
-use Rattle.streaming.proofs.FedBlocks.{indexed_first, running_none, may_left}
 use Rattle.streaming.proofs.blocks.feed_all.Given as goal
 
 abbrev pub invariant-loop-setting : goal.invariant-loop-setting

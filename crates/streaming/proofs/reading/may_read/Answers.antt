@@ -1,6 +1,6 @@
 -- `may_read` meets its contract, test after test.
 use mathlib.Core.Path.{◌≡◌, sym, ap, ap₂}
-use mathlib.Core.Bool.{Bool, true, ◌&&◌}
+use mathlib.Core.Bool.{Bool, ◌&&◌}
 use native.Mathlib.Omega.{arith}
 use lib.Dec.{eqb, ltb}
 use borrow.Author.Tests.{eq-eqb, ne_eqb}
