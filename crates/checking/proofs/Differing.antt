@@ -1,14 +1,14 @@
 -- Numbers compared one by one.
-use mathlib.Core.Path.{◌≡◌, sym, ap, ◌∙◌}
+use mathlib.Core.Path.{◌≡◌, sym}
 use mathlib.Core.Logic.{◌≢◌}
-use mathlib.Core.Bool.{true, false, ◌&&◌}
+use mathlib.Core.Bool.{true, false}
 use mathlib.Core.List.{List, ◌∷◌}
 use Prim.Native.Nat.{ℕ, suc, ◌+◌, ◌≤◌, ◌<◌}
 use native.Mathlib.Numerals.{add-one}
 use lib.ListN.{length, get_or, drop, drop_of_length-le}
 use lib.Seq.{drop-cons}
 use borrow.Author.Tests.{eq-eqb, ne_eqb}
-use Rattle.readback.specs.Saved.{is_new, all_differ}
+use Rattle.readback.specs.Saved.{is_new}
 
 -- ---- a number among some
 
@@ -24,18 +24,3 @@ module _ (n : ℕ) (ns : List ℕ) (i : ℕ) (h : i < length ns) where
 
 pub new_end : (n : ℕ) (ns : List ℕ) (i : ℕ) → length ns ≤ i → is_new n (drop i ns) ≡ true
 new_end n ns i h = rw (drop_of_length-le ns h)
-
--- ---- all of them
-
-module _ (ns : List ℕ) (i : ℕ) (h : i < length ns) where
-  differ_here : all_differ (drop i ns) ≡ (is_new (get_or ns i 0) (drop (i + 1) ns) && all_differ (drop (i + 1) ns))
-  differ_here = simp add-one (ap all_differ (drop-cons ns i 0 h))
-
-  pub differ_found : is_new (get_or ns i 0) (drop (i + 1) ns) ≡ false → all_differ (drop i ns) ≡ false
-  differ_found e = differ_here ∙ rw e
-
-  pub differ_next : is_new (get_or ns i 0) (drop (i + 1) ns) ≡ true → all_differ (drop i ns) ≡ all_differ (drop (i + 1) ns)
-  differ_next e = differ_here ∙ rw e
-
-pub differ_end : (ns : List ℕ) (i : ℕ) → length ns ≤ i → all_differ (drop i ns) ≡ true
-differ_end ns i h = rw (drop_of_length-le ns h)

@@ -1,7 +1,6 @@
 -- The turns of the two passes from Success to Success.
 use mathlib.Core.Path.{◌≡◌, refl, sym, ap, ◌∙◌}
-use mathlib.Core.Logic.{◌≢◌}
-use mathlib.Core.Bool.{true, false, true≢false, and-eq-true_iff}
+use mathlib.Core.Bool.{true}
 use mathlib.Core.Option.{none}
 use mathlib.Core.List.{List, [], ◌∷◌, ◌++◌, append-nil, append_assoc}
 use Prim.Native.Nat.{ℕ, ◌+◌, ◌≤◌, ◌<◌}
@@ -9,16 +8,14 @@ use native.Mathlib.Numerals.{add-one}
 use native.Mathlib.Omega.{arith}
 use lib.ListN.{length, get_or, take, set, length-append, length-map, length-set}
 use lib.Seq.{take-suc-set, length-take-le}
-use borrow.Author.Tests.{eq-eqb, ne_eqb}
 use Rattle.machine.specs.Compiled.{max_keys}
 use Rattle.tree.specs.Laid.{key_of}
 use Rattle.tree.specs.Entries.{Entry}
 use Rattle.tree.specs.Laws.{first_with}
 use Rattle.readback.specs.Saved.{readable, all_readable, numbers_of}
-use Rattle.checking.specs.Inner.Scan.{scan, scan_from, opens, Comes, Gathers, Finds}
+use Rattle.checking.specs.Inner.Scan.{scan, scan_from, opens, Comes, Gathers}
 use Rattle.checking.specs.declared.Ahead.TheVariants.{Success}
-use Rattle.checking.specs.declared.Gathered.TheVariants.{Numbers, Foreign}
-use Rattle.checking.specs.declared.Found.TheVariants.{At}
+use Rattle.checking.specs.declared.Gathered.TheVariants.{Numbers}
 use Rattle.checking.proofs.Scanning.{from_end}
 
 -- the entries of words
@@ -54,10 +51,6 @@ module _ {ws : List ℕ} {len : ℕ} {ns ks es : List ℕ} {at depth count : ℕ
   going_over h = going_end (from_end ws at (opens ks es depth) h)
 
   module _ (place above : ℕ) (ks' es' : List ℕ) (c : Comes ws at depth ks es (Success place above) ks' es') where
-    -- a path that is no clause's
-    pub going_foreign : readable (take above ks') ≡ false → Gathers (found ws) Foreign ns
-    going_foreign e = g.clauses ∙ ap all_readable c.3 ∙ rw e
-
     noted_here : numbers_of (found ws) ≡ take count ns ++ (key_of (get_or ws place 0) ∷ numbers_of (scan_from ws (place + 1) (opens ks' es' above)))
     noted_here = g.noted ∙ ap (λ l. take count ns ++ numbers_of l) c.3
 
@@ -85,10 +78,6 @@ module _ {ws : List ℕ} {len : ℕ} {ns ks es : List ℕ} {at depth count : ℕ
           noted = noted_here ∙ sym (append_assoc (take count ns) (n ∷ []) rest) ∙ ap (λ l. l ++ rest) (sym t);
         }
 
-  -- the rest is no clauses'
-  pub going_deep : all_readable (scan_from ws at (opens ks es depth)) ≡ false → Gathers (found ws) Foreign ns
-  going_deep e = g.clauses ∙ e
-
 -- ---- looking for a number
 
 -- it is none of the paths so far
@@ -111,23 +100,3 @@ module _ {ws : List ℕ} {n : ℕ} {ks es : List ℕ} {at depth : ℕ} (s : Seek
 
   pub seeking_over : length ws ≤ at → first_with n (found ws) ≡ none
   seeking_over h = seeking_end (from_end ws at (opens ks es depth) h)
-
-  -- no path is deeper than a clause's
-  pub seeking_deep : all_readable (scan_from ws at (opens ks es depth)) ≡ false → first_with n (found ws) ≡ none
-  seeking_deep e = absurd (true≢false (sym s.clauses ∙ e))
-
-  module _ (place above : ℕ) (ks' es' : List ℕ) (c : Comes ws at depth ks es (Success place above) ks' es') where
-    pub seeking_found : key_of (get_or ws place 0) ≡ n → Finds (found ws) n (At above) ks'
-    seeking_found e = (omega (arith, c.2, c.5), s.left ∙ ap (first_with n) c.3 ∙ rw (eq-eqb (key_of (get_or ws place 0)) n e))
-
-    pub seeking_next : key_of (get_or ws place 0) ≢ n → Seeking ws n ks' es' (place + 1) above
-    seeking_next e =
-        let r = sym (ap all_readable c.3) ∙ s.clauses in
-        record {
-          inside = omega (arith, c.1);
-          few = c.2;
-          keys_length = c.5;
-          ends_length = c.6;
-          clauses = ((and-eq-true_iff (readable (take above ks')) _).0 r).1;
-          left = s.left ∙ ap (first_with n) c.3 ∙ rw (ne_eqb (key_of (get_or ws place 0)) n e);
-        }

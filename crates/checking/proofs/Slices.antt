@@ -17,7 +17,7 @@ use Rattle.tree.specs.Laws.{Stands, paths_of, first_with}
 use Rattle.tree.proofs.Grow.{laid_decode, sized_high}
 use Rattle.tree.proofs.Words.{region_layout}
 use Rattle.tree.proofs.Laws.{tree_laws}
-use Rattle.readback.specs.Saved.{readable, all_readable, all_differ, of_clauses}
+use Rattle.readback.specs.Saved.{readable, all_readable, of_clauses}
 use Rattle.readback.specs.Calls.{check, unread, written_out, read_back}
 use Rattle.readback.specs.declared.CheckAnswer.TheVariants.{Passed}
 use Rattle.readback.specs.declared.ReadAnswer.TheVariants.{Read}
@@ -27,8 +27,7 @@ use Rattle.readback.proofs.Laws.{Passing, check_passing, written_is}
 use Rattle.decompiling.specs.Inner.Reader.{Modest, Written}
 use Rattle.decompiling.specs.declared.ReadOff.TheVariants.{Words}
 use Rattle.decompiling.proofs.Wording.{unreadable}
-use Rattle.checking.specs.Inner.Scan.{Nested, scan, are_clauses, Gathers}
-use Rattle.checking.specs.declared.Gathered.TheVariants.{Numbers}
+use Rattle.checking.specs.Inner.Scan.{Nested, scan, are_clauses}
 use Rattle.checking.proofs.Scanning.{scan_paths, nested_forest}
 
 -- the words from the second on, as many as are used
@@ -68,12 +67,6 @@ module _ (T : List ℕ) (s : sized T ≡ true) (w : well_laid T ≡ true) where
   lent_find n l = ap (first_with n) lent_paths ∙ sym ((tree_laws.paths (decode T) stands.formed).first n l)
 
 -- ---- what is tested, and what is read
-
-pub clauses_foreign : (es : List Entry) → all_readable es ≡ false → false ≡ are_clauses es
-clauses_foreign es e = rw e
-
-pub clauses_differ : (es : List Entry) (ns : List ℕ) (n : ℕ) → Gathers es (Numbers n) ns → all_differ (take n ns) ≡ are_clauses es
-clauses_differ es ns n (r, h, e) = rw (r, e)
 
 -- the paths of clauses are readable
 found_readable : (n : ℕ) (es : List Entry) (p : List ℕ) → all_readable es ≡ true → first_with n es ≡ some p → readable p ≡ true

@@ -19,7 +19,7 @@ use Rattle.machine.specs.Instr.{Down, Right, Put, Push, Pop, Check, Compare, Ins
 use Rattle.machine.specs.Compile.{keys}
 use Rattle.compiling.specs.Inner.Compiling.{Stored}
 use Rattle.machine.specs.Machine.{slots}
-use Rattle.compiling.proofs.Stores.{stored_none, stored_snoc, stored_length}
+use Rattle.compiling.proofs.Stores.{stored_none, stored_snoc}
 use Rattle.decompiling.specs.declared.Word.TheVariants.{Stands, Silent, Outside}
 use Rattle.decompiling.specs.declared.ReadOff.TheVariants.{Words}
 use Rattle.readback.specs.Readback.{variable_word, new_below, instructions, origin, word_of, words_of, put_number, read_off, clause_of}
@@ -143,9 +143,6 @@ unfolding instructions words_of
 writing_first p os cs before O C h = record { origins = O; counts = C; inside = omega arith; few = omega arith; room = h; stored = stored_none before 0 }
 
 module _ {p os cs before now : List ℕ} {count i : ℕ} (w : Writing p os cs before now count i) where
-  pub writing_length : length now ≡ length before
-  writing_length = stored_length w.stored
-
   pub writing_end : length p ≤ i → Written p before (Words count) now
   writing_end h = all_stored p os cs w.origins w.counts before now count i h w.few w.room w.stored
 
