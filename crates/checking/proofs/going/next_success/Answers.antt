@@ -13,25 +13,24 @@ pub still_open-above-requires : goal.still_open-above-requires
 still_open-above-requires c = let g = c.loop-at.invariant in omega (arith, g.few, g.ends_length)
 
 pub shape_of-keys-then-k-lt-FIRST : goal.shape_of-keys-then-k-lt-FIRST
-shape_of-keys-then-k-lt-FIRST c = let l = c.before.before.before.before.before.before in c.loop-at.invariant.keys_length ∙ sym l.before.before.before.before.requires.3
+shape_of-keys-then-k-lt-FIRST c = c.loop-at.invariant.keys_length ∙ sym c.requires.3
 
 pub shape_of-ends-then-k-lt-FIRST : goal.shape_of-ends-then-k-lt-FIRST
-shape_of-ends-then-k-lt-FIRST c = let l = c.before.before.before.before.before.before in c.loop-at.invariant.ends_length ∙ sym l.before.before.before.before.requires.4
+shape_of-ends-then-k-lt-FIRST c = c.loop-at.invariant.ends_length ∙ sym c.requires.4
 
 pub returns-then-k-lt-FIRST : goal.returns-then-k-lt-FIRST
 returns-then-k-lt-FIRST c = gone_success c.loop-at.invariant (omega arith) _ c.still_open-above.ensures (rw c.key-k.ensures at c.if-k-lt-FIRST.true)
 
 pub shape_of-keys-then-above-ge-KEYS : goal.shape_of-keys-then-above-ge-KEYS
-shape_of-keys-then-above-ge-KEYS c = let l = c.before.before.before.before.before.before.before in c.loop-at.invariant.keys_length ∙ sym l.before.before.before.before.requires.3
+shape_of-keys-then-above-ge-KEYS c = c.loop-at.invariant.keys_length ∙ sym c.requires.3
 
 pub shape_of-ends-then-above-ge-KEYS : goal.shape_of-ends-then-above-ge-KEYS
-shape_of-ends-then-above-ge-KEYS c = let l = c.before.before.before.before.before.before.before in c.loop-at.invariant.ends_length ∙ sym l.before.before.before.before.requires.4
+shape_of-ends-then-above-ge-KEYS c = c.loop-at.invariant.ends_length ∙ sym c.requires.4
 
 pub returns-then-above-ge-KEYS : goal.returns-then-above-ge-KEYS
 returns-then-above-ge-KEYS c =
-    let l = c.before.before.before.before.before.before.before in
     let k = rw c.key-k.ensures at c.if-k-lt-FIRST.false in
-    gone_deep c.loop-at.invariant (omega arith) _ c.still_open-above.ensures l.before.before.before.before.requires.0 (omega arith) c.if-above-ge-KEYS.true
+    gone_deep c.loop-at.invariant (omega arith) _ c.still_open-above.ensures c.requires.0 (omega arith) c.if-above-ge-KEYS.true
 
 pub overflow_add-end : goal.overflow_add-end
 overflow_add-end c = omega (arith, c.extent.ensures)
