@@ -20,7 +20,11 @@ pub returns-in_default : goal.returns-in_default
 returns-in_default c = read_none _ c.requires.0 _ (omega arith) _ c.requires.1 (rw (c.used-end.ensures, c.in_default.is) at c.path_to-found.ensures)
 
 pub returns-in_default-read : goal.returns-in_default-read
-returns-in_default-read c = let p = rw c.used-end.ensures at c.in-At.ensures in read_foreign _ c.requires.0 _ _ p.1 (rw c.in_default-read.is at c.read_off-read.ensures)
+returns-in_default-read c =
+    let p = rw c.used-end.ensures at c.in-At.ensures in
+    read_foreign _ c.requires.0 _ _ p.1 (rw c.in_default-read.is at c.read_off-read.ensures)
 
 pub returns : goal.returns
-returns c = let p = rw c.used-end.ensures at c.in-At.ensures in read_some _ c.requires.0 _ (omega arith) _ c.requires.1 _ p.1 _ _ c.in-Words.ensures
+returns c =
+    let p = rw c.used-end.ensures at c.in-At.ensures in
+    read_some _ c.requires.0 _ (omega arith) _ c.requires.1 _ p.1 _ _ c.in-Words.ensures
