@@ -1,9 +1,7 @@
 -- `same` meets its contract: the bytes so far are the same.
 use Prim.Native.Nat.{◌-◌}
-use native.Mathlib.Omega.{arith}
 use lib.ListN.{length}
-use borrow.Author.Rules.{rules}
-use Rattle.running.proofs.Alike.{Alike, alike_lengths, alike_none, alike_more, alike_differs, alike_all}
+use Rattle.running.proofs.Alike.{Alike}
 use Rattle.running.proofs.settings.same.Given as goal
 
 abbrev pub invariant-loop-i : goal.invariant-loop-i

@@ -1,7 +1,6 @@
 -- `setting_of` meets its contract, by whether the argument is `back`.
 use mathlib.Core.Path.{sym, ap, ◌∙◌}
 use Rattle.record.specs.Settings.{setting_if}
-use borrow.Author.Rules.{rules}
 use Rattle.running.proofs.settings.setting_of.Goals as goal
 
 pub returns-then-same : goal.returns-then-same
