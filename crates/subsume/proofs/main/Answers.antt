@@ -1,7 +1,6 @@
 -- The first argument, and the words that are lent, all zeros: what the first store has.
 use mathlib.Core.Path.{refl}
 use Rattle.streaming.proofs.FedBlocks.{store_first}
-use borrow.Author.Rules.{rules}
 use Rattle.subsume.proofs.main.Goals as goal
 
 pub start-requires : goal.start-requires
