@@ -4,7 +4,6 @@ use Rattle.book.specs.Table.{backed}
 use Rattle.interface.specs.Calls.{ct_backward}
 use Rattle.interface.proofs.Handed.{hands}
 use Rattle.interface.proofs.Lists.{ct_lists_book}
-use borrow.Author.Rules.{rules}
 use Rattle.codetree.proofs.ct_backward.Goals as goal
 
 pub returns : goal.returns

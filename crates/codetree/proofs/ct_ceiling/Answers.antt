@@ -3,7 +3,6 @@ use mathlib.Core.Path.{ap, ◌∙◌}
 use Rattle.book.specs.Table.{said_ceiling}
 use Rattle.interface.specs.Told.{replied}
 use Rattle.interface.specs.Calls.{ct_ceiling}
-use borrow.Author.Rules.{rules}
 use Rattle.codetree.proofs.ct_ceiling.Goals as goal
 
 pub returns : goal.returns

@@ -4,7 +4,6 @@ use Rattle.book.specs.Table.{said_check}
 use Rattle.interface.specs.Told.{number_of}
 use Rattle.interface.specs.Calls.{ct_check}
 use Rattle.interface.proofs.Lists.{ct_checked, ct_reads_book, ct_saved_is_made}
-use borrow.Author.Rules.{rules}
 use Rattle.codetree.proofs.ct_check.Goals as goal
 
 pub returns : goal.returns

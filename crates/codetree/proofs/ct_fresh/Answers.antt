@@ -4,7 +4,6 @@ use mathlib.Core.List.{[]}
 use Rattle.book.specs.Table.{called}
 use Rattle.interface.specs.Calls.{ct_fresh}
 use Rattle.interface.proofs.Handed.{hands_left}
-use borrow.Author.Rules.{rules}
 use Rattle.codetree.proofs.ct_fresh.Goals as goal
 
 pub returns : goal.returns

@@ -4,7 +4,6 @@ use Rattle.book.specs.Table.{called}
 use Rattle.interface.specs.Calls.{ct_insert}
 use Rattle.interface.proofs.Handed.{hands}
 use Rattle.interface.proofs.Refusals.{ct_demand1}
-use borrow.Author.Rules.{rules}
 use Rattle.codetree.proofs.ct_insert.Goals as goal
 
 pub returns : goal.returns

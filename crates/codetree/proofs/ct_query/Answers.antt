@@ -5,7 +5,6 @@ use Rattle.interface.specs.Calls.{ct_query}
 use Rattle.interface.proofs.Handed.{hands}
 use Rattle.interface.proofs.Differ.{told_apart}
 use Rattle.interface.proofs.Lists.{ct_reach, ct_demand2, ct_demand3, ct_exact_count}
-use borrow.Author.Rules.{rules}
 use Rattle.codetree.proofs.ct_query.Goals as goal
 
 pub returns : goal.returns

@@ -3,7 +3,6 @@ use mathlib.Core.Path.{ap}
 use Rattle.book.specs.Table.{given_back}
 use Rattle.interface.specs.Calls.{ct_read_back}
 use Rattle.interface.proofs.Handed.{hands}
-use borrow.Author.Rules.{rules}
 use Rattle.codetree.proofs.ct_read_back.Goals as goal
 
 pub returns : goal.returns

@@ -4,7 +4,6 @@ use mathlib.Core.List.{[]}
 use Rattle.book.specs.Table.{called}
 use Rattle.interface.specs.Calls.{ct_remove}
 use Rattle.interface.proofs.Handed.{hands_left}
-use borrow.Author.Rules.{rules}
 use Rattle.codetree.proofs.ct_remove.Goals as goal
 
 pub returns : goal.returns
