@@ -1,4 +1,5 @@
-// The C interface: the calls of `codetree` (docs/REFERENCE.md, "Calls") on pointers and lengths (include/code_tree.h). Each has the clauses of the call that it makes.
+// The C interface: the calls of `codetree` (docs/REFERENCE.md, "Calls") on pointers and lengths (include/code_tree.h).
+// Each has the clauses of the call that it makes.
 #![tactic(auto)]
 
 ghost use Rattle.std.specs.Prelude.{◌≡◌};
