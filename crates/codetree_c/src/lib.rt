@@ -4,7 +4,8 @@
 
 ghost use Rattle.std.specs.Prelude.{◌≡◌};
 ghost use Rattle.interface.specs.Calls.{ct_fresh, ct_insert, ct_remove, ct_query, ct_ceiling, ct_read_back, ct_check, ct_backward};
-ghost use Rattle.interface.specs.Claims.{CtDemand1, CtReach, CtDemand2, CtDemand3, CtExactCount, CtChecked, CtReadsBook, CtSavedIsMade, CtListsBook, ToldApart};
+ghost use Rattle.interface.specs.Claims.{CtDemand1, CtReach, CtDemand2, CtDemand3, CtExactCount, ToldApart};
+ghost use Rattle.interface.specs.Claims.{CtChecked, CtReadsBook, CtSavedIsMade, CtListsBook};
 
 // Makes an empty tree of a slice. Returns 0 or 1.
 #[unsafe(no_mangle)]

@@ -133,11 +133,14 @@ module _ (m c : List ℕ) where
 
   -- one block more
   pub printing_more : {M N N' o₀ o p : List ℕ} {n : ℕ} → Printing M o₀ N o n → n < number_count → length p ≡ length o
-      → length (tally_lines (shown_from m c n block_numbers)) ≤ block_numbers * longest_tally → HandedOn N (length (tally_lines (shown_from m c n block_numbers))) N'
+      → length (tally_lines (shown_from m c n block_numbers)) ≤ block_numbers * longest_tally
+      → HandedOn N (length (tally_lines (shown_from m c n block_numbers))) N'
       → Printing M o₀ N' p (n + block_numbers)
   printing_more {M} {N' = N'} {n = n} r h l k g =
       let z : 0 + n ≡ n = omega arith in
-      let e = ap length (rw z at (shown_append m c 0 n block_numbers)) ∙ length-append (tally_lines (shown_from m c 0 n)) (tally_lines (shown_from m c n block_numbers)) in
+      let e =
+      ap length (rw z at (shown_append m c 0 n block_numbers))
+      ∙ length-append (tally_lines (shown_from m c 0 n)) (tally_lines (shown_from m c n block_numbers)) in
       record {
         output = l ∙ r.output;
         whole = omega (arith, r.whole);
@@ -160,4 +163,5 @@ module _ (m c : List ℕ) where
   unfolding shown_sheet
   printing_done k {n} {M} {N' = N'} r h g =
       let i : n ≡ number_count = omega (arith, r.inside) in
-      subst (λ (j : ℕ). HandedOn M j N') (sym (length-append (tally_lines (shown_from m c 0 number_count)) (records_line k))) (handed_append (rw i at r.handed) g)
+      let e = sym (length-append (tally_lines (shown_from m c 0 number_count)) (records_line k)) in
+      subst (λ (j : ℕ). HandedOn M j N') e (handed_append (rw i at r.handed) g)

@@ -106,7 +106,8 @@ module _ {v : Setting} {s : Session} {m : Store} {M : List ℕ} (r : Running v s
   lines_short n l e = omega (arith, e, r.kept, steady_few r.steady)
 
   -- what was fed of a block that was read, and the text that is handed on
-  pub block_fed : {n : ℕ} (input : List ℕ) {o : List ℕ} {a : Session} {k : Store} {next : ℕ} {p : List ℕ} → n ≤ length input → n ≤ block_bytes → output_bytes ≤ length o
+  pub block_fed : {n : ℕ} (input : List ℕ) {o : List ℕ} {a : Session} {k : Store} {next : ℕ} {p : List ℕ}
+      → n ≤ length input → n ≤ block_bytes → output_bytes ≤ length o
       → Took (feed v s m (take n input)) (length (take n input)) 0 s.totals o a k (record { next = next; output = p })
       → (◌≡◌ {A = Fed} (record { session = a; store = k; text = take next p }) (feed v s m (take n input))) × (next ≤ output_bytes)
   block_fed {n} input {a = a} i l b t =

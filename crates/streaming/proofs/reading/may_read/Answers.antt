@@ -24,4 +24,5 @@ pub returns : goal.returns
 returns c =
     let m = c.args.meters.now in
     let z : write_failed m ≡ 0 = omega (arith, c.if-meters-gt0-2.false) in
-    sym (ap₂ (λ (a b : Bool). a && (b && ltb (reads_made m) most_reads)) (eq-eqb (reads_ended m) 0 (omega (arith, c.if-meters-gt0.false))) (eq-eqb (write_failed m) 0 z))
+    let e = eq-eqb (reads_ended m) 0 (omega (arith, c.if-meters-gt0.false)) in
+    sym (ap₂ (λ (a b : Bool). a && (b && ltb (reads_made m) most_reads)) e (eq-eqb (write_failed m) 0 z))
