@@ -7,7 +7,7 @@ ghost use Rattle.printing.specs.Handed.{meter_count, bytes_read, reads_made};
 ghost use Rattle.streaming.specs.Fed.{Buffers, may_read, Grows};
 ghost use Rattle.streaming.specs.Inner.Running.{Running};
 
-use crate::reading::{may_read, read_block};
+use crate::input::{may_read, read_block};
 use feeding::feed;
 use index::Heads;
 use intake::{Session, begin};

@@ -5,7 +5,7 @@ use lines::Longest;
 use tree::Tree;
 
 mod blocks;
-mod reading;
+mod input;
 
 pub use blocks::{FedBlock, feed_all};
 

@@ -4,7 +4,7 @@ use native.Mathlib.Omega.{arith}
 use lib.Seq.{get_or-set_other}
 use Rattle.printing.specs.Handed.{reads_made}
 use Rattle.streaming.proofs.Meters.{read_none, read_end, read_some}
-use Rattle.streaming.proofs.reading.read_block.Goals as goal
+use Rattle.streaming.proofs.input.read_block.Goals as goal
 
 pub returns-then-ne : goal.returns-then-ne
 returns-then-ne c = read_end c.requires.long 2

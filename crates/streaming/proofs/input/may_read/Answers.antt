@@ -6,7 +6,7 @@ use lib.Dec.{eqb, ltb}
 use borrow.Author.Tests.{eq-eqb, ne_eqb}
 use Rattle.printing.specs.Handed.{reads_made, write_failed, reads_ended}
 use Rattle.streaming.specs.Fed.{most_reads}
-use Rattle.streaming.proofs.reading.may_read.Goals as goal
+use Rattle.streaming.proofs.input.may_read.Goals as goal
 
 pub returns-then-meters-gt0 : goal.returns-then-meters-gt0
 returns-then-meters-gt0 c =
