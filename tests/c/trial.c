@@ -28,7 +28,8 @@ static void expect_ceilings(void) {
             expect("its value", told[0], CT_KEPT_CLAUSES * sum);
         }
     }
-    expect("the greatest ceiling", told[0], CT_FULL_BUDGET);
+    expect("the greatest ceiling", told[0], 19634135040u);
+    expect("the full budget", CT_FULL_BUDGET, 19634135040u);
     expect("ceiling of no clause", ct_ceiling(0, 1, 1, told, 1), 0);
     expect("its value", told[0], 0);
     told[0] = 9;
@@ -345,7 +346,8 @@ int main(void) {
     expect("number", told[1], 7);
     expect("count", told[2], 6);
     expect("literals", witness[0] * 10u + witness[1], 12);
-    expect("positions", witness[CT_WITNESS_POSITIONS] * 10u + witness[CT_WITNESS_POSITIONS + 1], 35);
+    expect("positions", witness[8] * 10u + witness[9], 35);
+    expect("where they start", CT_WITNESS_POSITIONS, 8);
     expect("query without told", ct_query(tree, 24, asked, 6, 6, witness, CT_WITNESS_WORDS, NULL, 0), 0);
     expect("short budget", ct_query(tree, 24, asked, 6, 5, witness, CT_WITNESS_WORDS, told, 3), CT_SPENT);
     expect("spent count", told[0], 5);

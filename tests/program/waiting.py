@@ -1,14 +1,12 @@
 #!/usr/bin/env python3
-"""waiting.py interrupted|ceasing PAGE [ARGUMENT].., waiting.py stalling PAGE COUNT [ARGUMENT].., waiting.py terminal [ARGUMENT]..: runs the program with
-these arguments and a socket as its input or output, or a terminal as its input, and ends with its status.
+"""waiting.py interrupted|ceasing PAGE [ARGUMENT].., waiting.py stalling PAGE COUNT [ARGUMENT]..: runs the program with these arguments and a socket as its
+input or output, and ends with its status.
 
 A read of a socket that has a time limit ends with EINTR when the process is stopped and continued, though it handles no signal (signal(7)),
 and with EAGAIN when the time is up; so does a write to one whose buffer is full.
 `interrupted`: the program itself, stopped and continued several times before, within and after the page.
 `ceasing`: ./subsume; the page comes, and then nothing until the time is up.
-`stalling`: the program itself; COUNT bytes of its output are read, then nothing until it reports a failed write, then all that it wrote and still writes.
-`terminal`: ./subsume; at the terminal nothing is typed but the end of the input."""
-import os
+`stalling`: the program itself; COUNT bytes of its output are read, then nothing until it reports a failed write, then all that it wrote and still writes."""
 import pathlib
 import signal
 import socket
@@ -71,10 +69,4 @@ def stalling(page, count, *arguments):
     return process.wait()
 
 
-def terminal(*arguments):
-    ours, theirs = os.openpty()
-    os.write(ours, b"\x04")
-    return subprocess.run(["./subsume", *arguments], stdin=theirs).returncode
-
-
-sys.exit({"interrupted": interrupted, "ceasing": ceasing, "stalling": stalling, "terminal": terminal}[sys.argv[1]](*sys.argv[2:]))
+sys.exit({"interrupted": interrupted, "ceasing": ceasing, "stalling": stalling}[sys.argv[1]](*sys.argv[2:]))
