@@ -28,7 +28,7 @@ use Rattle.feeding.proofs.Blocks.{within_fewer, text_of}
 use Rattle.printing.specs.Handed.{meter_count, reads_made, write_failed, reads_ended, Holds, NextPiece, HandedOn}
 use Rattle.printing.proofs.Pieces.{stands_after}
 use Rattle.streaming.specs.Fed.{output_bytes, most_reads, block_bytes, may_read, FedSoFar}
-use Rattle.streaming.specs.Inner.Reading.{Readable, Delivered}
+use Rattle.streaming.specs.Inner.Reading.{Delivered}
 use Rattle.streaming.specs.Inner.Running.{Running}
 
 -- ---- before the first block
@@ -84,10 +84,7 @@ may_ended {M} {N} h e = go (eqb (write_failed N) 0) refl
 -- ---- one block more
 
 module _ {v : Setting} {s : Session} {m : Store} {M : List ℕ} (r : Running v s m M) (h : reads_made M < most_reads) where
-  -- it can be read, and fed
-  pub block_read : {input : List ℕ} → reads_ended M ≡ 0 → length input ≡ block_bytes → Readable input M
-  block_read g e = record { long = r.long; block = e; more = h; goes_on = g; few = r.read }
-
+  -- it can be fed
   pub block_ready : {k : ℕ} {o : List ℕ} → k ≤ block_bytes → output_bytes ≤ length o → Feedable m s.totals k 0 o
   unfolding longest_text
   block_ready l b =
