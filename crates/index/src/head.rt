@@ -27,8 +27,8 @@ pub(crate) fn walk_head(
     ensures { Walked (walk_row query.now (drop 1 words.now) budget here cells.old count)
         cells.old cells.new result }
 {
-    let head = query[here] as usize;
-    let at = heads[head] as usize;
+    let head = usize::from(query[here]);
+    let at = usize::from(heads[head]);
     if at == 0 {
         return Finding {
             end: End::Missed,

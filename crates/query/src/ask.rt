@@ -10,18 +10,11 @@ ghost use Rattle.walk.specs.Query as q;
 ghost use Rattle.walk.specs.Query.{witness_words};
 
 use crate::top::walk_top;
-use cells::{Path, wide};
+use cells::Path;
 use clause::{Clause, Shape};
 use tree::{Refusal, Tree};
 use walk::{QueryAnswer, Witness};
 use walking::{End, Finding};
-
-// A cell as a witness word.
-fn word(x: u8) -> u16
-    ensures { result ≡ x }
-{
-    x as u16
-}
 
 // Whether the cells have a witness word to show at a place.
 fn shows(cells: &[u8; Path::CELLS], i: usize) -> bool
@@ -29,9 +22,9 @@ fn shows(cells: &[u8; Path::CELLS], i: usize) -> bool
     ensures { get_or (q.shown (state_of no_position cells.now)) i none ≡ cond result (some (get_or cells.now i 0)) none }
 {
     if i < Clause::LITERALS {
-        i < wide(cells[Path::CHOSEN])
+        i < usize::from(cells[Path::CHOSEN])
     } else {
-        wide(cells[i]) != Path::NONE
+        usize::from(cells[i]) != Path::NONE
     }
 }
 
@@ -43,7 +36,7 @@ fn show(cells: &[u8; Path::CELLS], witness: &mut [u16])
     let mut i: usize = 0;
     while i < Witness::WORDS {
         if shows(cells, i) {
-            witness[i] = word(cells[i]);
+            witness[i] = u16::from(cells[i]);
         }
         i += 1;
     }
