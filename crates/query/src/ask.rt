@@ -14,7 +14,7 @@ use cells::Path;
 use clause::{Clause, Shape};
 use tree::{Refusal, Tree};
 use walk::{QueryAnswer, Witness};
-use walking::{End, Finding};
+use walking::End;
 
 // Whether the cells have a witness word to show at a place.
 fn shows(cells: &[u8; Path::CELLS], i: usize) -> bool
@@ -52,37 +52,35 @@ pub fn refusal(shape: Shape) -> Refusal
     }
 }
 
-// The answer that a finding comes to, without a witness. The caller is a query of this crate, or in the crate index query_indexed.
-pub fn told(finding: Finding, budget: u64) -> QueryAnswer
-    ensures { (W cells : List ℕ) → result ≡ (told_out budget W (out_by finding.end finding.count cells)).answer }
+// The answer that a walk comes to, without a witness. The caller is a query of this crate, or in the crate index query_indexed.
+pub fn told(found: Result<u64, End>, budget: u64) -> QueryAnswer
+    ensures { (W cells : List ℕ) → result ≡ (told_out budget W (out_by found cells)).answer }
 {
-    let end = finding.end;
-    let count = finding.count;
-    match end {
-        End::Missed => QueryAnswer::NotCovered(count),
-        End::Found(number) => QueryAnswer::Covered(number, count),
-        End::Broken => QueryAnswer::Unanswered(Refusal::Broken),
-        End::Spent => QueryAnswer::Unanswered(Refusal::Spent(budget)),
+    match found {
+        Ok(count) => QueryAnswer::NotCovered(count),
+        Err(End::Found(number, count)) => QueryAnswer::Covered(number, count),
+        Err(End::Broken) => QueryAnswer::Unanswered(Refusal::Broken),
+        Err(End::Spent) => QueryAnswer::Unanswered(Refusal::Spent(budget)),
     }
 }
 
-// The answer that a finding comes to; the witness is written where the tree covers the query.
+// The answer that a walk comes to; the witness is written where the tree covers the query.
 fn answer(
-    finding: Finding,
+    found: Result<u64, End>,
     budget: u64,
     cells: &[u8; Path::CELLS],
     witness: &mut [u16],
 ) -> QueryAnswer
     requires { (length cells.now ≡ cell_count) × (witness_words ≤ length witness.old) }
     ensures { record { answer = result; witness = witness.new }
-        ≡ told_out budget witness.old (out_by finding.end finding.count cells.now) }
+        ≡ told_out budget witness.old (out_by found cells.now) }
 {
-    let end = finding.end;
-    let End::Found(_) = end else {
-        return told(finding, budget);
-    };
-    show(cells, witness);
-    told(finding, budget)
+    if let Err(end) = found {
+        if let End::Found(_, _) = end {
+            show(cells, witness);
+        }
+    }
+    told(found, budget)
 }
 
 // Walks the used words of a slice from the state before the first candidate, and answers.

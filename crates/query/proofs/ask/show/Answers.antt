@@ -23,7 +23,7 @@ loop-i-preserved c =
     let os = shown (state_of no_position a.cells.now) in
     let q : c.if-shows.witness ≡ with_shown (take (i + 1) os) a.witness.now =
     elim c.if-shows.branch [
-      | then-shows w ↦ show_one os a.witness.now i (get_or a.cells.now i 0) s w.if-shows.true j.2 w.word.ensures w.witness-is
+      | then-shows w ↦ show_one os a.witness.now i (get_or a.cells.now i 0) s w.if-shows.true j.2 w.from.ensures w.witness-is
       | else-shows w ↦ show_none os a.witness.now i (get_or a.cells.now i 0) s w.if-shows.false j.2 w.witness-is
     ] in
     (search rules, ap (λ (l : List ℕ). length l) q ∙ length_with_shown (take (i + 1) os) a.witness.now, q)
