@@ -33,12 +33,10 @@ fn show(cells: &[u8; Path::CELLS], witness: &mut [u16])
     requires { (length cells.now ≡ cell_count) × (witness_words ≤ length witness.old) }
     ensures { witness.new ≡ q.with_shown (q.shown (state_of no_position cells.now)) witness.old }
 {
-    let mut i: usize = 0;
-    while i < Witness::WORDS {
+    for i in 0..Witness::WORDS {
         if shows(cells, i) {
             witness[i] = u16::from(cells[i]);
         }
-        i += 1;
     }
 }
 

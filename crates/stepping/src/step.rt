@@ -203,11 +203,7 @@ fn same_terms(query: &[u16], tables: &[u8; Clause::TABLES], p: usize, q: usize) 
 fn success(words: usize) -> Visit
     ensures { (head : ℕ) (l : List ℕ) → Visited head (met_success words head l) l l result }
 {
-    if words == 1 {
-        Visit::Hit
-    } else {
-        Visit::Stuck
-    }
+    if words == 1 { Visit::Hit } else { Visit::Stuck }
 }
 
 // A First tries the literals of the query that are not used, where there is a place for one candidate more.

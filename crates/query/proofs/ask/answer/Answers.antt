@@ -1,11 +1,10 @@
 -- `answer` meets its contract: where a clause is found the witness is shown, else it stays.
-use mathlib.Core.Path.{◌≡◌, refl, sym, ap, ◌∙◌}
+use mathlib.Core.Path.{◌≡◌, refl, ◌∙◌}
 use mathlib.Core.List.{List}
 use Prim.Native.Nat.{ℕ}
 use Rattle.std.specs.Prelude.{Result, Ok, Err}
 use Rattle.cells.specs.Inner.Cells.{no_position, state_of}
-use Rattle.walk.specs.Query.{Asked, shown, with_shown}
-use Rattle.walk.specs.declared.QueryAnswer.{QueryAnswer}
+use Rattle.walk.specs.Query.{shown, with_shown}
 use Rattle.walking.specs.declared.End.{End}
 use Rattle.walking.specs.declared.End.TheVariants.{Found, Broken, Spent}
 use Rattle.walking.specs.Inner.Findings.{out_by}

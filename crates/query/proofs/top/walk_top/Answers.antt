@@ -5,7 +5,7 @@ use mathlib.Core.List.{List}
 use Prim.Native.Nat.{ℕ, ◌<◌}
 use lib.ListN.{length, get_or}
 use Rattle.tree.specs.Laid.{extent_of}
-use Rattle.cells.specs.Inner.Cells.{state_of, restored}
+use Rattle.cells.specs.Inner.Cells.{state_of}
 use Rattle.machine.specs.Machine.{State}
 use Rattle.stepping.specs.Inner.Visits.{meeting, Visited}
 use Rattle.stepping.specs.declared.Visit.{Visit}
