@@ -11,7 +11,7 @@ use crate::striking::{keep, strike_back};
 use index::query_indexed;
 use machine::Sequence;
 use record::{Came, Outcome, Setting};
-use walk::QueryAnswer;
+use walk::Verdict;
 
 // Takes a record in that is not covered, by the setting.
 fn go_in(
@@ -55,15 +55,15 @@ pub fn answer(
     ensures indexed { Indexed tree.new heads.new }
 {
     match query_indexed(tree, heads, words, Budget::CANDIDATES) {
-        QueryAnswer::Unanswered(refusal) => Came {
+        Err(refusal) => Came {
             outcome: Outcome::Refused(refusal.code()),
             removed: 0,
         },
-        QueryAnswer::Covered(covering, candidates) => Came {
+        Ok(Verdict::Covered(covering, candidates)) => Came {
             outcome: Outcome::Struck(covering, candidates),
             removed: 0,
         },
-        QueryAnswer::NotCovered(_) => {
+        Ok(Verdict::NotCovered(_)) => {
             let came = go_in(setting, tree, marks, heads, keys, list, words, number);
             let outcome = came.outcome;
             let removed = came.removed;

@@ -11,14 +11,13 @@ ghost use Rattle.record.specs.Marks.{number_count, marked};
 ghost use Rattle.answering.specs.Inner.Steady.{Steady, CameOut};
 
 use crate::Budget;
-use backward::BackAnswer;
 use compiling::compile;
 use index::insert_below;
 use listing::list_known;
 use machine::Sequence;
 use record::{Came, Mark, Outcome};
 use replacing::replace;
-use tree::{CallAnswer, Refusal, Tree};
+use tree::{Refusal, Tree};
 
 // Inserts a record that is not covered. The caller's slice is the tree of some clauses, with the marks of its numbers and the index of its heads,
 // and the clause is accepted.
@@ -43,7 +42,7 @@ pub(crate) fn keep(
     let head = words[0] as usize;
     let at = heads[head] as usize;
     let answer = insert_below(tree, &keys[..count], number as u32, at);
-    let CallAnswer::Refused(refusal) = answer else {
+    let Err(refusal) = answer else {
         marks[mark] = Mark::TAKEN;
         return Outcome::Kept(Tree::used(tree[0]) as u64);
     };
@@ -100,16 +99,16 @@ pub(crate) fn strike_back(
         list.new tree.new marks.new }
 {
     match list_known(tree, words, Budget::CANDIDATES, list) {
-        BackAnswer::Unlisted(refusal) => Came {
+        Err(refusal) => Came {
             outcome: Outcome::Refused(refusal.code()),
             removed: 0,
         },
-        BackAnswer::Listed(count, _) => exchange(
+        Ok(listed) => exchange(
             tree,
             marks,
             heads,
             keys,
-            &list[..count],
+            &list[..listed.count],
             words,
             number,
         ),

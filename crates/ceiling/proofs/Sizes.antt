@@ -1,4 +1,5 @@
 -- The sizes that have a ceiling, and that no ceiling is over the full budget.
+use Rattle.std.specs.Prelude.{Err, Ok}
 use mathlib.Core.Path.{◌≡◌}
 use mathlib.Core.Bool.{Bool, ◌&&◌}
 use Prim.Native.Nat.{ℕ, ◌*◌, ◌≤◌}
@@ -10,7 +11,6 @@ use Rattle.clause.proofs.Tests.{and_l, and_r, T_false}
 use Rattle.tree.specs.Laid.{max_kept}
 use Rattle.walk.specs.Ceiling.{powers, full_budget, ceiling_call}
 use Rattle.walk.proofs.Bound.{powers_le}
-use Rattle.walk.specs.declared.CeilingAnswer.TheVariants.{NoCeiling, Ceiling}
 use Rattle.tree.specs.declared.Refusal.TheVariants.{BadSize}
 
 module _ (kept q m : ℕ) where
@@ -31,11 +31,11 @@ module _ (kept q m : ℕ) where
   )
 
   -- of other sizes the call refuses the ceiling
-  pub not_sized : (Sized → ⊥) → NoCeiling BadSize ≡ ceiling_call kept q m
+  pub not_sized : (Sized → ⊥) → Err BadSize ≡ ceiling_call kept q m
   not_sized h = rw (T_false sized_test (λ t. h (tested t)))
 
   -- of these it answers it
-  pub sized : Sized → {s : ℕ} → s ≡ powers q m → Ceiling (kept * s) ≡ ceiling_call kept q m
+  pub sized : Sized → {s : ℕ} → s ≡ powers q m → Ok (kept * s) ≡ ceiling_call kept q m
   sized (k, a, b, c, d) e = rw (le-leb kept max_kept k, le-leb 1 q a, le-leb q max_literals b, le-leb 1 m c, le-leb m max_literals d, e)
 
   -- and it is not over the full budget

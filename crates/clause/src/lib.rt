@@ -5,9 +5,6 @@ mod equality;
 mod tables;
 mod word;
 
-ghost use Rattle.std.specs.Prelude.{◌≡◌};
-ghost use Rattle.clause.specs.Clause.{fault_of};
-
 pub use equality::same;
 pub use word::arity;
 
@@ -17,25 +14,6 @@ pub enum Fault {
     BadLength,
     Bad(usize),
     Ninth(usize),
-}
-
-// What the reading of a clause finds: a fault, or a whole clause with its number of literals.
-#[derive(Drop)]
-pub enum Shape {
-    Faulty(Fault),
-    Whole(usize),
-}
-
-impl Shape {
-    // The fault, of a shape that has one.
-    pub fn fault(self) -> Fault
-        ensures { result ≡ fault_of self }
-    {
-        match self {
-            Shape::Faulty(fault) => fault,
-            Shape::Whole(_) => Fault::BadLength,
-        }
-    }
 }
 
 // An accepted clause's tables: where each literal starts, where the term at each position ends, how many right siblings it has,

@@ -9,7 +9,7 @@ ghost use Rattle.readback.specs.Readback.{instructions};
 ghost use Rattle.readback.specs.Saved.{has_keys, readable};
 ghost use Rattle.decompiling.specs.Inner.Reader.{Own, Origins, Counts, Names, Written};
 
-use clause::{Clause, Shape};
+use clause::Clause;
 use machine::{Key, Sequence};
 
 // What is read off the keys of a path: so many words of a clause, or that no clause has these keys.
@@ -179,10 +179,9 @@ fn has_keys(words: &[u16], keys: &[u64]) -> bool
     requires { length words.now ≤ max_words }
     ensures { result ≡ has_keys words.now keys.now }
 {
-    let shape = reading::read(words);
-    let Shape::Whole(_) = shape else {
+    if reading::read(words).is_err() {
         return false;
-    };
+    }
     let mut compiled = [0u64; Sequence::KEYS];
     let written = compiling::compile(words, &mut compiled);
     same_keys(&compiled[..written], keys)

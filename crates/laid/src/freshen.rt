@@ -2,7 +2,7 @@
 ghost use Rattle.std.specs.Prelude.{◌≡◌, length, replicate};
 ghost use Rattle.tree.specs.Calls as calls;
 
-use tree::{CallAnswer, Refusal, Tree};
+use tree::{Done, Refusal, Tree};
 
 // Writes 0 over every word.
 pub fn clear(words: &mut [u64])
@@ -14,13 +14,13 @@ pub fn clear(words: &mut [u64])
 }
 
 // Makes an empty tree of a slice of any words.
-pub fn fresh(tree: &mut [u64]) -> CallAnswer
+pub fn fresh(tree: &mut [u64]) -> Result<Done, Refusal>
     ensures { record { answer = result; slice = tree.new } ≡ calls.fresh tree.old }
 {
     if Tree::sized(tree.len()) {
         clear(tree);
-        CallAnswer::Ready
+        Ok(Done::Ready)
     } else {
-        CallAnswer::Refused(Refusal::BadSlice)
+        Err(Refusal::BadSlice)
     }
 }

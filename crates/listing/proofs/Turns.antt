@@ -1,4 +1,5 @@
 -- The turns of the loop over the cards: each clause is queried in the tree of the given one alone.
+use Rattle.std.specs.Prelude.{Err, Ok, Result}
 use mathlib.Core.Path.{◌≡◌, refl, sym, ap, ◌∙◌}
 use mathlib.Core.Bool.{true}
 use mathlib.Core.List.{List, [], ◌∷◌, ◌++◌, map}
@@ -18,12 +19,12 @@ use Rattle.tree.specs.Laid.{max_kept, sized, well_laid}
 use Rattle.tree.proofs.Words.{length_layout, laid_layout}
 use Rattle.tree.specs.Calls.{Called, insertion}
 use Rattle.tree.specs.declared.Refusal.{Refusal}
-use Rattle.tree.specs.declared.CallAnswer.{CallAnswer}
+use Rattle.tree.specs.declared.Done.{Done}
 use Rattle.walk.specs.Walk.{Answer, covered, not_covered}
 use Rattle.walk.specs.Walk as walk
 use Rattle.walk.specs.Query.{witness_words, Asked, answer_by, query}
-use Rattle.walk.specs.declared.QueryAnswer.{QueryAnswer}
-use Rattle.walk.specs.declared.QueryAnswer.TheVariants.{Unanswered, NotCovered, Covered}
+use Rattle.walk.specs.declared.Verdict.{Verdict}
+use Rattle.walk.specs.declared.Verdict.TheVariants.{NotCovered, Covered}
 use Rattle.backward.specs.Listing.{lone, tried, Listing, listed, overfull, spent, with_number, found, goes_on, list_from}
 use Rattle.backward.proofs.Lone.{Tries, subsuming, other, beyond, lone_mirrors, lone_leaves, lone_size, lone_insertion, lone_query, lone_tries}
 use Rattle.shelving.specs.Inner.Shelf.{number_of, slot_of, clause_in, pair_at, shelf_of, Slots, NamesSlot, AcceptedPair}
@@ -50,19 +51,19 @@ no_numbers (m ∷ ns) l f = ap (with_number m) (no_numbers ns l f) ∙ f m
 
 -- ---- the answer to a query, and the walk's
 
-covered_is : (b : ℕ) (W : List ℕ) (x : Answer State) {n k : ℕ} → Covered n k ≡ (answer_by b W x).answer → (s : State) × (x ≡ covered n s k)
+covered_is : (b : ℕ) (W : List ℕ) (x : Answer State) {n k : ℕ} → (Ok (Covered n k)) ≡ (answer_by b W x).answer → (s : State) × (x ≡ covered n s k)
 covered_is b W (covered m s j) {n = n} {k = k} e = let p : m ≡ n = cc in let q : j ≡ k = cc in (s, rw (p, q))
 covered_is b W (not_covered j) e = apart cc
 covered_is b W walk.spent e = apart cc
 covered_is b W walk.broken e = apart cc
 
-not_covered_is : (b : ℕ) (W : List ℕ) (x : Answer State) {k : ℕ} → NotCovered k ≡ (answer_by b W x).answer → x ≡ not_covered k
+not_covered_is : (b : ℕ) (W : List ℕ) (x : Answer State) {k : ℕ} → (Ok (NotCovered k)) ≡ (answer_by b W x).answer → x ≡ not_covered k
 not_covered_is b W (covered m s j) e = apart cc
 not_covered_is b W (not_covered j) {k = k} e = let q : j ≡ k = cc in rw q
 not_covered_is b W walk.spent e = apart cc
 not_covered_is b W walk.broken e = apart cc
 
-unanswered_is : {c d : List ℕ} (b : ℕ) (W : List ℕ) {x : Answer State} → Tries c d b x → {r : Refusal} → Unanswered r ≡ (answer_by b W x).answer → x ≡ walk.spent
+unanswered_is : {c d : List ℕ} (b : ℕ) (W : List ℕ) {x : Answer State} → Tries c d b x → {r : Refusal} → Err r ≡ (answer_by b W x).answer → x ≡ walk.spent
 unanswered_is b W (subsuming u p h) e = apart cc
 unanswered_is b W (other u p h) e = apart cc
 unanswered_is b W (beyond h) e = refl
@@ -104,7 +105,7 @@ pub record Asking (c cards ls R T : List ℕ) (len : ℕ) : Type 0 where
   pub tree : T ≡ layout 322 (lone c)
 
 -- the tree that the insertion makes
-pub lone_made : (c : List ℕ) → Accepted c → Words c → {r : CallAnswer} {T : List ℕ}
+pub lone_made : (c : List ℕ) → Accepted c → Words c → {r : Result Done Refusal} {T : List ℕ}
     → ◌≡◌ {A = Called} (record { answer = r; slice = T }) (insertion (replicate 322 0) c 0) → T ≡ layout 322 (lone c)
 lone_made c C w e = ap (λ (x : Called). x.slice) (e ∙ lone_insertion c C w 322 (omega arith) (omega arith) (omega (arith, lone_size c C w)))
 
@@ -174,7 +175,7 @@ module _ {c : List ℕ} {b : ℕ} {cards ls R T : List ℕ} {room len : ℕ} {ns
           clause_accepted,
         )
 
-    module _ {r : QueryAnswer} (q : r ≡ (query T (clause_in ls R slot) (b - k) (replicate witness_words 0)).answer) where
+    module _ {r : Result Verdict Refusal} (q : r ≡ (query T (clause_in ls R slot) (b - k) (replicate witness_words 0)).answer) where
       answered : r ≡ (answer_by (b - k) (replicate witness_words 0) outcome).answer
       unfolding outcome
       answered =
@@ -198,12 +199,12 @@ module _ {c : List ℕ} {b : ℕ} {cards ls R T : List ℕ} {room len : ℕ} {ns
           ∙ ap (λ x. with_numbers (take many ns) (goes_on (number_of card) (room - many) k x (list_from c b (shelf_of ls R (drop (i + 1) cards))))) e
 
       -- the budget is not enough
-      pub trying_spent : {e : Refusal} → r ≡ Unanswered e → CameTo (list_from c b (shelf_of ls R cards) room 0) room Spent ns
+      pub trying_spent : {e : Refusal} → r ≡ Err e → CameTo (list_from c b (shelf_of ls R cards) room 0) room Spent ns
       trying_spent u =
           goes_as (unanswered_is (b - k) (replicate witness_words 0) outcome_tries (sym u ∙ answered)) ∙ no_numbers (take many ns) spent (λ n. refl)
 
       -- it is not subsumed
-      module _ {j : ℕ} (u : r ≡ NotCovered j) where
+      module _ {j : ℕ} (u : r ≡ Ok (NotCovered j)) where
         is_other : outcome ≡ not_covered j
         is_other = not_covered_is (b - k) (replicate witness_words 0) outcome (sym u ∙ answered)
 
@@ -223,7 +224,7 @@ module _ {c : List ℕ} {b : ℕ} {cards ls R T : List ℕ} {room len : ℕ} {ns
             }
 
       -- it is
-      module _ {m j : ℕ} (u : r ≡ Covered m j) where
+      module _ {m j : ℕ} (u : r ≡ Ok (Covered m j)) where
         is_found : (s : State) × (outcome ≡ covered m s j)
         is_found = covered_is (b - k) (replicate witness_words 0) outcome (sym u ∙ answered)
 

@@ -8,17 +8,14 @@ ghost use Rattle.clause.specs.Lists.{All};
 ghost use Rattle.tree.specs.Laid.{max_kept};
 ghost use Rattle.readback.specs.Calls as calls;
 ghost use Rattle.readback.specs.Calls.{over};
-ghost use Rattle.readback.specs.declared.CheckAnswer.TheVariants.{Passed};
 ghost use Rattle.backward.specs.Calls as back;
 ghost use Rattle.backward.specs.Calls.{listed_in};
 ghost use Rattle.backward.specs.Listing.{list_from};
 ghost use Rattle.shelving.specs.Inner.Shelf.{Slots, NamesSlot, AcceptedPair, shelf_of};
 
-use backward::BackAnswer;
+use backward::Listed;
 use checking::check;
-use clause::Shape;
 use machine::Sequence;
-use readback::CheckAnswer;
 use reading::read;
 use shelving::{Shelf, shelve_tree};
 use tree::{Refusal, Tree};
@@ -64,7 +61,7 @@ fn list_cards(
     lengths: &[usize],
     rows: &[u16],
     list: &mut [u32],
-) -> BackAnswer
+) -> Result<Listed, Refusal>
     requires { Accepted clause.now × Slots lengths.now rows.now × All NamesSlot cards.now × (length cards.now ≤ max_kept)
         × All AcceptedPair (shelf_of lengths.now rows.now cards.now) }
     ensures { record { answer = result; list = list.new }
@@ -76,16 +73,19 @@ fn list_cards(
     match try_all(clause, budget, cards, lengths, rows, room, &mut numbers) {
         Tried::Found(many, candidates) => {
             write_numbers(&numbers[..many], list);
-            BackAnswer::Listed(many, candidates)
+            Ok(Listed {
+                count: many,
+                candidates,
+            })
         }
-        Tried::Overfull => BackAnswer::Unlisted(Refusal::ShortList),
-        Tried::Spent => BackAnswer::Unlisted(Refusal::Spent(budget)),
+        Tried::Overfull => Err(Refusal::ShortList),
+        Tried::Spent => Err(Refusal::Spent(budget)),
     }
 }
 
 // Lists the kept clauses that an accepted one subsumes, in a slice that the caller knows to pass the check.
-pub fn list_known(tree: &[u64], clause: &[u16], budget: u64, list: &mut [u32]) -> BackAnswer
-    requires { (calls.check tree.now ≡ Passed) × Accepted clause.now }
+pub fn list_known(tree: &[u64], clause: &[u16], budget: u64, list: &mut [u32]) -> Result<Listed, Refusal>
+    requires { (calls.check tree.now ≡ Ok tt) × Accepted clause.now }
     ensures { record { answer = result; list = list.new }
         ≡ back.backward tree.now clause.now budget list.old }
 {
@@ -97,19 +97,14 @@ pub fn list_known(tree: &[u64], clause: &[u16], budget: u64, list: &mut [u32]) -
 }
 
 // Lists the kept clauses that a clause subsumes, in a slice of any words.
-pub fn backward(tree: &[u64], clause: &[u16], budget: u64, list: &mut [u32]) -> BackAnswer
+pub fn backward(tree: &[u64], clause: &[u16], budget: u64, list: &mut [u32]) -> Result<Listed, Refusal>
     ensures { record { answer = result; list = list.new }
         ≡ back.backward tree.now clause.now budget list.old }
 {
     if !Tree::sized(tree.len()) {
-        return BackAnswer::Unlisted(Refusal::BadSlice);
+        return Err(Refusal::BadSlice);
     }
-    let shape = read(clause);
-    let Shape::Whole(_) = shape else {
-        return BackAnswer::Unlisted(Refusal::BadClause(shape.fault()));
-    };
-    match check(tree) {
-        CheckAnswer::Failed(refusal) => BackAnswer::Unlisted(refusal),
-        CheckAnswer::Passed => list_known(tree, clause, budget, list),
-    }
+    read(clause)?;
+    check(tree)?;
+    list_known(tree, clause, budget, list)
 }

@@ -14,10 +14,11 @@ use clause::Clause;
 use insertion::insert;
 use query::decide;
 use shelving::Card;
-use walk::QueryAnswer;
+use tree::Refusal;
+use walk::Verdict;
 
 // What a query of the clause of a card answers.
-fn ask(tree: &[u64], card: u64, lengths: &[usize], rows: &[u16], budget: u64) -> QueryAnswer
+fn ask(tree: &[u64], card: u64, lengths: &[usize], rows: &[u16], budget: u64) -> Result<Verdict, Refusal>
     requires { (sized tree.now ≡ true) × (well_laid tree.now ≡ true) × Slots lengths.now rows.now × NamesSlot card
         × Accepted (clause_in lengths.now rows.now (slot_of card)) }
     ensures { result ≡ (q.query tree.now (clause_in lengths.now rows.now (slot_of card)) budget
@@ -45,7 +46,7 @@ pub(crate) fn try_all(
         room result numbers.new }
 {
     let mut lone = [0u64; Lone::WORDS];
-    insert(&mut lone, clause, 0);
+    let _ = insert(&mut lone, clause, 0);
     let mut many = 0;
     let mut tried = 0;
     let mut i = 0;
@@ -53,13 +54,13 @@ pub(crate) fn try_all(
         let card = cards[i];
         let left = budget - tried;
         match ask(&lone, card, lengths, rows, left) {
-            QueryAnswer::Unanswered(_) => {
+            Err(_) => {
                 return Tried::Spent;
             }
-            QueryAnswer::NotCovered(count) => {
+            Ok(Verdict::NotCovered(count)) => {
                 tried += count;
             }
-            QueryAnswer::Covered(_, count) => {
+            Ok(Verdict::Covered(_, count)) => {
                 tried += count;
                 if many >= room {
                     return Tried::Overfull;

@@ -8,7 +8,7 @@ ghost use Rattle.tree.specs.Inner.ByWords.{insert_at};
 ghost use Rattle.merging.specs.Inner.Inserting.{holder_of, Nested, LeadsTo, Descending, Mergeable, Writable};
 
 use machine::Key;
-use tree::{CallAnswer, Refusal, Tree, extent, key, word};
+use tree::{Done, Refusal, Tree, extent, key, word};
 
 mod moves;
 
@@ -148,7 +148,7 @@ pub fn insert_at(
     number: u32,
     at: usize,
     shared: usize,
-) -> CallAnswer
+) -> Result<Done, Refusal>
     requires { Mergeable tree.old keys.now × (at ≤ length (region tree.old)) × (shared ≤ length keys.now) }
     ensures { record { answer = result; slice = tree.new }
         ≡ insert_at tree.old number at (drop shared keys.now) (from_top (region tree.old) keys.now).raised }
@@ -157,12 +157,12 @@ pub fn insert_at(
     let end = Tree::used(header) + 1;
     let new = keys.len() - shared + 1;
     if end + new > tree.len() {
-        return CallAnswer::Refused(Refusal::NoRoom);
+        return Err(Refusal::NoRoom);
     }
     raise(&mut tree[1..end], keys, new as u64);
     let from = at + 1;
     let to = end + new;
     put_in(&mut tree[from..to], &keys[shared..], number);
     tree[0] = Tree::one_more(header, new);
-    CallAnswer::Kept
+    Ok(Done::Kept)
 }

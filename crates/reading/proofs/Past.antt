@@ -1,4 +1,5 @@
 -- Reading past terms at a position of some words: one word, a term and then the rest of the clause.
+use Rattle.std.specs.Prelude.{Err, Result, ℕ}
 use mathlib.Core.Path.{◌≡◌, refl, sym, ap, ◌∙◌}
 use mathlib.Core.Bool.{true, false}
 use mathlib.Core.List.{List, [], ◌∷◌}
@@ -16,9 +17,8 @@ use Rattle.reading.specs.declared.Move.TheVariants.{To, Nowhere}
 use Rattle.reading.specs.declared.Passed.{Passed}
 use Rattle.reading.specs.declared.Passed.TheVariants.{At, Off}
 use Rattle.clause.specs.declared.Fault.TheVariants.{Bad}
-use Rattle.clause.specs.declared.Shape.{Shape}
-use Rattle.clause.specs.declared.Shape.TheVariants.{Faulty}
 use Rattle.clause.proofs.Apart.{apart}
+use Rattle.clause.specs.declared.Fault.{Fault}
 
 if-inside {ℓ} : {A : Type ℓ} (s : Sort) → is_inside s ≡ true → (a b : A) → if_inside s a b ≡ a
 if-inside symbol e a b = refl
@@ -107,9 +107,9 @@ drop_tail : (q : List ℕ) (at : ℕ) {w : ℕ} {ws : List ℕ} → drop at q �
 drop_tail q at e = rw (← add-one at) (sym (drop-drop 1 at q) ∙ ap (λ (l : List ℕ). drop 1 l) e)
 
 -- going on with the clause, b terms of the literal being still to come
-abbrev pub scan_on : List ℕ → (b lits : ℕ) → Passed → Shape
+abbrev pub scan_on : List ℕ → (b lits : ℕ) → Passed → Result ℕ Fault
 scan_on q b lits (At c) = scan (drop c.at q) b lits c.at
-scan_on q b lits (Off at) = Faulty (Bad at)
+scan_on q b lits (Off at) = Err (Bad at)
 
 -- the reading with a + b terms to come is past a terms and then on
 scan_split : (q ws : List ℕ) (a b lits at left : ℕ) → drop at q ≡ ws → scan ws (a + b) lits at ≡ scan_on q b lits (past_terms ws a at left)

@@ -1,4 +1,5 @@
 -- Reading a clause: at a literal's start, down to its arguments, past each of them and right to the next one.
+use Rattle.std.specs.Prelude.{Err, Ok, Result, ℕ}
 use mathlib.Core.Path.{◌≡◌, refl, sym, ◌∙◌}
 use mathlib.Core.Bool.{true, false}
 use mathlib.Core.List.{List, [], ◌∷◌}
@@ -16,13 +17,12 @@ use Rattle.reading.specs.declared.Move.{Move}
 use Rattle.reading.specs.declared.Move.TheVariants.{To, Nowhere}
 use Rattle.reading.specs.declared.Passed.TheVariants.{At, Off}
 use Rattle.clause.specs.declared.Fault.TheVariants.{BadLength, Bad, Ninth}
-use Rattle.clause.specs.declared.Shape.{Shape}
-use Rattle.clause.specs.declared.Shape.TheVariants.{Faulty, Whole}
 use Rattle.clause.proofs.Apart.{apart}
 use Rattle.reading.proofs.Past.{scan_past}
+use Rattle.clause.specs.declared.Fault.{Fault}
 
 -- the reading from a position on, where an argument with its right siblings or, with none, a literal is to come
-abbrev pub read_on : List ℕ → (at lits : ℕ) → Move → Shape
+abbrev pub read_on : List ℕ → (at lits : ℕ) → Move → Result ℕ Fault
 read_on q at lits Nowhere = scan (drop at q) 0 lits at
 read_on q at lits (To c) = scan (drop c.at q) (suc c.left) lits c.at
 
@@ -37,7 +37,7 @@ first_at (suc k) at c e = let z : record { at = at; left = k } ≡ c = cc in rw 
 
 -- past an argument, and right
 module _ (q : List ℕ) (c : Cursor) (lits : ℕ) where
-  pub read_off : (p : ℕ) → go_past q c ≡ Off p → read_on q c.at lits (To c) ≡ Faulty (Bad p)
+  pub read_off : (p : ℕ) → go_past q c ≡ Off p → read_on q c.at lits (To c) ≡ Err (Bad p)
   read_off p e = scan_past q c lits ∙ rw e
 
   pub read_right : (n : Cursor) → go_past q c ≡ At n → read_on q c.at lits (To c) ≡ read_on q n.at lits (go_right n.at c)
@@ -46,7 +46,7 @@ module _ (q : List ℕ) (c : Cursor) (lits : ℕ) where
 module _ (q : List ℕ) (at : ℕ) where
   module _ (lits : ℕ) where
     -- the end
-    pub scan_none : length q ≤ at → scan (drop at q) 0 lits at ≡ Whole lits
+    pub scan_none : length q ≤ at → scan (drop at q) 0 lits at ≡ Ok lits
     unfolding scan
     scan_none h = rw (drop_of_length-le q h)
 
@@ -56,11 +56,11 @@ module _ (q : List ℕ) (at : ℕ) where
       scan_here = rw (drop-cons q at 0)
 
       -- no head
-      pub scan_other : is_head (sort (get_or q at 0)) ≡ false → scan (drop at q) 0 lits at ≡ Faulty (Bad at)
+      pub scan_other : is_head (sort (get_or q at 0)) ≡ false → scan (drop at q) 0 lits at ≡ Err (Bad at)
       unfolding scan_word
       scan_other e = scan_here ∙ go (sort (get_or q at 0)) e
         where
-          go : (s : Sort) → is_head s ≡ false → scan_word s (arity (get_or q at 0)) 0 lits at (scan (drop (suc at) q)) ≡ Faulty (Bad at)
+          go : (s : Sort) → is_head s ≡ false → scan_word s (arity (get_or q at 0)) 0 lits at (scan (drop (suc at) q)) ≡ Err (Bad at)
           go symbol e = refl
           go variable e = refl
           go head e = cc
@@ -77,7 +77,7 @@ module _ (q : List ℕ) (at : ℕ) where
             go wrong e = cc
 
         -- a head after 8 literals
-        pub scan_ninth : max_literals ≤ lits → scan (drop at q) 0 lits at ≡ Faulty (Ninth at)
+        pub scan_ninth : max_literals ≤ lits → scan (drop at q) 0 lits at ≡ Err (Ninth at)
         unfolding scan_word
         scan_ninth h = scan_here ∙ rw (is_head_lem, le-ltb lits max_literals h)
 
@@ -89,12 +89,12 @@ module _ (q : List ℕ) (at : ℕ) where
 
 -- ---- the length
 
-pub shape_empty : (q : List ℕ) → length q ≡ 0 → shape q ≡ Faulty BadLength
+pub shape_empty : (q : List ℕ) → length q ≡ 0 → shape q ≡ Err BadLength
 unfolding shape
 shape_empty [] h = refl
 shape_empty (w ∷ ws) h = absurd (omega arith)
 
-pub shape_long : (q : List ℕ) → max_words < length q → shape q ≡ Faulty BadLength
+pub shape_long : (q : List ℕ) → max_words < length q → shape q ≡ Err BadLength
 unfolding shape
 shape_long [] h = absurd (omega arith)
 shape_long (w ∷ ws) h = rw (lt-ltb max_words (length (w ∷ ws)) h)

@@ -8,7 +8,7 @@ mod word;
 ghost use Rattle.std.specs.Prelude.{◌≡◌};
 ghost use Rattle.clause.specs.Clause.{scan, shape};
 
-use clause::{Clause, Fault, Shape};
+use clause::{Clause, Fault};
 pub use whole::is_whole;
 use word::is_head;
 
@@ -33,21 +33,21 @@ pub enum Passed {
     Off(usize),
 }
 
-// What the words are: a whole clause, or its first fault.
-pub fn read(words: &[u16]) -> Shape
+// How many literals the clause has that the words are, or its first fault.
+pub fn read(words: &[u16]) -> Result<usize, Fault>
     ensures { result ≡ shape words.now }
 {
     if words.len() == 0 {
-        return Shape::Faulty(Fault::BadLength);
+        return Err(Fault::BadLength);
     }
     if words.len() > Clause::WORDS {
-        return Shape::Faulty(Fault::BadLength);
+        return Err(Fault::BadLength);
     }
     literals(words)
 }
 
 // The literals one after another: a head, down to its first argument, past each argument and right to the next one.
-fn literals(words: &[u16]) -> Shape
+fn literals(words: &[u16]) -> Result<usize, Fault>
     ensures { result ≡ scan words.now 0 0 0 }
 {
     let mut at = 0;
@@ -57,19 +57,19 @@ fn literals(words: &[u16]) -> Shape
         if let Move::To(here) = argument {
             let passed = here.past(words);
             let Passed::At(next) = passed else {
-                return Shape::Faulty(Fault::Bad(passed.position()));
+                return Err(Fault::Bad(passed.position()));
             };
             at = next.at;
             argument = here.right(at);
         } else {
             if at >= words.len() {
-                return Shape::Whole(count);
+                return Ok(count);
             }
             if !is_head(words[at]) {
-                return Shape::Faulty(Fault::Bad(at));
+                return Err(Fault::Bad(at));
             }
             if count >= Clause::LITERALS {
-                return Shape::Faulty(Fault::Ninth(at));
+                return Err(Fault::Ninth(at));
             }
             argument = Cursor::head(at).down(words);
             at += 1;

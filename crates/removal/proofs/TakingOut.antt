@@ -1,4 +1,5 @@
 -- Words taken out of a well-laid slice in place, and that this is removal on the words.
+use Rattle.std.specs.Prelude.{Ok}
 use mathlib.Core.Path.{◌≡◌, refl, sym, ap, ap₂, subst, ◌∙◌}
 use mathlib.Core.List.{List, [], ◌∷◌, ◌++◌, append-nil, append_assoc}
 use mathlib.Core.Bool.{true}
@@ -18,7 +19,7 @@ use Rattle.tree.specs.Inner.Cut.{Span, locate, lower, cut}
 use Rattle.removal.specs.Inner.Close.{Lowerable, Removable, close_up, taken_out}
 use Rattle.tree.specs.Calls.{Called, refused}
 use Rattle.tree.specs.Inner.ByWords.{remove_by_words}
-use Rattle.tree.specs.declared.CallAnswer.TheVariants.{Removed}
+use Rattle.tree.specs.declared.Done.TheVariants.{Removed}
 use Rattle.tree.specs.declared.Refusal.TheVariants.{NoSuchNumber}
 use Rattle.tree.proofs.Grow.{rows_under, Tests, tests, zeros_replicated}
 use Rattle.tree.proofs.RemoveWords.{cut_parts}
@@ -158,7 +159,7 @@ removable (h ∷ ws) n s gone q u l w e =
 
 -- and this is removal
 pub removed : (t : List ℕ) (n : ℕ) (s : Span) → n < first_key → well_laid t ≡ true → some s ≡ scan t n
-    → ◌≡◌ {A = Called} (record { answer = Removed; slice = taken_out t s.place (s.last + 1 - s.place) }) (remove_by_words t n)
+    → ◌≡◌ {A = Called} (record { answer = Ok Removed; slice = taken_out t s.place (s.last + 1 - s.place) }) (remove_by_words t n)
 unfolding remove_by_words
 removed [] n s l w e = apart cc
 removed (h ∷ ws) n s l w e =

@@ -1,4 +1,5 @@
 -- Numbers removed and marks freed, one after another; a record inserted after removals.
+use Rattle.std.specs.Prelude.{Err, Ok, Result}
 use mathlib.Core.Path.{◌≡◌, refl, sym, ap, ◌∙◌}
 use mathlib.Core.List.{List, [], ◌∷◌, ◌++◌}
 use Prim.Native.Nat.{ℕ, zero, suc, ◌+◌, ◌≤◌, ◌<◌}
@@ -11,8 +12,8 @@ use Rattle.tree.specs.Laid.{used_of}
 use Rattle.tree.specs.Refusal.{code_of}
 use Rattle.tree.specs.Calls.{Called, insertion}
 use Rattle.tree.specs.declared.Refusal.{Refusal}
-use Rattle.tree.specs.declared.CallAnswer.{CallAnswer}
-use Rattle.tree.specs.declared.CallAnswer.TheVariants as call
+use Rattle.tree.specs.declared.Done.{Done}
+use Rattle.tree.specs.declared.Done.TheVariants as call
 use Rattle.record.specs.Answer.{Record, removals, entered_as, entered}
 use Rattle.record.specs.declared.Outcome.TheVariants.{Kept, Refused}
 use Rattle.record.specs.Marks.{number_count, freed, freeing}
@@ -72,7 +73,7 @@ module _ {ns old m : List ℕ} {i : ℕ} (g : Freeing ns old m i) where
 
 -- ---- a record inserted after removals, on a copy
 
-module _ (T ns : List ℕ) (x : Record) {U R : List ℕ} {a : CallAnswer} (u : U ≡ after T (removals ns))
+module _ (T ns : List ℕ) (x : Record) {U R : List ℕ} {a : Result Done Refusal} (u : U ≡ after T (removals ns))
     (w : ◌≡◌ {A = Called} (record { answer = a; slice = R }) (insertion U x.words x.number)) where
   -- by what the insertion answers
   enters : entered_as a ns R T ≡ entered ns T x
@@ -80,15 +81,15 @@ module _ (T ns : List ℕ) (x : Record) {U R : List ℕ} {a : CallAnswer} (u : U
   enters =
       ap (λ (r : Called). entered_as r.answer ns r.slice T) (w ∙ ap (λ (S : List ℕ). insertion S x.words x.number) u)
 
-  pub enters_refused : (f : Refusal) {code : ℕ} → a ≡ call.Refused f → code ≡ code_of f → record { outcome = Refused code; removed = take 0 ns; slice = T } ≡ entered ns T x
-  enters_refused f e c = rw c (sym (ap (λ (b : CallAnswer). entered_as b ns R T) e) ∙ enters)
+  pub enters_refused : (f : Refusal) {code : ℕ} → a ≡ Err f → code ≡ code_of f → record { outcome = Refused code; removed = take 0 ns; slice = T } ≡ entered ns T x
+  enters_refused f e c = rw c (sym (ap (λ (b : Result Done Refusal). entered_as b ns R T) e) ∙ enters)
 
-  pub enters_kept : ((f : Refusal) → a ≡ call.Refused f → ⊥) → {S : List ℕ} {used : ℕ} → S ≡ R → used ≡ used_of (get_or S 0 0)
+  pub enters_kept : ((f : Refusal) → a ≡ Err f → ⊥) → {S : List ℕ} {used : ℕ} → S ≡ R → used ≡ used_of (get_or S 0 0)
       → record { outcome = Kept used; removed = take (length ns) ns; slice = S } ≡ entered ns T x
   enters_kept h e v = rw (v, e, take_all (length ns) ns (omega arith)) (go a h ∙ enters)
     where
-      go : (b : CallAnswer) → ((f : Refusal) → b ≡ call.Refused f → ⊥) → record { outcome = Kept (used_of (get_or R 0 0)); removed = ns; slice = R } ≡ entered_as b ns R T
-      go (call.Refused f) n = absurd (n f refl)
-      go call.Ready n = refl
-      go call.Kept n = refl
-      go call.Removed n = refl
+      go : (b : Result Done Refusal) → ((f : Refusal) → b ≡ Err f → ⊥) → record { outcome = Kept (used_of (get_or R 0 0)); removed = ns; slice = R } ≡ entered_as b ns R T
+      go (Err f) n = absurd (n f refl)
+      go (Ok call.Ready) n = refl
+      go (Ok call.Kept) n = refl
+      go (Ok call.Removed) n = refl

@@ -10,7 +10,7 @@ ghost use Rattle.record.specs.Marks.{number_count, freeing, marked};
 use insertion::insert;
 use record::{Came, Lent, Mark, Outcome};
 use removal::remove;
-use tree::{CallAnswer, Tree};
+use tree::Tree;
 
 // Copies words over others, as many.
 fn copy(from: &[u64], to: &mut [u64])
@@ -30,7 +30,7 @@ fn remove_all(tree: &mut [u64], numbers: &[u32])
 {
     let mut i = 0;
     while i < numbers.len() {
-        remove(tree, numbers[i]);
+        let _ = remove(tree, numbers[i]);
         i += 1;
     }
 }
@@ -69,7 +69,7 @@ pub fn replace(
     copy(tree, &mut new);
     remove_all(&mut new, numbers);
     let answer = insert(&mut new, words, number as u32);
-    let CallAnswer::Refused(refusal) = answer else {
+    let Err(refusal) = answer else {
         copy(&new, tree);
         free(marks, numbers);
         let mark = number as usize;

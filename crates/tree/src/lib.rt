@@ -34,10 +34,9 @@ pub enum Refusal {
     ShortList,
 }
 
-// The answer to a call that changes a tree: "ready" of fresh, "kept" of insertion, "removed" of removal, or a refusal.
-#[derive(Drop)]
-pub enum CallAnswer {
-    Refused(Refusal),
+// What a call that changes a tree has done: "ready" of fresh, "kept" of insertion, "removed" of removal.
+#[derive(Clone, Copy)]
+pub enum Done {
     Ready,
     Kept,
     Removed,

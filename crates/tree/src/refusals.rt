@@ -1,6 +1,7 @@
 // The code of a refusal (docs/REFERENCE.md, "Calls").
 ghost use Rattle.std.specs.Prelude.{◌≡◌};
 ghost use Rattle.tree.specs.Refusal.{code_of};
+ghost use Rattle.tree.specs.declared.Refusal.TheVariants.{BadClause};
 
 use crate::Refusal;
 use clause::Fault;
@@ -13,6 +14,15 @@ fn fault_code(fault: Fault) -> u8
         Fault::BadLength => 3,
         Fault::Bad(_) => 4,
         Fault::Ninth(_) => 5,
+    }
+}
+
+impl From<Fault> for Refusal {
+    ghost from_gives = { λ fault refusal. refusal ≡ BadClause fault };
+
+    // A clause with a fault is refused.
+    fn from(fault: Fault) -> Refusal {
+        Refusal::BadClause(fault)
     }
 }
 
