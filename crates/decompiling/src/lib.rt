@@ -2,7 +2,6 @@
 #![tactic(auto)]
 
 ghost use Rattle.std.specs.Prelude.{◌≡◌, ◌≤◌, suc, length};
-ghost use Rattle.clause.specs.Lists.{alike};
 ghost use Rattle.clause.specs.Clause.{max_words};
 ghost use Rattle.machine.specs.Machine.{slots};
 ghost use Rattle.readback.specs.Readback.{instructions};
@@ -157,23 +156,6 @@ pub fn read_off(keys: &[u64], out: &mut [u16]) -> ReadOff
     write_words(keys, &origins, &counts, out)
 }
 
-// Whether two lists of keys are the same.
-fn same_keys(a: &[u64], b: &[u64]) -> bool
-    ensures { result ≡ alike a.now b.now }
-{
-    if a.len() != b.len() {
-        return false;
-    }
-    let mut i = 0;
-    while i < a.len() {
-        if a[i] != b[i] {
-            return false;
-        }
-        i += 1;
-    }
-    true
-}
-
 // Whether words are an accepted clause with these keys.
 fn has_keys(words: &[u16], keys: &[u64]) -> bool
     requires { length words.now ≤ max_words }
@@ -184,7 +166,7 @@ fn has_keys(words: &[u16], keys: &[u64]) -> bool
     }
     let mut compiled = [0u64; Sequence::KEYS];
     let written = compiling::compile(words, &mut compiled);
-    same_keys(&compiled[..written], keys)
+    &compiled[..written] == keys
 }
 
 // Whether keys are those of some clause: the clause read off them is accepted and has them.
