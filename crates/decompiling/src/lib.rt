@@ -161,9 +161,9 @@ fn has_keys(words: &[u16], keys: &[u64]) -> bool
     requires { length words.now ≤ max_words }
     ensures { result ≡ has_keys words.now keys.now }
 {
-    if reading::read(words).is_err() {
+    let Ok(_) = reading::read(words) else {
         return false;
-    }
+    };
     let mut compiled = [0u64; Sequence::KEYS];
     let written = compiling::compile(words, &mut compiled);
     &compiled[..written] == keys

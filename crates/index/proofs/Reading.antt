@@ -11,8 +11,9 @@ use Rattle.clause.proofs.Apart.{apart}
 use Rattle.reading.specs.Inner.Whole.{is_whole}
 use Rattle.tree.specs.declared.Refusal.{Refusal}
 use Rattle.tree.specs.Laid.{sized}
+use Rattle.tree.specs.declared.Refusal.TheVariants.{BadClause}
+use Rattle.walk.specs.declared.Verdict.{Verdict}
 use Rattle.walk.specs.Query.{witness_words, Asked, query}
-use Rattle.query.specs.Inner.Telling.{refusal_of}
 use Rattle.query.proofs.Asking.{query_fault}
 
 -- a clause is whole and so accepted, or it has a fault
@@ -23,13 +24,7 @@ whole_accepted d e t = go (shape d) (sym e ∙ t)
     go (Err f) e = apart cc
     go (Ok n) e = (n, refl)
 
-faulty_fault : (s : Result ℕ Fault) → is_whole s ≡ false → (f : Fault) × (s ≡ Err f)
-faulty_fault (Err f) e = (f, refl)
-faulty_fault (Ok n) e = apart cc
-
 -- which it is refused with, whatever the witness
-pub undecided : (T d : List ℕ) (b : ℕ) → sized T ≡ true → {w : Bool} → w ≡ is_whole (shape d) → w ≡ false → {s : Result ℕ Fault} {r : Refusal} → s ≡ shape d → r ≡ refusal_of s
-    → Err r ≡ (query T d b (replicate witness_words 0)).answer
-undecided T d b z e n h g =
-    let (f, i) = faulty_fault (shape d) (sym e ∙ n) in
-    ap (λ (x : Asked). x.answer) (query_fault T d b (replicate witness_words 0) (sym z) refl (h ∙ i) h g)
+pub undecided : (T d : List ℕ) (b : ℕ) → sized T ≡ true → {s : Result ℕ Fault} {f : Fault} {r : Result Verdict Refusal}
+    → s ≡ Err f → s ≡ shape d → r ≡ Err (BadClause f) → r ≡ (query T d b (replicate witness_words 0)).answer
+undecided T d b z g h e = ap (λ (x : Asked). x.answer) (query_fault T d b (replicate witness_words 0) (sym z) refl g h e)

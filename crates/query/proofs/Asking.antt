@@ -14,7 +14,7 @@ use Rattle.clause.specs.declared.Fault.{Fault}
 use Rattle.machine.specs.Machine.{State, initial, unfilled}
 use Rattle.machine.proofs.Safe.{initial_safe}
 use Rattle.tree.specs.declared.Refusal.{Refusal}
-use Rattle.tree.specs.declared.Refusal.TheVariants.{BadSlice, Broken, ShortWitness}
+use Rattle.tree.specs.declared.Refusal.TheVariants.{BadSlice, Broken, BadClause, ShortWitness}
 use Rattle.tree.specs.Laid.{used_of, region, sized, well_laid}
 use Rattle.tree.proofs.Grow.{sized_low, laid_room}
 use Rattle.walk.specs.declared.Verdict.{Verdict}
@@ -23,7 +23,7 @@ use Rattle.walk.specs.Words.{walk_words}
 use Rattle.walk.specs.Query.{witness_words, machine, Asked, unanswered, answer_by, walk_slice, query_as, query}
 use Rattle.cells.specs.Inner.Cells.{count_at, cell_count, no_position, position_in, placed, state_of, Tables, Walkable}
 use Rattle.walking.specs.Inner.Findings.{Out, seen}
-use Rattle.query.specs.Inner.Telling.{told_out, refusal_of}
+use Rattle.query.specs.Inner.Telling.{told_out}
 
 -- the cells before the first candidate
 abbrev pub fresh : List ℕ
@@ -68,9 +68,9 @@ module _ (S d : List ℕ) (b : ℕ) (W : List ℕ) where
     pub some_words : 2 ≤ length S
     some_words = let t : T (sized S) = rw (sym size ∙ good) tt in leb→le 2 (length S) (search (and_l, and_r))
 
-    pub query_fault : {s : Result ℕ Fault} {f : Fault} {r : Refusal} → s ≡ Err f → s ≡ shape d → r ≡ refusal_of s → unanswered r W ≡ query S d b W
-    unfolding refusal_of
-    query_fault g h e = rw (query_sized, e, sym h ∙ g, g)
+    pub query_fault : {s : Result ℕ Fault} {f : Fault} {r : Result Verdict Refusal} → s ≡ Err f → s ≡ shape d → r ≡ Err (BadClause f)
+        → record { answer = r; witness = W } ≡ query S d b W
+    query_fault g h e = rw (query_sized, e, sym h ∙ g)
 
     module _ {n : ℕ} (whole : shape d ≡ Ok n) where
       pub query_witness : length W < witness_words → unanswered ShortWitness W ≡ query S d b W

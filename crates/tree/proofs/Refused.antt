@@ -1,0 +1,9 @@
+-- What `?` hands on: a refusal.
+use Rattle.std.specs.Prelude.{Err, IsErrAnd, Result, ◌≡◌}
+use Rattle.std.proofs.Common.{◌∙◌, ap}
+use Rattle.std.proofs.lemmas.Result.{err_from_is_err_and}
+use Rattle.tree.specs.declared.Refusal.{Refusal}
+
+-- an error that is this refusal
+pub refused_as : {A : Type 0} (r : Result A Refusal) (f : Refusal) → IsErrAnd r (λ e. e ≡ f) → r ≡ Err f
+refused_as r f h = let (e, is, same) = err_from_is_err_and r h in is ∙ ap Err same
