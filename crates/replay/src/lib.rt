@@ -9,6 +9,7 @@ ghost use Rattle.book.specs.Claims.{Run, Reached, Demand1, Reach, Demand2, Deman
 ghost use Rattle.book.specs.Saved.{ReachSaved, PassedSaved, SavedIsMade, SavedDemand2, SavedDemand3, ReadsBook};
 ghost use Rattle.book.specs.Backward.{ListsBook};
 ghost use Rattle.tree.specs.Calls.{fresh};
+ghost use Rattle.tree.specs.declared.Done.TheVariants.{Ready};
 
 // The number of a call, upper half first. The caller has seen that its two words are there.
 fn number_at(calls: &[u16], at: usize) -> u32

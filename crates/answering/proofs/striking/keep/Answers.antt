@@ -47,12 +47,12 @@ pub returns-in_default : goal.returns-in_default
 returns-in_default c =
     let g = insertable c.args.number c.requires.0 c.requires.2 (λ i. omega (arith, c.type_inv.words i)) (omega (arith, c.ranges.number)) in
     record {
-      entered = keep_kept g (compiled_keys c.compile-count.ensures) c.insert_below-answer.ensures c.in_default.not-Refused c.used.ensures;
+      entered = keep_kept g (compiled_keys c.compile-count.ensures) c.insert_below-answer.ensures c.in_default.not-Err c.used.ensures;
       marking = refl;
     }
 
 pub returns : goal.returns
 returns c =
     let g = insertable c.args.number c.requires.0 c.requires.2 (λ i. omega (arith, c.type_inv.words i)) (omega (arith, c.ranges.number)) in
-    let w = c.in-Refused in
+    let w = c.in-Err in
     record { entered = keep_refused g (compiled_keys c.compile-count.ensures) c.insert_below-answer.ensures w.refusal w.is c.code-2.ensures; marking = refl }
