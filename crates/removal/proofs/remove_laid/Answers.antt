@@ -1,14 +1,8 @@
 -- `remove_laid` meets its contract: where the scan finds the number, its run is taken out, and else nothing is changed.
 use native.Mathlib.Omega.{arith}
-use Rattle.tree.proofs.Grow.{sized_low, sized_high, laid_room}
+use Rattle.tree.proofs.Grow.{sized_high, laid_room}
 use Rattle.removal.proofs.TakingOut.{hit_order, removable, removed, missed}
 use Rattle.removal.proofs.remove_laid.Goals as goal
-
-pub bounds-tree-0 : goal.bounds-tree-0
-bounds-tree-0 c = omega (arith, sized_low c.args.tree.now c.requires.0)
-
-pub overflow_add-end : goal.overflow_add-end
-overflow_add-end c = omega (arith, laid_room c.args.tree.now c.requires.1)
 
 pub slice_bounds-locate-end : goal.slice_bounds-locate-end
 slice_bounds-locate-end c = omega (arith, laid_room c.args.tree.now c.requires.1)
