@@ -17,6 +17,6 @@ list_known-requires c = (sym c.check.ensures ∙ c.in_ok-check.was, (_, sym c.re
 
 pub returns-in_err-check : goal.returns-in_err-check
 returns-in_err-check c =
-    rw (refused_as _ _ c.from_residual.ensures.1)
+    rw (refused_as _ _ c.from_residual-in_err-check.ensures.1)
     (sym (back_failed _ _ _ _ (sym c.sized.ensures ∙ c.if-not-sized.false) _ (sym c.read.ensures ∙ c.in_ok-read.was) _
     (sym c.check.ensures ∙ c.in_err-check.was)))

@@ -16,14 +16,14 @@ pub go_in-came-requires : goal.go_in-came-requires
 go_in-came-requires c =
     let a = c.args in
     let u = c.in-Ok-NotCovered in
-    (c.requires.0, c.requires.1, asked_accepted a.setting a.tree.now a.words.now a.number c.query_indexed.ensures _ (answer_as u.is (rw u.is at u.field-0-is)), c.requires.2)
+    (c.requires.0, c.requires.1, asked_accepted a.setting a.tree.now a.words.now a.number c.query_indexed.ensures _ (answer_as u.is u.field-0-is), c.requires.2)
 
 pub reindex-requires : goal.reindex-requires
 reindex-requires c =
     let a = c.args in
     let u = c.in-Ok-NotCovered in
     let w : Narrow (of a.words.now a.number) = (omega (arith, c.ranges.number), all_below (2 ^ 16) a.words.now (λ k. omega (arith, c.type_inv.words k))) in
-    let o = asked_in a.setting a.tree.now a.words.now a.number c.query_indexed.ensures (_ (answer_as u.is (rw u.is at u.field-0-is)) u) (answer_as u.is u.field-0-is) c.go_in-came.ensures in
+    let o = asked_in a.setting a.tree.now a.words.now a.number c.query_indexed.ensures (_ (answer_as u.is u.field-0-is) u) (answer_as u.is u.field-0-is) c.go_in-came.ensures in
     outdated a.setting c.requires.0 (of a.words.now a.number) w c.requires.1 o
 
 pub returns-in-Err : goal.returns-in-Err
@@ -36,13 +36,13 @@ pub returns-in-Ok-Covered : goal.returns-in-Ok-Covered
 returns-in-Ok-Covered c =
     let a = c.args in
     let u = c.in-Ok-Covered in
-    record { came = asked_struck a.setting a.tree.now a.words.now a.number c.query_indexed.ensures _ _ (answer_as u.is (rw u.is at u.field-0-is)); indexed = c.requires.1 }
+    record { came = asked_struck a.setting a.tree.now a.words.now a.number c.query_indexed.ensures _ _ (answer_as u.is u.field-0-is); indexed = c.requires.1 }
 
 pub returns-in-Ok-NotCovered : goal.returns-in-Ok-NotCovered
 returns-in-Ok-NotCovered c =
     let a = c.args in
     let u = c.in-Ok-NotCovered in
     record {
-      came = asked_in a.setting a.tree.now a.words.now a.number c.query_indexed.ensures (_ (answer_as u.is (rw u.is at u.field-0-is)) u) (answer_as u.is u.field-0-is) c.go_in-came.ensures;
+      came = asked_in a.setting a.tree.now a.words.now a.number c.query_indexed.ensures (_ (answer_as u.is u.field-0-is) u) (answer_as u.is u.field-0-is) c.go_in-came.ensures;
       indexed = c.reindex.ensures;
     }
