@@ -25,7 +25,7 @@ use Rattle.tree.specs.declared.Refusal.TheVariants.{NoSuchNumber}
 use Rattle.readback.proofs.Listed.{length_paths}
 use Rattle.readback.proofs.Laws.{Passing, check_passing, written_is}
 use Rattle.decompiling.specs.Inner.Reader.{Modest, Written}
-use Rattle.decompiling.specs.declared.ReadOff.TheVariants.{Words}
+use Rattle.std.specs.Prelude.{Ok}
 use Rattle.decompiling.proofs.Wording.{unreadable}
 use Rattle.checking.specs.Inner.Scan.{Nested, scan, are_clauses}
 use Rattle.checking.proofs.Scanning.{scan_paths, nested_forest}
@@ -105,7 +105,7 @@ module _ (T : List ℕ) (passed : check T ≡ Passed) where
     unfolding written_out
     read_none e = sym (found ∙ rw e)
 
-    pub read_some : (p : List ℕ) → first_with n (scan (lent T) 0 []) ≡ some p → (U : List ℕ) (k : ℕ) → Written p W (Words k) U
+    pub read_some : (p : List ℕ) → first_with n (scan (lent T) 0 []) ≡ some p → (U : List ℕ) (k : ℕ) → Written p W (Ok k) U
         → record { answer = Read k; output = U } ≡ read_back T n W
     unfolding written_out
     read_some p e U k (a, b, c) = sym (found ∙ rw (e, c, a))

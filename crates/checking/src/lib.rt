@@ -12,7 +12,7 @@ ghost use Rattle.readback.specs.declared.CheckAnswer.TheVariants.{Passed};
 ghost use Rattle.checking.specs.Inner.Scan.{Nested, scan, Gathers, are_clauses, Finds};
 
 use clause::Clause;
-use decompiling::{ReadOff, is_path, read_off};
+use decompiling::{is_path, read_off};
 use laid::well_laid;
 use machine::Sequence;
 use readback::{CheckAnswer, ReadAnswer};
@@ -152,7 +152,7 @@ pub fn read_known(tree: &[u64], number: u32, out: &mut [u16]) -> ReadAnswer
         return ReadAnswer::Unread(Refusal::NoSuchNumber);
     };
     let read = read_off(&keys[..depth], out);
-    let ReadOff::Words(count) = read else {
+    let Ok(count) = read else {
         return ReadAnswer::Unread(Refusal::NoSuchTree);
     };
     ReadAnswer::Read(count)

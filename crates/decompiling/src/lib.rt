@@ -99,7 +99,12 @@ fn word_of(x: u64, origins: &[u64], counts: &[u64]) -> Result<Option<u16>, Forei
 }
 
 // Writes the words that the keys stand for.
-fn write_words(keys: &[u64], origins: &[u64], counts: &[u64], out: &mut [u16]) -> Result<usize, Foreign>
+fn write_words(
+    keys: &[u64],
+    origins: &[u64],
+    counts: &[u64],
+    out: &mut [u16],
+) -> Result<usize, Foreign>
     requires { (length origins.now ≡ slots) × (length counts.now ≡ suc slots) × Origins (instructions keys.now) origins.now × Counts origins.now counts.now
         × (max_words ≤ length out.old) }
     ensures { Written keys.now out.old result out.new }
