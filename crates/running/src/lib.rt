@@ -56,7 +56,6 @@ pub fn run(
     let session = feed_all(
         rt, setting, input, tree, marks, counters, words, output, meters,
     );
-    let totals = session.totals;
-    write_totals(rt, setting, totals, output, meters);
-    write_tally(rt, totals.records, marks, counters, output, meters);
+    write_totals(rt, setting, session.totals, output, meters);
+    write_tally(rt, session.totals.records, marks, counters, output, meters);
 }
