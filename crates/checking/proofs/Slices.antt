@@ -1,5 +1,4 @@
 -- The used words of a well-laid slice, as the code lends them to the pass.
-use Rattle.std.specs.Prelude.{Ok}
 use mathlib.Core.Path.{◌≡◌, sym, ap, ◌∙◌}
 use mathlib.Core.Bool.{Bool, true, false, cond, true≢false, and-eq-true_iff}
 use mathlib.Core.Option.{none, some}
@@ -20,11 +19,13 @@ use Rattle.tree.proofs.Words.{region_layout}
 use Rattle.tree.proofs.Laws.{tree_laws}
 use Rattle.readback.specs.Saved.{readable, all_readable, of_clauses}
 use Rattle.readback.specs.Calls.{check, unread, written_out, read_back}
+use Rattle.readback.specs.declared.CheckAnswer.TheVariants.{Passed}
+use Rattle.readback.specs.declared.ReadAnswer.TheVariants.{Read}
 use Rattle.tree.specs.declared.Refusal.TheVariants.{NoSuchNumber}
 use Rattle.readback.proofs.Listed.{length_paths}
 use Rattle.readback.proofs.Laws.{Passing, check_passing, written_is}
 use Rattle.decompiling.specs.Inner.Reader.{Modest, Written}
-use Rattle.decompiling.specs.declared.ReadOff.TheVariants.{Words}
+use Rattle.std.specs.Prelude.{Ok}
 use Rattle.decompiling.proofs.Wording.{unreadable}
 use Rattle.checking.specs.Inner.Scan.{Nested, scan, are_clauses}
 use Rattle.checking.proofs.Scanning.{scan_paths, nested_forest}
@@ -79,7 +80,7 @@ found_readable n (d ∷ es) p r e = go (eqb d.number n) e (found_readable n es p
     go true e ih = let q : d.keys ≡ p = cc in rw q at both.0
     go false e ih = ih both.1 e
 
-module _ (T : List ℕ) (passed : check T ≡ Ok tt) where
+module _ (T : List ℕ) (passed : check T ≡ Passed) where
   passing : Passing T
   passing = check_passing T passed
 
@@ -104,7 +105,7 @@ module _ (T : List ℕ) (passed : check T ≡ Ok tt) where
     unfolding written_out
     read_none e = sym (found ∙ rw e)
 
-    pub read_some : (p : List ℕ) → first_with n (scan (lent T) 0 []) ≡ some p → (U : List ℕ) (k : ℕ) → Written p W (Words k) U
-        → record { answer = Ok k; output = U } ≡ read_back T n W
+    pub read_some : (p : List ℕ) → first_with n (scan (lent T) 0 []) ≡ some p → (U : List ℕ) (k : ℕ) → Written p W (Ok k) U
+        → record { answer = Read k; output = U } ≡ read_back T n W
     unfolding written_out
     read_some p e U k (a, b, c) = sym (found ∙ rw (e, c, a))

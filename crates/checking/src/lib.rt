@@ -8,12 +8,14 @@ ghost use Rattle.machine.specs.Compiled.{max_keys};
 ghost use Rattle.tree.specs.Laid.{max_kept};
 ghost use Rattle.readback.specs.Saved.{all_readable};
 ghost use Rattle.readback.specs.Calls as calls;
+ghost use Rattle.readback.specs.declared.CheckAnswer.TheVariants.{Passed};
 ghost use Rattle.checking.specs.Inner.Scan.{Nested, scan, Gathers, are_clauses, Finds};
 
 use clause::Clause;
-use decompiling::{ReadOff, is_path, read_off};
+use decompiling::{is_path, read_off};
 use laid::well_laid;
 use machine::Sequence;
+use readback::{CheckAnswer, ReadAnswer};
 use tree::{Refusal, Tree, key};
 
 mod going;
@@ -122,50 +124,52 @@ fn path_to(words: &[u64], number: u32, keys: &mut [u64]) -> Found
 }
 
 // Checks a slice of any words: whether it is the tree of some clauses, or of none, under different numbers.
-pub fn check(tree: &[u64]) -> Result<(), Refusal>
+pub fn check(tree: &[u64]) -> CheckAnswer
     ensures { result ≡ calls.check tree.now }
 {
     if !Tree::sized(tree.len()) {
-        return Err(Refusal::BadSlice);
+        return CheckAnswer::Failed(Refusal::BadSlice);
     }
     if !well_laid(tree) {
-        return Err(Refusal::Broken);
+        return CheckAnswer::Failed(Refusal::Broken);
     }
     let end = Tree::used(tree[0]) + 1;
     if !of_clauses(&tree[1..end]) {
-        return Err(Refusal::NoSuchTree);
+        return CheckAnswer::Failed(Refusal::NoSuchTree);
     }
-    Ok(())
+    CheckAnswer::Passed
 }
 
 // Reads the clause with a number back out of a slice that the caller knows to pass the check.
-pub fn read_known(tree: &[u64], number: u32, out: &mut [u16]) -> Result<usize, Refusal>
-    requires { (calls.check tree.now ≡ Ok tt) × (max_words ≤ length out.old) }
+pub fn read_known(tree: &[u64], number: u32, out: &mut [u16]) -> ReadAnswer
+    requires { (calls.check tree.now ≡ Passed) × (max_words ≤ length out.old) }
     ensures { record { answer = result; output = out.new } ≡ calls.read_back tree.now number out.old }
 {
     let end = Tree::used(tree[0]) + 1;
     let mut keys = [0u64; Sequence::KEYS];
     let found = path_to(&tree[1..end], number, &mut keys);
     let Found::At(depth) = found else {
-        return Err(Refusal::NoSuchNumber);
+        return ReadAnswer::Unread(Refusal::NoSuchNumber);
     };
     let read = read_off(&keys[..depth], out);
-    let ReadOff::Words(count) = read else {
-        return Err(Refusal::NoSuchTree);
+    let Ok(count) = read else {
+        return ReadAnswer::Unread(Refusal::NoSuchTree);
     };
-    Ok(count)
+    ReadAnswer::Read(count)
 }
 
 // Reads the clause with a number back out of a slice of any words.
-pub fn read_back(tree: &[u64], number: u32, out: &mut [u16]) -> Result<usize, Refusal>
+pub fn read_back(tree: &[u64], number: u32, out: &mut [u16]) -> ReadAnswer
     ensures { record { answer = result; output = out.new } ≡ calls.read_back tree.now number out.old }
 {
     if !Tree::sized(tree.len()) {
-        return Err(Refusal::BadSlice);
+        return ReadAnswer::Unread(Refusal::BadSlice);
     }
     if out.len() < Clause::WORDS {
-        return Err(Refusal::ShortOutput);
+        return ReadAnswer::Unread(Refusal::ShortOutput);
     }
-    check(tree)?;
-    read_known(tree, number, out)
+    match check(tree) {
+        CheckAnswer::Failed(refusal) => ReadAnswer::Unread(refusal),
+        CheckAnswer::Passed => read_known(tree, number, out),
+    }
 }

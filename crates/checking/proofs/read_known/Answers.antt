@@ -27,4 +27,4 @@ returns-in_default-read c =
 pub returns : goal.returns
 returns c =
     let p = rw c.used-end.ensures at c.in-At.ensures in
-    read_some _ c.requires.0 _ (omega arith) _ c.requires.1 _ p.1 _ _ c.in-Words.ensures
+    read_some _ c.requires.0 _ (omega arith) _ c.requires.1 _ p.1 _ _ c.in-Ok.ensures
