@@ -2,12 +2,12 @@
 use mathlib.Core.Path.{◌≡◌, refl, sym, ◌∙◌}
 use mathlib.Core.Bool.{Bool, true, false, not, ◌&&◌, ◌||◌}
 use mathlib.Core.List.{List, [], ◌∷◌}
-use Prim.Native.Nat.{ℕ, suc, ◌+◌, ◌-◌, ◌≤◌, ◌<◌}
+use Prim.Native.Nat.{ℕ, suc, ◌+◌, ◌-◌, ◌<◌}
 use native.Mathlib.Omega.{arith}
 use native.Mathlib.Numerals.{add-one}
 use native.Mathlib.Decide.{ℕ_discrete}
 use lib.Dec.{eqb}
-use lib.ListN.{length, get_or, take, drop, length-drop, drop_of_length-le}
+use lib.ListN.{length, get_or, take, drop, length-drop}
 use lib.Seq.{drop-cons, take_all}
 use borrow.Author.Tests.{ne_eqb}
 use Rattle.std.specs.List.{list_any}
@@ -49,6 +49,3 @@ module _ (ns : List ℕ) (i : ℕ) (h : i < length ns) where
 
   pub differ_next : again ≡ false → all_differ (drop i ns) ≡ all_differ (drop (i + 1) ns)
   differ_next e = differ_here ∙ rw e refl
-
-pub differ_end : (ns : List ℕ) (i : ℕ) → length ns ≤ i → all_differ (drop i ns) ≡ true
-differ_end ns i h = rw (drop_of_length-le ns h)

@@ -3,6 +3,7 @@ ghost use Rattle.std.specs.Prelude.{◌≡◌};
 ghost use Rattle.readback.specs.Saved.{all_differ};
 
 // Whether numbers differ.
+#[tactic(auto, using(crate::proofs::Differing::differ_found, crate::proofs::Differing::differ_next))]
 pub(crate) fn all_differ(numbers: &[u32]) -> bool
     ensures { result ≡ all_differ numbers.now }
 {
