@@ -13,19 +13,7 @@ use machine::{Key, Sequence};
 
 // That no clause has some keys.
 #[derive(Clone, Copy)]
-pub struct Foreign {}
-
-// The operations of a key that tell the words of a clause.
-#[derive(Drop)]
-struct Operation {}
-
-impl Operation {
-    const PUT: u64 = Key::PUT / Key::OPERANDS;
-
-    const CHECK: u64 = Key::CHECK / Key::OPERANDS;
-
-    const COMPARE: u64 = Key::COMPARE / Key::OPERANDS;
-}
+pub struct Foreign;
 
 // Each put is its own origin at first, the first put of its variable.
 fn start_origins(origins: &mut [u64])
@@ -44,7 +32,7 @@ fn note_origins(keys: &[u64], origins: &mut [u64])
 {
     for i in (0..keys.len()).rev() {
         let x = keys[i];
-        if x / Key::OPERANDS == Operation::COMPARE {
+        if Key::COMPARE <= x && x < Key::END {
             let k = (x % Key::PAIR) as usize;
             if k < Sequence::NUMBERS {
                 origins[k] = x % Key::OPERANDS / Key::PAIR;
@@ -73,29 +61,28 @@ fn word_of(x: u64, origins: &[u64], counts: &[u64]) -> Result<Option<u16>, Forei
     requires { (length origins.now ≡ slots) × (length counts.now ≡ suc slots) × Counts origins.now counts.now }
     ensures { Names origins.now counts.now x result }
 {
-    let op = x / Key::OPERANDS;
     let operand = x % Key::OPERANDS;
-    if op == Operation::CHECK {
-        if operand < Clause::VALUES {
-            let word = operand as u16;
-            return Ok(Some(word));
+    match x {
+        Key::CHECK..Key::COMPARE => {
+            if operand >= Clause::VALUES {
+                return Err(Foreign);
+            }
+            Ok(Some(operand as u16))
         }
-        return Err(Foreign {});
+        Key::PUT..Key::PUSH => {
+            if operand >= Sequence::NUMBERS as u64 {
+                return Err(Foreign);
+            }
+            let m = origins[operand as usize];
+            if m >= Sequence::NUMBERS as u64 {
+                return Err(Foreign);
+            }
+            let number = counts[m as usize];
+            let variable = Clause::VARIABLE + number;
+            Ok(Some(variable as u16))
+        }
+        _ => Ok(None),
     }
-    if op == Operation::PUT {
-        if operand >= Sequence::NUMBERS as u64 {
-            return Err(Foreign {});
-        }
-        let m = origins[operand as usize];
-        if m >= Sequence::NUMBERS as u64 {
-            return Err(Foreign {});
-        }
-        let number = counts[m as usize];
-        let variable = Clause::VARIABLE + number;
-        let word = variable as u16;
-        return Ok(Some(word));
-    }
-    Ok(None)
 }
 
 // Writes the words that the keys stand for.
@@ -113,7 +100,7 @@ fn write_words(
     for &key in keys {
         if let Some(word) = word_of(key, origins, counts)? {
             if count >= Clause::WORDS {
-                return Err(Foreign {});
+                return Err(Foreign);
             }
             out[count] = word;
             count += 1;
