@@ -1,9 +1,8 @@
 // The clause read off the keys of a path, and whether some clause has these keys: the way back from `compiling`.
 #![tactic(auto)]
 
-ghost use Rattle.std.specs.Prelude.{◌≡◌, ◌≤◌, suc, length};
+ghost use Rattle.std.specs.Prelude.{◌≡◌, ◌≤◌, length};
 ghost use Rattle.clause.specs.Clause.{max_words};
-ghost use Rattle.machine.specs.Machine.{slots};
 ghost use Rattle.readback.specs.Readback.{instructions};
 ghost use Rattle.readback.specs.Saved.{has_keys, readable};
 ghost use Rattle.decompiling.specs.Inner.Reader.{Own, Origins, Counts, Names, Written};
@@ -15,9 +14,11 @@ use machine::{Key, Sequence};
 #[derive(Clone, Copy)]
 pub struct Foreign;
 
+// How many entries the table of the first puts has: one for each put, and one for all of them.
+const COUNTS: usize = Sequence::NUMBERS + 1;
+
 // Each put is its own origin at first, the first put of its variable.
-fn start_origins(origins: &mut [u64])
-    requires { length origins.old ≡ slots }
+fn start_origins(origins: &mut [u64; Sequence::NUMBERS])
     ensures { Own origins.new }
 {
     for k in 0..Sequence::NUMBERS {
@@ -26,8 +27,8 @@ fn start_origins(origins: &mut [u64])
 }
 
 // Notes for each put the one that the first Compare of it names.
-fn note_origins(keys: &[u64], origins: &mut [u64])
-    requires { (length origins.old ≡ slots) × Own origins.old }
+fn note_origins(keys: &[u64], origins: &mut [u64; Sequence::NUMBERS])
+    requires { Own origins.old }
     ensures { Origins (instructions keys.now) origins.new }
 {
     for i in (0..keys.len()).rev() {
@@ -42,8 +43,7 @@ fn note_origins(keys: &[u64], origins: &mut [u64])
 }
 
 // Counts the puts that are the first of their variable.
-fn note_counts(origins: &[u64], counts: &mut [u64])
-    requires { (length origins.now ≡ slots) × (length counts.old ≡ suc slots) }
+fn note_counts(origins: &[u64; Sequence::NUMBERS], counts: &mut [u64; COUNTS])
     ensures { Counts origins.now counts.new }
 {
     let mut firsts = 0;
@@ -57,8 +57,12 @@ fn note_counts(origins: &[u64], counts: &mut [u64])
 }
 
 // The word that a key stands for, if it does: a Check's own, and for a Put the variable numbered by how many new ones stand before the first put of it.
-fn word_of(x: u64, origins: &[u64], counts: &[u64]) -> Result<Option<u16>, Foreign>
-    requires { (length origins.now ≡ slots) × (length counts.now ≡ suc slots) × Counts origins.now counts.now }
+fn word_of(
+    x: u64,
+    origins: &[u64; Sequence::NUMBERS],
+    counts: &[u64; COUNTS],
+) -> Result<Option<u16>, Foreign>
+    requires { Counts origins.now counts.now }
     ensures { Names origins.now counts.now x result }
 {
     let operand = x % Key::OPERANDS;
@@ -88,12 +92,11 @@ fn word_of(x: u64, origins: &[u64], counts: &[u64]) -> Result<Option<u16>, Forei
 // Writes the words that the keys stand for.
 fn write_words(
     keys: &[u64],
-    origins: &[u64],
-    counts: &[u64],
+    origins: &[u64; Sequence::NUMBERS],
+    counts: &[u64; COUNTS],
     out: &mut [u16],
 ) -> Result<usize, Foreign>
-    requires { (length origins.now ≡ slots) × (length counts.now ≡ suc slots) × Origins (instructions keys.now) origins.now × Counts origins.now counts.now
-        × (max_words ≤ length out.old) }
+    requires { Origins (instructions keys.now) origins.now × Counts origins.now counts.now × (max_words ≤ length out.old) }
     ensures { Written keys.now out.old result out.new }
 {
     let mut count = 0;
@@ -115,7 +118,7 @@ pub fn read_off(keys: &[u64], out: &mut [u16]) -> Result<usize, Foreign>
     ensures { Written keys.now out.old result out.new }
 {
     let mut origins = [0u64; Sequence::NUMBERS];
-    let mut counts = [0u64; Sequence::NUMBERS + 1];
+    let mut counts = [0u64; COUNTS];
     start_origins(&mut origins);
     note_origins(keys, &mut origins);
     note_counts(&origins, &mut counts);

@@ -21,12 +21,12 @@ returns-then-m c = let a = c.args in outside_origin a.origins.now a.counts.now a
 pub overflow_add-variable : goal.overflow_add-variable
 overflow_add-variable c =
     let m = get_or c.args.origins.now (c.args.x % 2 ^ 32) 0 in
-    omega (arith, number_low c.args.origins.now c.args.counts.now m c.requires.2 (omega (arith, c.if-m.false)))
+    omega (arith, number_low c.args.origins.now c.args.counts.now m c.requires (omega (arith, c.if-m.false)))
 
 pub overflow_cast-result : goal.overflow_cast-result
 overflow_cast-result c =
     let m = get_or c.args.origins.now (c.args.x % 2 ^ 32) 0 in
-    omega (arith, number_low c.args.origins.now c.args.counts.now m c.requires.2 (omega (arith, c.if-m.false)))
+    omega (arith, number_low c.args.origins.now c.args.counts.now m c.requires (omega (arith, c.if-m.false)))
 
 pub returns-else-m : goal.returns-else-m
 unfolding variable_word
