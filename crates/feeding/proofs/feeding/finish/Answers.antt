@@ -41,18 +41,16 @@ put_line-next-requires c =
     let p = c.put_removals-place in
     line_room a.turn.next (removed_many e) (removed_few e) c.requires.0.room p.ensures.short p.auto.output
 
-pub count_outcome-after-requires : goal.count_outcome-after-requires
-count_outcome-after-requires c =
+pub count_outcome-totals-requires : goal.count_outcome-totals-requires
+count_outcome-totals-requires c =
     let a = c.args in
     let e = came a.setting a.heading c.requires.0 (omega (arith, c.well_formed)) (λ i. omega (arith, c.type_inv.words i)) c.outcome_of-came.ensures.came in
     (c.requires.0.counts, removed_few e)
 
-pub returns : goal.returns
-returns c =
+pub returns-clause-took : goal.returns-clause-took
+returns-clause-took c =
     let a = c.args in
     let e = came a.setting a.heading c.requires.0 (omega (arith, c.well_formed)) (λ i. omega (arith, c.type_inv.words i)) c.outcome_of-came.ensures.came in
     let p = c.put_removals-place.ensures in
-    let q = c.put_line-next.ensures in record {
-      took = finishes e a.output.now a.turn.next c.count_strike.ensures c.count_outcome-after.ensures p.text p.short q.text q.short;
-      indexed = c.outcome_of-came.ensures.indexed;
-    }
+    let q = c.put_line-next.ensures in
+    finishes e a.output.now a.turn.next c.count_strike.ensures c.count_outcome-totals.ensures p.text p.short q.text q.short
