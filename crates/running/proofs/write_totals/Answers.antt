@@ -1,12 +1,12 @@
 -- The totals are in the output, and handed on.
 use mathlib.Core.Path.{sym, subst}
 use mathlib.Core.List.{List}
-use Prim.Native.Nat.{ℕ, ◌≤◌}
+use Prim.Native.Nat.{ℕ}
 use native.Mathlib.Omega.{arith}
 use borrow.Author.Rules.{rules}
 use lib.ListN.{length, length-take}
 use lib.Seq.{length-take-le}
-use Rattle.record.specs.Line.{longest_totals, totals_line}
+use Rattle.record.specs.Line.{totals_line}
 use Rattle.lines.proofs.Writing.{on_page}
 use Rattle.printing.specs.Handed.{NextPiece, HandedOn}
 use Rattle.printing.proofs.Pieces.{text_put}
