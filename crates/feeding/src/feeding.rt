@@ -15,7 +15,7 @@ use crate::Turn;
 use answering::Book;
 use clause::{Clause, Fault};
 use intake::{Half, Heading, Next, Session, Stage, read_some};
-use lines::{put_line, put_removals};
+use lines::Page;
 use record::{Came, Outcome, Setting, Totals};
 use tallying::count_strike;
 use tree::{Refusal, Tree};
@@ -93,8 +93,13 @@ fn finish(
 {
     let came = outcome_of(setting, heading, book, list, words);
     count_strike(counters, came.outcome);
-    let place = put_removals(output, turn.next, heading.number, &list[..came.removed]);
-    let next = put_line(output, place, heading.number, came.outcome);
+    let mut page = Page {
+        bytes: output,
+        at: turn.next,
+    };
+    page.put_removals(heading.number, &list[..came.removed]);
+    page.put_line(heading.number, came.outcome);
+    let next = page.at;
     let totals = count_outcome(turn.session.totals, &came);
     Turn {
         session: Session {

@@ -29,7 +29,6 @@ pub fn insert_below(tree: &mut [u64], keys: &[u64], number: u32, at: usize) -> R
     if at == 0 {
         return insert_new(tree, keys, number);
     }
-    let end = Tree::used(tree[0]) + 1;
-    let place = place_below(&tree[1..end], keys, at);
+    let place = place_below(Tree::region(tree), keys, at);
     insert_placed(tree, keys, number, place)
 }

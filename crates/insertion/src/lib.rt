@@ -40,8 +40,7 @@ pub fn insert_new(tree: &mut [u64], keys: &[u64], number: u32) -> Result<Done, R
     ensures { record { answer = result; slice = tree.new }
         ≡ insert_by_words tree.old (record { number = number; keys = keys.now }) }
 {
-    let end = Tree::used(tree[0]) + 1;
-    let place = place_of(&tree[1..end], keys);
+    let place = place_of(Tree::region(tree), keys);
     insert_placed(tree, keys, number, place)
 }
 
@@ -58,8 +57,7 @@ fn taken(tree: &[u64], number: u32) -> bool
     requires { (sized tree.now ≡ true) × (well_laid tree.now ≡ true) }
     ensures { result ≡ is_some (locate (region tree.now) number 0 0 0) }
 {
-    let end = Tree::used(tree[0]) + 1;
-    has_number(&tree[1..end], number)
+    has_number(Tree::region(tree), number)
 }
 
 // Inserts a sequence under any number. The caller holds the slice well laid.

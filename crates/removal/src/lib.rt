@@ -76,8 +76,7 @@ fn remove_laid(tree: &mut [u64], number: u32) -> Result<Done, Refusal>
     requires { (sized tree.old ≡ true) × (well_laid tree.old ≡ true) }
     ensures { record { answer = result; slice = tree.new } ≡ remove_by_words tree.old number }
 {
-    let end = Tree::used(tree[0]) + 1;
-    let Some(run) = locate(&tree[1..end], number) else {
+    let Some(run) = locate(Tree::region(tree), number) else {
         return Err(Refusal::NoSuchNumber);
     };
     let place = run.place;

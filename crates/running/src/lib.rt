@@ -1,5 +1,5 @@
 // The whole run: the listing of the input, line by line with its totals, and then the tally sheet (docs/REFERENCE.md, "The program").
-// A record's line is made by `feeding::feed`, the totals by `lines::put_totals`, the tally sheet by `tallying`; what is here moves the bytes.
+// A record's line is made by `feeding::feed`, the totals by `lines::Page::put_totals`, the tally sheet by `tallying`; what is here moves the bytes.
 #![tactic(auto)]
 
 mod settings;
@@ -12,7 +12,7 @@ ghost use Rattle.printing.specs.Handed.{first_meters, Holds, NextPiece, HandedOn
 ghost use Rattle.streaming.specs.Fed.{Buffers};
 ghost use Rattle.running.specs.Run.{RunEnds};
 
-use lines::put_totals;
+use lines::Page;
 use printing::{Meters, hand_on, write_tally};
 use record::{Setting, Totals};
 pub use settings::Argument;
@@ -31,7 +31,12 @@ fn write_totals(
     ensures short { length (totals_line setting totals) ≤ longest_totals }
     ensures handed { HandedOn meters.old (length (totals_line setting totals)) meters.new }
 {
-    let end = put_totals(output, 0, setting, totals);
+    let mut page = Page {
+        bytes: output,
+        at: 0,
+    };
+    page.put_totals(setting, totals);
+    let end = page.at;
     hand_on(rt, &output[..end], meters);
 }
 
