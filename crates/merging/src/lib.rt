@@ -35,6 +35,7 @@ fn first_success(words: &[u64], at: usize, end: usize) -> Option<u32>
 }
 
 // Follows the keys from `known` on down the tree: in each row it hops over the siblings with smaller keys, and goes below the one with the key.
+// A hop is as long as an extent, so no `for` counts `at`.
 // The caller (place_of; in the crate index place_below) has come to the row from `from` up to `to`.
 pub fn follow(words: &[u64], keys: &[u64], from: usize, to: usize, known: usize) -> Place
     requires { Descending words.now keys.now from to known }
@@ -77,7 +78,7 @@ pub fn place_of(words: &[u64], keys: &[u64]) -> Place
     follow(words, keys, 0, words.len(), 0)
 }
 
-// Raises the extents on the way of the keys by `new`.
+// Raises the extents on the way of the keys by `new`. It walks as `follow` does, but writes: one walk for both would need each turn's outcome as a value.
 // The caller's words are the used ones of a well-laid slice, and the slice has room for `new` more.
 fn raise(words: &mut [u64], keys: &[u64], new: u64)
     requires { Nested words.old × (new < most_words) }
