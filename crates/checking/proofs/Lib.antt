@@ -1,4 +1,3 @@
-pub mod Scanning
 pub mod Differing
-pub mod Gathering
+pub mod Scanning
 pub mod Slices

@@ -10,6 +10,7 @@ use native.Mathlib.Decide.{dec_lt}
 use lib.ListN.{length, get_or, take, drop, set, length-append, length-set, drop_of_length-le}
 use lib.Seq.{drop-cons, take-suc, get_or-set_same, get_or-set_other}
 use borrow.Author.Tests.{lt-ltb, le-ltb}
+use Rattle.std.specs.Prelude.{Some, Ok}
 use Rattle.machine.specs.Compiled.{max_keys}
 use Rattle.tree.specs.Keys.{first_key, next_key}
 use Rattle.tree.specs.Forest.{Forest, empty, node, size, word as Forest·word, encode, Formed}
@@ -21,7 +22,6 @@ use Rattle.tree.proofs.Words.{key_word, extent_word, length_encode}
 use Rattle.readback.specs.Saved.{all_readable}
 use Rattle.readback.proofs.Laws.{deep_unreadable}
 use Rattle.checking.specs.Inner.Scan.{Open, still_open, path_to, scan, scan_from, opens, Closed, Nested, done, word, Comes}
-use Rattle.checking.specs.declared.Ahead.TheVariants.{Success}
 
 -- ---- one word
 
@@ -197,21 +197,18 @@ module _ (es : List ℕ) (d at a : ℕ) (c : Closing es d at a) where
   unfolding opens
   lowest ks h = let e : a ≡ suc (a - 1) = omega arith in ap (opens ks es) e
 
-  pub closing_stops : 0 < a → at < get_or es (a - 1) 0 → Closed es d at a
-  closing_stops h g = (
-    c.fewer,
-    λ ks.
-        let e = lowest ks h in
-        e ∙ sym (open_there at _ (opens ks es (a - 1)) g) ∙ ap (still_open at) (sym e) ∙ c.rest ks,
-  )
+  pub closing_stops : 0 < a → at < get_or es (a - 1) 0 → Closed es d at (a - 1 + 1)
+  closing_stops h g =
+      let n : a - 1 + 1 ≡ a = omega arith in
+      rw n (c.fewer, λ ks. let e = lowest ks h in e ∙ sym (open_there at _ (opens ks es (a - 1)) g) ∙ ap (still_open at) (sym e) ∙ c.rest ks)
 
   pub closing_next : 0 < a → get_or es (a - 1) 0 ≤ at → Closing es d at (a - 1)
   closing_next h g =
       record { fewer = omega (arith, c.fewer); rest = λ ks. sym (open_past at _ (opens ks es (a - 1)) g) ∙ ap (still_open at) (sym (lowest ks h)) ∙ c.rest ks }
 
-  pub closing_none : a ≤ 0 → Closed es d at a
+  pub closing_none : a ≤ 0 → Closed es d at 0
   unfolding still_open opens
-  closing_none h = (c.fewer, λ ks. let e : a ≡ 0 = omega arith in ap (opens ks es) e ∙ ap (λ n. still_open at (opens ks es n)) (sym e) ∙ c.rest ks)
+  closing_none h = (omega arith, λ ks. let e : 0 ≡ a = omega arith in ap (λ n. still_open at (opens ks es n)) e ∙ c.rest ks)
 
 -- ---- words that are nested
 
@@ -287,7 +284,7 @@ module _ {ws : List ℕ} {from depth : ℕ} {ks₀ es₀ ks es : List ℕ} {at a
     few_now : r ≤ max_keys
     few_now = omega (arith, c.0, g.few)
 
-    pub gone_success : key_of here_word < first_key → Comes ws from depth ks₀ es₀ (Success at r) ks es
+    pub gone_success : key_of here_word < first_key → Comes ws from depth ks₀ es₀ (Ok (Some (record { place = at; above = r }))) ks es
     gone_success k =
         let p : path_to (opens ks es r) ≡ take r ks = opens_path ks es r (omega (arith, few_now, g.keys_length)) in
         (g.further, h, few_now, g.rest ∙ from_success ws at h (opens ks es above) k ∙ rw (open_now, p), k, g.keys_length, g.ends_length)

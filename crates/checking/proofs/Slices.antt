@@ -7,6 +7,7 @@ use Prim.Native.Nat.{ℕ, ◌+◌, ◌-◌, ◌^◌, ◌≤◌, ◌<◌}
 use native.Mathlib.Omega.{arith}
 use lib.Dec.{eqb}
 use lib.ListN.{length, get_or, take, drop}
+use Rattle.std.specs.Prelude.{Ok}
 use Rattle.clause.specs.Clause.{max_words}
 use Rattle.clause.proofs.Apart.{apart}
 use Rattle.tree.specs.Keys.{first_key}
@@ -19,15 +20,12 @@ use Rattle.tree.proofs.Words.{region_layout}
 use Rattle.tree.proofs.Laws.{tree_laws}
 use Rattle.readback.specs.Saved.{readable, all_readable, of_clauses}
 use Rattle.readback.specs.Calls.{check, unread, written_out, read_back}
-use Rattle.readback.specs.declared.CheckAnswer.TheVariants.{Passed}
-use Rattle.readback.specs.declared.ReadAnswer.TheVariants.{Read}
 use Rattle.tree.specs.declared.Refusal.TheVariants.{NoSuchNumber}
 use Rattle.readback.proofs.Listed.{length_paths}
 use Rattle.readback.proofs.Laws.{Passing, check_passing, written_is}
 use Rattle.decompiling.specs.Inner.Reader.{Modest, Written}
-use Rattle.decompiling.specs.declared.ReadOff.TheVariants.{Words}
 use Rattle.decompiling.proofs.Wording.{unreadable}
-use Rattle.checking.specs.Inner.Scan.{Nested, scan, are_clauses}
+use Rattle.checking.specs.Inner.Scan.{Nested, scan}
 use Rattle.checking.proofs.Scanning.{scan_paths, nested_forest}
 
 -- the words from the second on, as many as are used
@@ -55,16 +53,12 @@ module _ (T : List ℕ) (s : sized T ≡ true) (w : well_laid T ≡ true) where
   pub lent_nested : Nested (lent T)
   lent_nested = rw lent_is (nested_forest (decode T) stands.formed small)
 
-  pub lent_few : length (scan (lent T) 0 []) ≤ max_kept
-  lent_few = omega (arith, ap length lent_paths, length_paths 0 (decode T) stands.formed, stands.small)
-
-  pub lent_test : are_clauses (scan (lent T) 0 []) ≡ of_clauses (decode T)
-  unfolding of_clauses
-  lent_test = ap are_clauses lent_paths
+  pub paths_few : length (paths_of (decode T)) ≤ max_kept
+  paths_few = omega (arith, length_paths 0 (decode T) stands.formed, stands.small)
 
   -- the path that is found
-  pub lent_find : (n : ℕ) → n < first_key → first_with n (scan (lent T) 0 []) ≡ find n (decode T)
-  lent_find n l = ap (first_with n) lent_paths ∙ sym ((tree_laws.paths (decode T) stands.formed).first n l)
+  path_found : (n : ℕ) → n < first_key → first_with n (paths_of (decode T)) ≡ find n (decode T)
+  path_found n l = sym ((tree_laws.paths (decode T) stands.formed).first n l)
 
 -- ---- what is tested, and what is read
 
@@ -80,7 +74,7 @@ found_readable n (d ∷ es) p r e = go (eqb d.number n) e (found_readable n es p
     go true e ih = let q : d.keys ≡ p = cc in rw q at both.0
     go false e ih = ih both.1 e
 
-module _ (T : List ℕ) (passed : check T ≡ Passed) where
+module _ (T : List ℕ) (passed : check T ≡ Ok tt) where
   passing : Passing T
   passing = check_passing T passed
 
@@ -90,22 +84,23 @@ module _ (T : List ℕ) (passed : check T ≡ Passed) where
   pub passed_laid : well_laid T ≡ true
   passed_laid = passing.laid
 
-  pub passed_clauses : all_readable (scan (lent T) 0 []) ≡ true
-  passed_clauses = ((and-eq-true_iff (all_readable (scan (lent T) 0 [])) _).0 (lent_test T passed_sized passed_laid ∙ passing.of_clauses_lem)).0
+  pub passed_clauses : all_readable (paths_of (decode T)) ≡ true
+  unfolding of_clauses
+  passed_clauses = ((and-eq-true_iff (all_readable (paths_of (decode T))) _).0 passing.of_clauses_lem).0
 
   -- what is found is a path that a clause has
-  pub read_foreign : {A : Type 0} (n : ℕ) (p : List ℕ) → first_with n (scan (lent T) 0 []) ≡ some p → (Modest p → ⊥) → A
-  read_foreign n p e f = absurd (true≢false (sym (found_readable n (scan (lent T) 0 []) p passed_clauses e) ∙ unreadable p f))
+  pub read_foreign : {A : Type 0} (n : ℕ) (p : List ℕ) → first_with n (paths_of (decode T)) ≡ some p → (Modest p → ⊥) → A
+  read_foreign n p e f = absurd (true≢false (sym (found_readable n (paths_of (decode T)) p passed_clauses e) ∙ unreadable p f))
 
   module _ (n : ℕ) (l : n < first_key) (W : List ℕ) (room : max_words ≤ length W) where
-    found : read_back T n W ≡ written_out (first_with n (scan (lent T) 0 [])) W
-    found = written_is T n W passing room ∙ ap (λ o. written_out o W) (sym (lent_find T passed_sized passed_laid n l))
+    found : read_back T n W ≡ written_out (first_with n (paths_of (decode T))) W
+    found = written_is T n W passing room ∙ ap (λ o. written_out o W) (sym (path_found T passed_sized passed_laid n l))
 
-    pub read_none : first_with n (scan (lent T) 0 []) ≡ none → unread NoSuchNumber W ≡ read_back T n W
+    pub read_none : first_with n (paths_of (decode T)) ≡ none → unread NoSuchNumber W ≡ read_back T n W
     unfolding written_out
     read_none e = sym (found ∙ rw e)
 
-    pub read_some : (p : List ℕ) → first_with n (scan (lent T) 0 []) ≡ some p → (U : List ℕ) (k : ℕ) → Written p W (Words k) U
-        → record { answer = Read k; output = U } ≡ read_back T n W
+    pub read_some : (p : List ℕ) → first_with n (paths_of (decode T)) ≡ some p → (U : List ℕ) (k : ℕ) → Written p W (Ok k) U
+        → record { answer = Ok k; output = U } ≡ read_back T n W
     unfolding written_out
     read_some p e U k (a, b, c) = sym (found ∙ rw (e, c, a))

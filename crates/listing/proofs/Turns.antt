@@ -1,15 +1,18 @@
--- The turns of the loop over the cards: each clause is queried in the tree of the given one alone.
+-- The turns of the loop over the clauses on the shelf: each is queried in the tree of the given one alone.
 use mathlib.Core.Path.{◌≡◌, refl, sym, ap, ◌∙◌}
+use mathlib.Core.Logic.{inl, inr}
 use mathlib.Core.Bool.{true}
-use mathlib.Core.List.{List, [], ◌∷◌, ◌++◌, map}
-use Prim.Native.Nat.{ℕ, suc, ◌+◌, ◌-◌, ◌*◌, ◌≤◌, ◌<◌}
+use mathlib.Core.List.{List, [], ◌∷◌, ◌++◌}
+use Prim.Native.Nat.{ℕ, suc, ◌+◌, ◌-◌, ◌≤◌, ◌<◌}
 use native.Mathlib.Omega.{arith}
 use native.Mathlib.Numerals.{add-one}
 use lib.ListN.{length, get_or, take, drop, set, replicate, length-set, length-replicate, drop_of_length-le}
 use lib.Seq.{drop-cons, take-suc-set}
-use Rattle.clause.specs.Lists.{All, none, also}
+use Rattle.std.specs.Prelude.{Some, Ok, Err, slice_get, Result}
+use Rattle.std.proofs.lemmas.Option.{slice_get_within, get_or_from_slice_get}
+use Rattle.clause.specs.Lists.{All}
 use Rattle.clause.specs.Word.{Words}
-use Rattle.clause.specs.Clause.{max_words, Accepted}
+use Rattle.clause.specs.Clause.{Accepted}
 use Rattle.clause.proofs.Apart.{apart}
 use Rattle.clause.proofs.Lists.{all_get}
 use Rattle.machine.specs.Machine.{State}
@@ -17,18 +20,19 @@ use Rattle.tree.specs.Forest.{size, layout}
 use Rattle.tree.specs.Laid.{max_kept, sized, well_laid}
 use Rattle.tree.proofs.Words.{length_layout, laid_layout}
 use Rattle.tree.specs.Calls.{Called, insertion}
+use Rattle.tree.specs.Entries.{Pair}
 use Rattle.tree.specs.declared.Refusal.{Refusal}
-use Rattle.tree.specs.declared.CallAnswer.{CallAnswer}
+use Rattle.tree.specs.declared.Refusal.TheVariants.{Spent, ShortList}
+use Rattle.tree.specs.declared.Done.{Done}
 use Rattle.walk.specs.Walk.{Answer, covered, not_covered}
 use Rattle.walk.specs.Walk as walk
 use Rattle.walk.specs.Query.{witness_words, Asked, answer_by, query}
-use Rattle.walk.specs.declared.QueryAnswer.{QueryAnswer}
-use Rattle.walk.specs.declared.QueryAnswer.TheVariants.{Unanswered, NotCovered, Covered}
+use Rattle.walk.specs.declared.Verdict.{Verdict}
+use Rattle.walk.specs.declared.Verdict.TheVariants.{NotCovered, Covered}
 use Rattle.backward.specs.Listing.{lone, tried, Listing, listed, overfull, spent, with_number, found, goes_on, list_from}
 use Rattle.backward.proofs.Lone.{Tries, subsuming, other, beyond, lone_mirrors, lone_leaves, lone_size, lone_insertion, lone_query, lone_tries}
-use Rattle.shelving.specs.Inner.Shelf.{number_of, slot_of, clause_in, pair_at, shelf_of, Slots, NamesSlot, AcceptedPair}
+use Rattle.shelving.specs.Inner.Shelf.{AcceptedPair}
 use Rattle.listing.specs.Inner.Queries.{CameTo}
-use Rattle.listing.specs.declared.Tried.TheVariants.{Found, Overfull, Spent}
 
 -- ---- numbers before those of a listing
 
@@ -50,19 +54,19 @@ no_numbers (m ∷ ns) l f = ap (with_number m) (no_numbers ns l f) ∙ f m
 
 -- ---- the answer to a query, and the walk's
 
-covered_is : (b : ℕ) (W : List ℕ) (x : Answer State) {n k : ℕ} → Covered n k ≡ (answer_by b W x).answer → (s : State) × (x ≡ covered n s k)
+covered_is : (b : ℕ) (W : List ℕ) (x : Answer State) {n k : ℕ} → Ok (Covered n k) ≡ (answer_by b W x).answer → (s : State) × (x ≡ covered n s k)
 covered_is b W (covered m s j) {n = n} {k = k} e = let p : m ≡ n = cc in let q : j ≡ k = cc in (s, rw (p, q))
 covered_is b W (not_covered j) e = apart cc
 covered_is b W walk.spent e = apart cc
 covered_is b W walk.broken e = apart cc
 
-not_covered_is : (b : ℕ) (W : List ℕ) (x : Answer State) {k : ℕ} → NotCovered k ≡ (answer_by b W x).answer → x ≡ not_covered k
+not_covered_is : (b : ℕ) (W : List ℕ) (x : Answer State) {k : ℕ} → Ok (NotCovered k) ≡ (answer_by b W x).answer → x ≡ not_covered k
 not_covered_is b W (covered m s j) e = apart cc
 not_covered_is b W (not_covered j) {k = k} e = let q : j ≡ k = cc in rw q
 not_covered_is b W walk.spent e = apart cc
 not_covered_is b W walk.broken e = apart cc
 
-unanswered_is : {c d : List ℕ} (b : ℕ) (W : List ℕ) {x : Answer State} → Tries c d b x → {r : Refusal} → Unanswered r ≡ (answer_by b W x).answer → x ≡ walk.spent
+unanswered_is : {c d : List ℕ} (b : ℕ) (W : List ℕ) {x : Answer State} → Tries c d b x → {r : Refusal} → Err r ≡ (answer_by b W x).answer → x ≡ walk.spent
 unanswered_is b W (subsuming u p h) e = apart cc
 unanswered_is b W (other u p h) e = apart cc
 unanswered_is b W (beyond h) e = refl
@@ -78,103 +82,83 @@ not_covered_few (subsuming u p h) e = apart cc
 not_covered_few (other {k = j} u p h) {k = k} e = let q : j ≡ k = cc in rw q at h
 not_covered_few (beyond h) e = apart cc
 
--- ---- the words in a slot
+-- ---- one clause after another
 
-pub slot_row : {ls R : List ℕ} → Slots ls R → {i : ℕ} → i < max_kept → i * max_words + get_or ls i 0 ≤ length R
-slot_row S {i} h = omega (arith, S.short i, S.rows_many)
-
-pub slot_words : (ls R : List ℕ) (i : ℕ) → take (i * max_words + get_or ls i 0 - i * max_words) (drop (i * max_words) R) ≡ clause_in ls R i
-slot_words ls R i = let e : i * max_words + get_or ls i 0 - i * max_words ≡ get_or ls i 0 = omega arith in rw e
-
--- ---- one card after another
-
--- what holds of images
-unmapped : {A B : Type 0} {P : B → Type 0} (f : A → B) (l : List A) → All P (map f l) → All (λ a. P (f a)) l
-unmapped f [] none = none
-unmapped f (a ∷ l) (also h hs) = also h (unmapped f l hs)
-
--- the clause is accepted, its tree is made, and the cards are those of accepted clauses in slots
-pub record Asking (c cards ls R T : List ℕ) (len : ℕ) : Type 0 where
+-- the clause is accepted, so are those on the shelf, and its tree is made
+pub record Asking (c : List ℕ) (K : List Pair) (T : List ℕ) : Type 0 where
   pub accepts : Accepted c
   pub words : Words c
-  pub slots : Slots ls R
-  pub names : All NamesSlot cards
-  pub short : length cards ≤ len
-  pub pairs : All AcceptedPair (shelf_of ls R cards)
+  pub pairs : All AcceptedPair K
+  pub few : length K ≤ max_kept
   pub tree : T ≡ layout 322 (lone c)
 
 -- the tree that the insertion makes
-pub lone_made : (c : List ℕ) → Accepted c → Words c → {r : CallAnswer} {T : List ℕ}
+pub lone_made : (c : List ℕ) → Accepted c → Words c → {r : Result Done Refusal} {T : List ℕ}
     → ◌≡◌ {A = Called} (record { answer = r; slice = T }) (insertion (replicate 322 0) c 0) → T ≡ layout 322 (lone c)
 lone_made c C w e = ap (λ (x : Called). x.slice) (e ∙ lone_insertion c C w 322 (omega arith) (omega arith) (omega (arith, lone_size c C w)))
 
--- the cards before the i-th are gone over: so many numbers are noted, after so many candidates
-pub record Trying (c : List ℕ) (b : ℕ) (cards ls R T : List ℕ) (room len : ℕ) (ns : List ℕ) (many k i : ℕ) : Type 0 where
-  pub asking : Asking c cards ls R T len
-  pub inside : i ≤ length cards
-  pub places : length ns ≡ len
+-- the clauses before the i-th are gone over: so many numbers are noted, after so many candidates
+pub record Trying (c : List ℕ) (b : ℕ) (K : List Pair) (T : List ℕ) (room : ℕ) (ns : List ℕ) (many k i : ℕ) : Type 0 where
+  pub asking : Asking c K T
+  pub places : length ns ≡ max_kept
   pub fewer : many ≤ i
   pub fits : many ≤ room
   pub left : k ≤ b
-  pub gone : list_from c b (shelf_of ls R cards) room 0 ≡ with_numbers (take many ns) (list_from c b (shelf_of ls R (drop i cards)) (room - many) k)
+  pub gone : list_from c b K room 0 ≡ with_numbers (take many ns) (list_from c b (drop i K) (room - many) k)
 
-pub trying_first : {c : List ℕ} (b : ℕ) {cards ls R T : List ℕ} (room : ℕ) (ns : List ℕ) → Asking c cards ls R T (length ns)
-    → Trying c b cards ls R T room (length ns) ns 0 0 0
-trying_first b room ns a =
+pub trying_first : {c : List ℕ} (b : ℕ) {K : List Pair} {T : List ℕ} (room : ℕ) (ns : List ℕ) → length ns ≡ max_kept → Asking c K T
+    → Trying c b K T room ns 0 0 0
+trying_first b room ns l a =
     record {
       asking = a;
-      inside = omega arith;
-      places = refl;
+      places = l;
       fewer = omega arith;
       fits = omega arith;
       left = omega arith;
       gone = let e : room - 0 ≡ room = omega arith in rw e;
     }
 
-module _ {c : List ℕ} {b : ℕ} {cards ls R T : List ℕ} {room len : ℕ} {ns : List ℕ} {many k i : ℕ} (g : Trying c b cards ls R T room len ns many k i) where
+module _ {c : List ℕ} {b : ℕ} {K : List Pair} {T : List ℕ} {room : ℕ} {ns : List ℕ} {many k i : ℕ} (g : Trying c b K T room ns many k i) where
   -- none is left
-  pub trying_end : length cards ≤ i → CameTo (list_from c b (shelf_of ls R cards) room 0) room (Found many k) ns
+  pub trying_end : i ≤ length K → length K ≤ i → CameTo b room (list_from c b K room 0) (Ok (record { count = many; candidates = k })) ns
   unfolding list_from
-  trying_end h = (
-    omega (arith, g.fewer, g.inside, g.places, g.asking.short),
+  trying_end l h = (
+    omega (arith, g.fewer, g.places, g.asking.few),
     g.fits,
-    g.gone ∙ ap (λ (xs : List ℕ). with_numbers (take many ns) (list_from c b (shelf_of ls R xs) (room - many) k)) (drop_of_length-le cards h)
+    g.gone ∙ ap (λ (xs : List Pair). with_numbers (take many ns) (list_from c b xs (room - many) k)) (drop_of_length-le K h)
         ∙ all_numbers (take many ns) k,
   )
 
-  module _ (h : i < length cards) where
-    -- the next card, and the slot that it names
-    abbrev card : ℕ
-    card = get_or cards i 0
+  module _ {p : Pair} (f : slice_get K i ≡ Some p) where
+    inside : i < length K
+    inside = slice_get_within K i p f
 
-    abbrev slot : ℕ
-    slot = slot_of card
+    here : get_or K i p ≡ p
+    here = get_or_from_slice_get K i p p f
 
     -- its clause is accepted
-    clause_accepted : Accepted (clause_in ls R slot)
-    clause_accepted = all_get cards (unmapped (pair_at ls R) cards g.asking.pairs) i 0 h
+    clause_accepted : Accepted p.clause
+    clause_accepted = rw here at (all_get K g.asking.pairs i p inside)
 
     -- what it comes to
     outcome : Answer State
-    outcome = tried c (b - k) (clause_in ls R slot)
+    outcome = tried c (b - k) p.clause
 
-    outcome_tries : Tries c (clause_in ls R slot) (b - k) outcome
+    outcome_tries : Tries c p.clause (b - k) outcome
     unfolding outcome
-    outcome_tries = lone_tries c g.asking.accepts g.asking.words (clause_in ls R slot) clause_accepted (b - k)
+    outcome_tries = lone_tries c g.asking.accepts g.asking.words p.clause clause_accepted (b - k)
 
-    -- the tree is well laid, and the card names the slot of an accepted clause
-    pub trying_ready : (sized T ≡ true) × (well_laid T ≡ true) × Slots ls R × NamesSlot card × Accepted (clause_in ls R slot)
+    -- the tree is well laid, and the clause is accepted
+    pub trying_ready : (sized T ≡ true) × (well_laid T ≡ true) × Accepted p.clause
     trying_ready =
         let a = g.asking in
         let room : size (lone c) < 322 = omega (arith, lone_size c a.accepts a.words) in (
           rw (a.tree, length_layout 322 (lone c) room),
           rw a.tree (laid_layout 322 (lone c) room (omega arith) (lone_mirrors c a.accepts a.words).formed (omega (arith, lone_leaves c a.accepts a.words))),
-          a.slots,
-          all_get cards a.names i 0 h,
           clause_accepted,
         )
 
-    module _ {r : QueryAnswer} (q : r ≡ (query T (clause_in ls R slot) (b - k) (replicate witness_words 0)).answer) where
+    module _ {r : Result Verdict Refusal} (q : r ≡ (query T p.clause (b - k) (replicate witness_words 0)).answer) where
       answered : r ≡ (answer_by (b - k) (replicate witness_words 0) outcome).answer
       unfolding outcome
       answered =
@@ -182,39 +166,40 @@ module _ {c : List ℕ} {b : ℕ} {cards ls R T : List ℕ} {room len : ℕ} {ns
           let long : witness_words ≤ length (replicate {A = ℕ} witness_words 0) = rw length-replicate (omega arith) in
           q ∙ rw a.tree
           (ap (λ (x : Asked). x.answer)
-          (lone_query c a.accepts a.words (clause_in ls R slot) clause_accepted (b - k) 322 (omega arith) (omega arith)
+          (lone_query c a.accepts a.words p.clause clause_accepted (b - k) 322 (omega arith) (omega arith)
           (omega (arith, lone_size c a.accepts a.words)) (replicate witness_words 0) long))
 
       -- the listing goes on with it
-      goes : list_from c b (shelf_of ls R cards) room 0
-          ≡ with_numbers (take many ns) (goes_on (number_of card) (room - many) k outcome (list_from c b (shelf_of ls R (drop (i + 1) cards))))
+      goes : list_from c b K room 0 ≡ with_numbers (take many ns) (goes_on p.number (room - many) k outcome (list_from c b (drop (i + 1) K)))
       unfolding list_from outcome
       goes = g.gone
-          ∙ simp add-one (ap (λ (xs : List ℕ). with_numbers (take many ns) (list_from c b (shelf_of ls R xs) (room - many) k)) (drop-cons cards i 0 h))
+          ∙ simp add-one (ap (λ (xs : List Pair). with_numbers (take many ns) (list_from c b xs (room - many) k))
+          (drop-cons K i p inside ∙ ap (λ (x : Pair). x ∷ drop (suc i) K) here))
 
-      goes_as : {x : Answer State} → outcome ≡ x → list_from c b (shelf_of ls R cards) room 0
-          ≡ with_numbers (take many ns) (goes_on (number_of card) (room - many) k x (list_from c b (shelf_of ls R (drop (i + 1) cards))))
-      goes_as e = goes
-          ∙ ap (λ x. with_numbers (take many ns) (goes_on (number_of card) (room - many) k x (list_from c b (shelf_of ls R (drop (i + 1) cards))))) e
+      goes_as : {x : Answer State} → outcome ≡ x
+          → list_from c b K room 0 ≡ with_numbers (take many ns) (goes_on p.number (room - many) k x (list_from c b (drop (i + 1) K)))
+      goes_as e = goes ∙ ap (λ x. with_numbers (take many ns) (goes_on p.number (room - many) k x (list_from c b (drop (i + 1) K)))) e
 
       -- the budget is not enough
-      pub trying_spent : {e : Refusal} → r ≡ Unanswered e → CameTo (list_from c b (shelf_of ls R cards) room 0) room Spent ns
+      pub trying_spent : {e : Refusal} → r ≡ Err e → CameTo b room (list_from c b K room 0) (Err (Spent b)) ns
       trying_spent u =
-          goes_as (unanswered_is (b - k) (replicate witness_words 0) outcome_tries (sym u ∙ answered)) ∙ no_numbers (take many ns) spent (λ n. refl)
+          inr (
+            goes_as (unanswered_is (b - k) (replicate witness_words 0) outcome_tries (sym u ∙ answered)) ∙ no_numbers (take many ns) spent (λ n. refl),
+            refl,
+          )
 
       -- it is not subsumed
-      module _ {j : ℕ} (u : r ≡ NotCovered j) where
+      module _ {j : ℕ} (u : r ≡ Ok (NotCovered j)) where
         is_other : outcome ≡ not_covered j
         is_other = not_covered_is (b - k) (replicate witness_words 0) outcome (sym u ∙ answered)
 
         pub other_few : k + j ≤ b
         other_few = omega (arith, not_covered_few outcome_tries is_other, g.left)
 
-        pub trying_other : Trying c b cards ls R T room len ns many (k + j) (i + 1)
+        pub trying_other : Trying c b K T room ns many (k + j) (i + 1)
         trying_other =
             record {
               asking = g.asking;
-              inside = omega arith;
               places = g.places;
               fewer = omega (arith, g.fewer);
               fits = g.fits;
@@ -223,7 +208,7 @@ module _ {c : List ℕ} {b : ℕ} {cards ls R T : List ℕ} {room len : ℕ} {ns
             }
 
       -- it is
-      module _ {m j : ℕ} (u : r ≡ Covered m j) where
+      module _ {m j : ℕ} (u : r ≡ Ok (Covered m j)) where
         is_found : (s : State) × (outcome ≡ covered m s j)
         is_found = covered_is (b - k) (replicate witness_words 0) outcome (sym u ∙ answered)
 
@@ -231,29 +216,34 @@ module _ {c : List ℕ} {b : ℕ} {cards ls R T : List ℕ} {room len : ℕ} {ns
         found_few = omega (arith, covered_few outcome_tries is_found.1, g.left)
 
         -- the list is full
-        pub trying_full : room ≤ many → CameTo (list_from c b (shelf_of ls R cards) room 0) room Overfull ns
+        pub trying_full : room ≤ many → CameTo b room (list_from c b K room 0) (Err ShortList) ns
         trying_full l =
             let z : room - many ≡ 0 = omega arith in
-            goes_as is_found.1
-            ∙ ap (λ (n : ℕ). with_numbers (take many ns) (found (number_of card) n (λ r'. list_from c b (shelf_of ls R (drop (i + 1) cards)) r' (k + j)))) z
-            ∙ no_numbers (take many ns) overfull (λ n. refl)
+            inl (
+              goes_as is_found.1
+                  ∙ ap (λ (n : ℕ). with_numbers (take many ns) (found p.number n (λ r'. list_from c b (drop (i + 1) K) r' (k + j)))) z
+                  ∙ no_numbers (take many ns) overfull (λ n. refl),
+              refl,
+            )
+
+        -- there is a place for its number
+        pub found_room : many < length ns
+        found_room = omega (arith, g.fewer, g.places, g.asking.few, inside)
 
         -- its number is noted
-        pub trying_found : many < room → Trying c b cards ls R T room len (set ns many (number_of card)) (many + 1) (k + j) (i + 1)
+        pub trying_found : many < room → Trying c b K T room (set ns many p.number) (many + 1) (k + j) (i + 1)
         trying_found l =
-            let n = number_of card in
+            let n = p.number in
             let z : room - many ≡ suc (room - (many + 1)) = omega arith in
-            let rest = list_from c b (shelf_of ls R (drop (i + 1) cards)) (room - (many + 1)) (k + j) in
-            let t : take (many + 1) (set ns many n) ≡ take many ns ++ (n ∷ []) =
-            simp add-one (take-suc-set ns many n (omega (arith, g.fewer, g.places, g.asking.short))) in
+            let rest = list_from c b (drop (i + 1) K) (room - (many + 1)) (k + j) in
+            let t : take (many + 1) (set ns many n) ≡ take many ns ++ (n ∷ []) = simp add-one (take-suc-set ns many n found_room) in
             record {
               asking = g.asking;
-              inside = omega arith;
               places = length-set ns many n ∙ g.places;
               fewer = omega (arith, g.fewer);
               fits = omega arith;
               left = found_few;
               gone = goes_as is_found.1
-                  ∙ ap (λ (a : ℕ). with_numbers (take many ns) (found n a (λ r'. list_from c b (shelf_of ls R (drop (i + 1) cards)) r' (k + j)))) z
+                  ∙ ap (λ (a : ℕ). with_numbers (take many ns) (found n a (λ r'. list_from c b (drop (i + 1) K) r' (k + j)))) z
                   ∙ sym (ap (λ (l : List ℕ). with_numbers l rest) t ∙ more_numbers (take many ns) n rest);
             }

@@ -1,74 +1,55 @@
 // The queries of the clauses on the shelf, one after another, in the tree of the given clause alone.
-ghost use Rattle.std.specs.Prelude.{◌≡◌, true, ◌≤◌, length, replicate};
 ghost use Rattle.clause.specs.Clause.{Accepted};
 ghost use Rattle.clause.specs.Lists.{All};
-ghost use Rattle.tree.specs.Laid.{sized, well_laid};
-ghost use Rattle.walk.specs.Query as q;
-ghost use Rattle.walk.specs.Query.{witness_words};
 ghost use Rattle.backward.specs.Listing.{list_from};
-ghost use Rattle.shelving.specs.Inner.Shelf.{Slots, NamesSlot, AcceptedPair, slot_of, clause_in, shelf_of};
+ghost use Rattle.shelving.specs.Inner.Shelf.{AcceptedPair};
 ghost use Rattle.listing.specs.Inner.Queries.{CameTo};
 
-use crate::{Lone, Tried};
-use clause::Clause;
+use crate::Lone;
+use backward::Listed;
 use insertion::insert;
 use query::decide;
-use shelving::Card;
-use walk::QueryAnswer;
+use shelving::Shelf;
+use tree::{Refusal, Tree};
+use walk::Verdict;
 
-// What a query of the clause of a card answers.
-fn ask(tree: &[u64], card: u64, lengths: &[usize], rows: &[u16], budget: u64) -> QueryAnswer
-    requires { (sized tree.now ≡ true) × (well_laid tree.now ≡ true) × Slots lengths.now rows.now × NamesSlot card
-        × Accepted (clause_in lengths.now rows.now (slot_of card)) }
-    ensures { result ≡ (q.query tree.now (clause_in lengths.now rows.now (slot_of card)) budget
-        (replicate witness_words 0)).answer }
-{
-    let slot = (card % Card::SLOTS) as usize;
-    let start = slot * Clause::WORDS;
-    let end = start + lengths[slot];
-    decide(tree, &rows[start..end], budget)
-}
-
-// Queries the clauses of so many cards, until the budget is spent or one number too many is found; those found are noted.
+// Queries the clauses on a shelf, until the budget is spent or one number more is found than there is room for: their numbers are noted, and it tells
+// how many they are, and the candidates in all.
 pub(crate) fn try_all(
     clause: &[u16],
     budget: u64,
-    cards: &[u64],
-    lengths: &[usize],
-    rows: &[u16],
+    shelf: &Shelf,
     room: usize,
-    numbers: &mut [u32],
-) -> Tried
-    requires { Accepted clause.now × Slots lengths.now rows.now × All NamesSlot cards.now × (length cards.now ≤ length numbers.old)
-        × All AcceptedPair (shelf_of lengths.now rows.now cards.now) }
-    ensures { CameTo (list_from clause.now budget (shelf_of lengths.now rows.now cards.now) room 0)
-        room result numbers.new }
+    numbers: &mut [u32; Tree::CLAUSES],
+) -> Result<Listed, Refusal>
+    requires { Accepted clause.now × All AcceptedPair shelf.now }
+    ensures { CameTo budget room (list_from clause.now budget shelf.now room 0) result numbers.new }
 {
     let mut lone = [0u64; Lone::WORDS];
-    insert(&mut lone, clause, 0);
+    let _ = insert(&mut lone, clause, 0);
     let mut many = 0;
     let mut tried = 0;
-    let mut i = 0;
-    while i < cards.len() {
-        let card = cards[i];
-        let left = budget - tried;
-        match ask(&lone, card, lengths, rows, left) {
-            QueryAnswer::Unanswered(_) => {
-                return Tried::Spent;
-            }
-            QueryAnswer::NotCovered(count) => {
+    for place in 0..shelf.len() {
+        let (number, kept) = shelf.at(place);
+        let Ok(verdict) = decide(&lone, kept, budget - tried) else {
+            return Err(Refusal::Spent(budget));
+        };
+        match verdict {
+            Verdict::NotCovered(count) => {
                 tried += count;
             }
-            QueryAnswer::Covered(_, count) => {
+            Verdict::Covered(_, count) => {
                 tried += count;
                 if many >= room {
-                    return Tried::Overfull;
+                    return Err(Refusal::ShortList);
                 }
-                numbers[many] = (card / Card::SLOTS) as u32;
+                numbers[many] = number;
                 many += 1;
             }
         }
-        i += 1;
     }
-    Tried::Found(many, tried)
+    Ok(Listed {
+        count: many,
+        candidates: tried,
+    })
 }

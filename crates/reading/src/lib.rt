@@ -8,7 +8,7 @@ mod word;
 ghost use Rattle.std.specs.Prelude.{◌≡◌};
 ghost use Rattle.clause.specs.Clause.{scan, shape};
 
-use clause::{Clause, Fault, Shape};
+use clause::{Clause, Fault};
 pub use whole::is_whole;
 use word::is_head;
 
@@ -19,57 +19,40 @@ pub struct Cursor {
     pub left: usize,
 }
 
-// Where a cursor gets to: another term, or nowhere.
-#[derive(Drop)]
-pub enum Move {
-    To(Cursor),
-    Nowhere,
-}
-
-// What reading past a term gives: the cursor after it, or the position of the word, or of the end, that breaks the rules.
-#[derive(Drop)]
-pub enum Passed {
-    At(Cursor),
-    Off(usize),
-}
-
-// What the words are: a whole clause, or its first fault.
-pub fn read(words: &[u16]) -> Shape
+// How many literals the clause has that the words are, or its first fault.
+pub fn read(words: &[u16]) -> Result<usize, Fault>
     ensures { result ≡ shape words.now }
 {
-    if words.len() == 0 {
-        return Shape::Faulty(Fault::BadLength);
-    }
-    if words.len() > Clause::WORDS {
-        return Shape::Faulty(Fault::BadLength);
+    if words.is_empty() || words.len() > Clause::WORDS {
+        return Err(Fault::BadLength);
     }
     literals(words)
 }
 
 // The literals one after another: a head, down to its first argument, past each argument and right to the next one.
-fn literals(words: &[u16]) -> Shape
+fn literals(words: &[u16]) -> Result<usize, Fault>
     ensures { result ≡ scan words.now 0 0 0 }
 {
     let mut at = 0;
     let mut count = 0;
-    let mut argument = Move::Nowhere;
+    let mut argument: Option<Cursor> = None;
     loop {
-        if let Move::To(here) = argument {
-            let passed = here.past(words);
-            let Passed::At(next) = passed else {
-                return Shape::Faulty(Fault::Bad(passed.position()));
+        if let Some(here) = argument {
+            let next = match here.past(words) {
+                Ok(next) => next,
+                Err(off) => return Err(Fault::Bad(off)),
             };
             at = next.at;
             argument = here.right(at);
         } else {
             if at >= words.len() {
-                return Shape::Whole(count);
+                return Ok(count);
             }
             if !is_head(words[at]) {
-                return Shape::Faulty(Fault::Bad(at));
+                return Err(Fault::Bad(at));
             }
             if count >= Clause::LITERALS {
-                return Shape::Faulty(Fault::Ninth(at));
+                return Err(Fault::Ninth(at));
             }
             argument = Cursor::head(at).down(words);
             at += 1;

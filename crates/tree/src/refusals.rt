@@ -1,30 +1,30 @@
 // The code of a refusal (docs/REFERENCE.md, "Calls").
 ghost use Rattle.std.specs.Prelude.{◌≡◌};
 ghost use Rattle.tree.specs.Refusal.{code_of};
+ghost use Rattle.tree.specs.declared.Refusal.TheVariants.{BadClause};
 
 use crate::Refusal;
 use clause::Fault;
 
-// The code of a clause's fault.
-fn fault_code(fault: Fault) -> u8
-    ensures { result ≡ code_of (Refusal.BadClause fault) }
-{
-    match fault {
-        Fault::BadLength => 3,
-        Fault::Bad(_) => 4,
-        Fault::Ninth(_) => 5,
+// A clause with a fault is refused.
+impl From<Fault> for Refusal {
+    ghost from_gives = { λ fault refusal. refusal ≡ BadClause fault };
+
+    fn from(fault: Fault) -> Refusal {
+        Refusal::BadClause(fault)
     }
 }
 
-impl Refusal {
-    // The code.
-    pub fn code(self) -> u8
-        ensures { result ≡ code_of self }
-    {
-        match self {
+impl From<Refusal> for u8 {
+    ghost from_gives = { λ refusal code. code ≡ code_of refusal };
+
+    fn from(refusal: Refusal) -> u8 {
+        match refusal {
             Refusal::BadSlice => 1,
             Refusal::Broken => 2,
-            Refusal::BadClause(fault) => fault_code(fault),
+            Refusal::BadClause(Fault::BadLength) => 3,
+            Refusal::BadClause(Fault::Bad(_)) => 4,
+            Refusal::BadClause(Fault::Ninth(_)) => 5,
             Refusal::ShortWitness => 6,
             Refusal::NumberTaken => 7,
             Refusal::Held(_) => 8,
@@ -37,5 +37,14 @@ impl Refusal {
             Refusal::ShortOutput => 15,
             Refusal::ShortList => 16,
         }
+    }
+}
+
+impl Refusal {
+    // The code.
+    pub fn code(self) -> u8
+        ensures { result ≡ code_of self }
+    {
+        u8::from(self)
     }
 }

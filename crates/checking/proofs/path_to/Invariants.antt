@@ -1,11 +1,14 @@
--- `path_to` meets its contract: the number is none of the paths' so far.
-use Prim.Native.Nat.{◌-◌}
+-- `path_to` meets its contract: the number is none of the paths so far.
+use mathlib.Core.Path.{◌≡◌}
+use mathlib.Core.Bool.{true}
 use lib.ListN.{length}
-use Rattle.checking.proofs.Gathering.{Seeking}
+use Rattle.tree.specs.Laws.{first_with}
+use Rattle.readback.specs.Saved.{all_readable}
 use Rattle.checking.proofs.path_to.Given as goal
 
-abbrev pub invariant-loop-at : goal.invariant-loop-at
-invariant-loop-at l = Seeking l.words l.number l.keys l.ends l.at l.depth
+abbrev pub invariant-loop-found : goal.invariant-loop-found
+invariant-loop-found l =
+    (all_readable l.pass.left ≡ true) × (first_with l.number l.initial.pass.left ≡ first_with l.number l.pass.left)
 
-abbrev pub decreases-loop-at : goal.decreases-loop-at
-decreases-loop-at l = length l.words - l.at
+abbrev pub decreases-loop-found : goal.decreases-loop-found
+decreases-loop-found l = length l.pass.left

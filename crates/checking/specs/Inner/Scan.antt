@@ -1,18 +1,12 @@
 -- A tree's words gone over in their order, with the words above each one: the definitions that the loops are proved against.
-use Rattle.std.specs.Prelude.{◌≡◌, Bool, true, false, ◌&&◌, List, [], ◌∷◌, ◌++◌, ℕ, zero, suc, ◌+◌, ◌≤◌, ◌<◌, ltb, length, get_or, take, drop}
-use Rattle.std.proofs.Math.Option.{none, some}
+use Rattle.std.specs.Prelude.{◌≡◌, true, false, List, [], ◌∷◌, ◌++◌, ℕ, zero, suc, ◌+◌, ◌≤◌, ◌<◌, ltb, length, get_or, take, drop, Option, Some, None, Result, Ok, Err}
 use Rattle.machine.specs.Compiled.{max_keys}
 use Rattle.tree.specs.Keys.{first_key}
 use Rattle.tree.specs.Laid.{key_of, extent_of}
 use Rattle.tree.specs.Entries.{Entry}
-use Rattle.tree.specs.Laws.{first_with}
-use Rattle.readback.specs.Saved.{all_readable, all_differ, numbers_of}
-use Rattle.checking.specs.declared.Ahead.{Ahead}
-use Rattle.checking.specs.declared.Ahead.TheVariants.{Success, Nothing, TooDeep}
-use Rattle.checking.specs.declared.Gathered.{Gathered}
-use Rattle.checking.specs.declared.Gathered.TheVariants.{Numbers, Foreign}
-use Rattle.checking.specs.declared.Found.{Found}
-use Rattle.checking.specs.declared.Found.TheVariants.{At, Nowhere}
+use Rattle.readback.specs.Saved.{all_readable}
+use Rattle.decompiling.specs.declared.Foreign.{Foreign}
+use Rattle.checking.specs.declared.going.Success.{Success}
 
 -- a word that others stand below: its key, and where its extent ends
 pub record Open : Type 0 where
@@ -57,24 +51,10 @@ pub data Nested : List ℕ → Type 0 where
   word : {w : ℕ} {ws : List ℕ} → extent_of w ≤ suc (length ws) → (first_key ≤ key_of w → 2 ≤ extent_of w) → Nested ws → Nested (w ∷ ws)
 
 -- what comes next, from a place with so many words above, and the two arrays afterwards
-abbrev pub Comes : (words : List ℕ) (from depth : ℕ) (keys ends : List ℕ) → Ahead → (keys' ends' : List ℕ) → Type 0
-Comes ws from d ks es (Success at d') ks' es' =
-    (from ≤ at) × (at < length ws) × (d' ≤ max_keys)
-    × (scan_from ws from (opens ks es d) ≡ record { number = key_of (get_or ws at 0); keys = take d' ks' } ∷ scan_from ws (at + 1) (opens ks' es' d'))
-    × (key_of (get_or ws at 0) < first_key) × (length ks' ≡ max_keys) × (length es' ≡ max_keys)
-Comes ws from d ks es Nothing ks' es' = scan_from ws from (opens ks es d) ≡ []
-Comes ws from d ks es TooDeep ks' es' = all_readable (scan_from ws from (opens ks es d)) ≡ false
-
--- what all entries come to: clauses under different numbers
-abbrev pub are_clauses : List Entry → Bool
-are_clauses es = all_readable es && all_differ (numbers_of es)
-
--- what is gathered of some entries: their numbers, where all are clauses'
-abbrev pub Gathers : List Entry → Gathered → (numbers' : List ℕ) → Type 0
-Gathers es (Numbers n) ns = (all_readable es ≡ true) × (n ≤ length ns) × (take n ns ≡ numbers_of es)
-Gathers es Foreign ns = all_readable es ≡ false
-
--- the keys of the first of them with a number, if there is one
-abbrev pub Finds : List Entry → (number : ℕ) → Found → (keys' : List ℕ) → Type 0
-Finds es n (At d) ks = (d ≤ length ks) × (first_with n es ≡ some (take d ks))
-Finds es n Nowhere ks = first_with n es ≡ none
+abbrev pub Comes : (words : List ℕ) (from depth : ℕ) (keys ends : List ℕ) → Result (Option Success) Foreign → (keys' ends' : List ℕ) → Type 0
+Comes ws from d ks es (Ok (Some s)) ks' es' =
+    (from ≤ s.place) × (s.place < length ws) × (s.above ≤ max_keys)
+    × (scan_from ws from (opens ks es d) ≡ record { number = key_of (get_or ws s.place 0); keys = take s.above ks' } ∷ scan_from ws (s.place + 1) (opens ks' es' s.above))
+    × (key_of (get_or ws s.place 0) < first_key) × (length ks' ≡ max_keys) × (length es' ≡ max_keys)
+Comes ws from d ks es (Ok None) ks' es' = scan_from ws from (opens ks es d) ≡ []
+Comes ws from d ks es (Err f) ks' es' = all_readable (scan_from ws from (opens ks es d)) ≡ false

@@ -1,11 +1,11 @@
 -- What the queries of the clauses on a shelf come to.
-use Rattle.std.specs.Prelude.{◌≡◌, List, ℕ, ◌≤◌, length, take}
+use Rattle.std.specs.Prelude.{◌≡◌, ◌⊎◌, List, ℕ, ◌≤◌, length, take, Result, Ok, Err}
+use Rattle.tree.specs.declared.Refusal.{Refusal}
+use Rattle.tree.specs.declared.Refusal.TheVariants.{Spent, ShortList}
+use Rattle.backward.specs.declared.Listed.{Listed}
 use Rattle.backward.specs.Listing.{Listing, listed, overfull, spent}
-use Rattle.listing.specs.declared.Tried.{Tried}
-use Rattle.listing.specs.declared.Tried.TheVariants.{Found, Overfull, Spent}
 
--- what a listing came to, into a list with room for so many
-abbrev pub CameTo : Listing → (room : ℕ) → Tried → (numbers : List ℕ) → Type 0
-CameTo l room (Found n k) ns = (n ≤ length ns) × (n ≤ room) × (l ≡ listed (take n ns) k)
-CameTo l room Overfull ns = l ≡ overfull
-CameTo l room Spent ns = l ≡ spent
+-- what a listing came to, under a budget and into a list with room for so many
+abbrev pub CameTo : (budget room : ℕ) → Listing → Result Listed Refusal → (numbers : List ℕ) → Type 0
+CameTo b room l (Ok r) ns = (r.count ≤ length ns) × (r.count ≤ room) × (l ≡ listed (take r.count ns) r.candidates)
+CameTo b room l (Err r) ns = ((l ≡ overfull) × (r ≡ ShortList)) ⊎ ((l ≡ spent) × (r ≡ Spent b))

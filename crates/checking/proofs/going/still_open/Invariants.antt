@@ -2,8 +2,5 @@
 use Rattle.checking.proofs.Scanning.{Closing}
 use Rattle.checking.proofs.going.still_open.Given as goal
 
-abbrev pub invariant-loop-above : goal.invariant-loop-above
-invariant-loop-above l = Closing l.ends l.depth l.at l.above
-
-abbrev pub decreases-loop-above : goal.decreases-loop-above
-decreases-loop-above l = l.above
+abbrev pub invariant-loop-lowest : goal.invariant-loop-lowest
+invariant-loop-lowest l = Closing l.ends l.depth l.at l.lowest

@@ -1,71 +1,49 @@
--- `try_all` meets its contract: the clauses of the cards so far are queried.
+-- `try_all` meets its contract: the clauses before the place are queried.
 use Prim.Native.Nat.{◌^◌}
 use native.Mathlib.Nat.{lt_of_le_of_lt}
 use native.Mathlib.Omega.{arith}
 use Rattle.clause.proofs.Lists.{all_below}
 use Rattle.listing.proofs.Turns.{lone_made, trying_first, trying_end, trying_ready, trying_spent}
 use Rattle.listing.proofs.Turns.{other_few, trying_other, found_few, trying_full, trying_found}
+use Rattle.tree.proofs.Refused.{answer_as, refusal_in}
 use Rattle.listing.proofs.trying.try_all.Goals as goal
 use Rattle.listing.proofs.trying.try_all.Goals.{in-NotCovered, in-Covered+else-many-room}
 
-pub loop-i-init : goal.loop-i-init
-loop-i-init c =
+pub loop-place-init : goal.loop-place-init
+loop-place-init c =
     let p = c.requires in
     let w = all_below (2 ^ 16) c.args.clause.now (λ j. omega (arith, c.type_inv.clause j)) in
-    trying_first _ _ _
-    record { accepts = p.0; words = w; slots = p.1; names = p.2; short = p.3; pairs = p.4; tree = lone_made _ p.0 w c.insert.ensures }
+    trying_first _ _ _ c.told-numbers
+    record { accepts = p.0; words = w; pairs = p.1; few = omega (arith, c.len-place-end.ensures.is, c.len-place-end.ensures.few); tree = lone_made _ p.0 w c.insert.ensures }
 
-pub overflow_sub-left : goal.overflow_sub-left
-overflow_sub-left c = omega (arith, c.loop-i.invariant.left)
+pub decide-requires : goal.decide-requires
+decide-requires c = trying_ready c.loop-place.invariant c.at-number.ensures
 
-pub ask-requires : goal.ask-requires
-ask-requires c = trying_ready c.loop-i.invariant c.loop-i-test.true
-
-pub shape_of-numbers-in-Unanswered : goal.shape_of-numbers-in-Unanswered
-shape_of-numbers-in-Unanswered c = c.loop-i.invariant.places
-
-pub returns-in-Unanswered : goal.returns-in-Unanswered
-returns-in-Unanswered c = trying_spent c.loop-i.invariant c.loop-i-test.true c.ask.ensures c.in-Unanswered.is
+pub returns-in_default : goal.returns-in_default
+returns-in_default c = trying_spent c.loop-place.invariant c.at-number.ensures c.decide.ensures (refusal_in _ c.in_default.not-Ok).1
 
 pub overflow_add-tried : goal.overflow_add-tried
 overflow_add-tried c =
-    let h = other_few c.loop-i.invariant c.loop-i-test.true c.ask.ensures c.in-NotCovered.is in
+    let h = other_few c.loop-place.invariant c.at-number.ensures c.decide.ensures (answer_as c.in-Ok.is c.in-NotCovered.is) in
     record { fits = lt_of_le_of_lt h c.ranges.budget.fits }
 
 pub overflow_add-tried-in-Covered : goal.overflow_add-tried-in-Covered
 overflow_add-tried-in-Covered c =
-    let h = found_few c.loop-i.invariant c.loop-i-test.true c.ask.ensures c.in-Covered.is in
+    let h = found_few c.loop-place.invariant c.at-number.ensures c.decide.ensures (answer_as c.in-Ok.is c.in-Covered.is) in
     record { fits = lt_of_le_of_lt h c.ranges.budget.fits }
 
-pub shape_of-numbers-then-many-room : goal.shape_of-numbers-then-many-room
-shape_of-numbers-then-many-room c = c.loop-i.invariant.places
-
 pub returns-then-many-room : goal.returns-then-many-room
-returns-then-many-room c = trying_full c.loop-i.invariant c.loop-i-test.true c.ask.ensures c.in-Covered.is (omega arith)
+returns-then-many-room c = trying_full c.loop-place.invariant c.at-number.ensures c.decide.ensures (answer_as c.in-Ok.is c.in-Covered.is) (omega arith)
 
-pub overflow_cast-numbers : goal.overflow_cast-numbers
-overflow_cast-numbers c = omega (arith, c.type_inv.cards c.loop-i.i)
-
-pub bounds-numbers-many : goal.bounds-numbers-many
-bounds-numbers-many c =
-    let g = c.loop-i.invariant in
-    omega (arith, g.fewer, g.places, g.asking.short, c.loop-i-test.true)
-
-pub loop-i-smaller : goal.loop-i-smaller
-loop-i-smaller c = omega arith
-
-pub loop-i-preserved : goal.loop-i-preserved
-loop-i-preserved c =
-    let g = c.loop-i.invariant in
-    let h = c.loop-i-test.true in
-    elim c.match-ask.branch [
-      | in-NotCovered w ↦ rw (w.numbers-is, w.many-is, w.tried-is) (trying_other g h c.ask.ensures w.in-NotCovered.is)
+pub loop-place-preserved : goal.loop-place-preserved
+loop-place-preserved c =
+    let g = c.loop-place.invariant in
+    let f = c.at-number.ensures in
+    elim c.match-verdict.branch [
+      | in-NotCovered w ↦ rw (w.numbers-is, w.many-is, w.tried-is) (trying_other g f c.decide.ensures (answer_as c.in-Ok.is w.in-NotCovered.is))
       | in-Covered+else-many-room w ↦
-          rw (w.numbers-is, w.many-is, w.tried-is) (trying_found g h c.ask.ensures w.in-Covered.is (omega (arith, w.if-many-room.false)))
+          rw (w.numbers-is, w.many-is, w.tried-is) (trying_found g f c.decide.ensures (answer_as c.in-Ok.is w.in-Covered.is) (omega (arith, w.if-many-room.false)))
     ]
 
-pub shape_of-numbers : goal.shape_of-numbers
-shape_of-numbers c = c.loop-i.invariant.places
-
 pub returns : goal.returns
-returns c = trying_end c.loop-i.invariant (omega arith)
+returns c = trying_end c.loop-place.invariant (omega arith) (omega arith)
