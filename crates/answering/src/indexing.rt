@@ -4,7 +4,7 @@ ghost use Rattle.tree.specs.Laid.{sized, well_laid};
 ghost use Rattle.index.specs.Inner.Heads.{Indexed};
 ghost use Rattle.answering.specs.Inner.Steady.{Outdated};
 
-use index::{clear, renew};
+use index::renew;
 use record::Outcome;
 
 // Makes the index anew where a record has gone in; where clauses went out for it, a head may have gone with them.
@@ -17,7 +17,7 @@ pub(crate) fn reindex(tree: &[u64], heads: &mut [u16], outcome: Outcome, removed
         return;
     };
     if removed > 0 {
-        clear(heads);
+        heads.fill(0);
     }
     renew(tree, heads);
 }

@@ -1,38 +1,18 @@
--- The sizes that have a ceiling, and that no ceiling is over the full budget.
+-- The answer at sizes that have a ceiling, and that no ceiling is over the full budget.
 use mathlib.Core.Path.{◌≡◌}
-use mathlib.Core.Bool.{Bool, ◌&&◌}
 use Prim.Native.Nat.{ℕ, ◌*◌, ◌≤◌}
 use native.Mathlib.Nat.{mul-le-mul}
-use lib.Dec.{T, leb, leb→le}
 use borrow.Author.Tests.{le-leb}
 use Rattle.clause.specs.Clause.{max_literals}
-use Rattle.clause.proofs.Tests.{and_l, and_r, T_false}
 use Rattle.tree.specs.Laid.{max_kept}
 use Rattle.walk.specs.Ceiling.{powers, full_budget, ceiling_call}
 use Rattle.walk.proofs.Bound.{powers_le}
-use Rattle.walk.specs.declared.CeilingAnswer.TheVariants.{NoCeiling, Ceiling}
-use Rattle.tree.specs.declared.Refusal.TheVariants.{BadSize}
+use Rattle.walk.specs.declared.CeilingAnswer.TheVariants.{Ceiling}
 
 module _ (kept q m : ℕ) where
   -- what the call asks for
   abbrev Sized : Type 0
   Sized = (kept ≤ max_kept) × (1 ≤ q) × (q ≤ max_literals) × (1 ≤ m) × (m ≤ max_literals)
-
-  abbrev sized_test : Bool
-  sized_test = leb kept max_kept && leb 1 q && leb q max_literals && leb 1 m && leb m max_literals
-
-  tested : T sized_test → Sized
-  tested t = (
-    leb→le kept max_kept (search (and_l, and_r)),
-    leb→le 1 q (search (and_l, and_r)),
-    leb→le q max_literals (search (and_l, and_r)),
-    leb→le 1 m (search (and_l, and_r)),
-    leb→le m max_literals (search (and_l, and_r)),
-  )
-
-  -- of other sizes the call refuses the ceiling
-  pub not_sized : (Sized → ⊥) → NoCeiling BadSize ≡ ceiling_call kept q m
-  not_sized h = rw (T_false sized_test (λ t. h (tested t)))
 
   -- of these it answers it
   pub sized : Sized → {s : ℕ} → s ≡ powers q m → Ceiling (kept * s) ≡ ceiling_call kept q m

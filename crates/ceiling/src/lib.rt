@@ -28,41 +28,22 @@ const SUMS: Table = [
     [8, 72, 584, 4_680, 37_448, 299_592, 2_396_744, 19_173_960],
 ];
 
-// The entry as a number of 64 bits.
-fn wide(entry: Entry) -> u64
-    ensures { result ≡ entry }
-{
-    entry as u64
-}
-
 // q + q² + .. + q^m, looked up in a table.
 fn sum(table: &Table, q: u64, m: u64) -> u64
     requires { Sums table.now × (1 ≤ q) × (q ≤ max_literals) × (1 ≤ m) × (m ≤ max_literals) }
     ensures value { result ≡ powers q m }
     ensures last { LastEntry table.now }
 {
-    wide(table[(q - 1) as usize][(m - 1) as usize])
+    u64::from(table[(q - 1) as usize][(m - 1) as usize])
 }
 
 // kept × (q + q² + .. + q^m), for kept up to the most clauses, and q and m from 1 to the most literals.
 pub fn ceiling(kept: u64, q: u64, m: u64) -> CeilingAnswer
     ensures { result ≡ ceiling_call kept q m }
 {
-    let refused = CeilingAnswer::NoCeiling(Refusal::BadSize);
-    if kept > Tree::CLAUSES as u64 {
-        return refused;
-    }
-    if q < 1 {
-        return refused;
-    }
-    if q > Clause::LITERALS as u64 {
-        return refused;
-    }
-    if m < 1 {
-        return refused;
-    }
-    if m > Clause::LITERALS as u64 {
-        return refused;
+    let most = Clause::LITERALS as u64;
+    if kept > Tree::CLAUSES as u64 || q < 1 || q > most || m < 1 || m > most {
+        return CeilingAnswer::NoCeiling(Refusal::BadSize);
     }
     // here, past the refusals: a constant is put on the stack where it is used
     let sums = SUMS;

@@ -7,6 +7,7 @@ use Prim.Native.Nat.{ℕ, ◌+◌, ◌-◌, ◌^◌, ◌≤◌, ◌<◌}
 use native.Mathlib.Omega.{arith}
 use lib.Dec.{eqb}
 use lib.ListN.{length, get_or, take, drop}
+use Rattle.std.specs.Prelude.{Ok}
 use Rattle.clause.specs.Clause.{max_words}
 use Rattle.clause.proofs.Apart.{apart}
 use Rattle.tree.specs.Keys.{first_key}
@@ -25,7 +26,6 @@ use Rattle.tree.specs.declared.Refusal.TheVariants.{NoSuchNumber}
 use Rattle.readback.proofs.Listed.{length_paths}
 use Rattle.readback.proofs.Laws.{Passing, check_passing, written_is}
 use Rattle.decompiling.specs.Inner.Reader.{Modest, Written}
-use Rattle.decompiling.specs.declared.ReadOff.TheVariants.{Words}
 use Rattle.decompiling.proofs.Wording.{unreadable}
 use Rattle.checking.specs.Inner.Scan.{Nested, scan}
 use Rattle.checking.proofs.Scanning.{scan_paths, nested_forest}
@@ -102,7 +102,7 @@ module _ (T : List ℕ) (passed : check T ≡ Passed) where
     unfolding written_out
     read_none e = sym (found ∙ rw e)
 
-    pub read_some : (p : List ℕ) → first_with n (paths_of (decode T)) ≡ some p → (U : List ℕ) (k : ℕ) → Written p W (Words k) U
+    pub read_some : (p : List ℕ) → first_with n (paths_of (decode T)) ≡ some p → (U : List ℕ) (k : ℕ) → Written p W (Ok k) U
         → record { answer = Read k; output = U } ≡ read_back T n W
     unfolding written_out
     read_some p e U k (a, b, c) = sym (found ∙ rw (e, c, a))

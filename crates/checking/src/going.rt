@@ -6,7 +6,7 @@ ghost use Rattle.tree.specs.Laws.{paths_of};
 ghost use Rattle.checking.specs.Inner.Scan.{Nested, Closed, Comes};
 ghost use Rattle.checking.specs.Inner.Stage.{Stage, stage, Steps};
 
-use crate::Foreign;
+use decompiling::Foreign;
 use machine::{Key, Sequence};
 use std::marker::Model;
 use tree::{Tree, extent, key};

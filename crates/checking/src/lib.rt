@@ -13,7 +13,7 @@ ghost use Rattle.readback.specs.declared.CheckAnswer.TheVariants.{Passed};
 ghost use Rattle.checking.specs.Inner.Stage.{Gathers};
 
 use clause::Clause;
-use decompiling::{ReadOff, is_path, read_off};
+use decompiling::{Foreign, is_path, read_off};
 use laid::well_laid;
 use readback::{CheckAnswer, ReadAnswer};
 use tree::{Refusal, Tree};
@@ -23,10 +23,6 @@ mod numbers;
 
 pub use going::{Pass, Success, next_success};
 use numbers::all_differ;
-
-// A path that is no clause's.
-#[derive(Drop)]
-pub struct Foreign {}
 
 // Goes over the paths that are left: each is a clause's, and the numbers are noted, one for each; tells how many they are.
 fn gather(pass: &mut Pass, numbers: &mut [u32]) -> Result<usize, Foreign>
@@ -96,7 +92,7 @@ pub fn read_known(tree: &[u64], number: u32, out: &mut [u16]) -> ReadAnswer
         return ReadAnswer::Unread(Refusal::NoSuchNumber);
     };
     let read = read_off(path, out);
-    let ReadOff::Words(count) = read else {
+    let Ok(count) = read else {
         return ReadAnswer::Unread(Refusal::NoSuchTree);
     };
     ReadAnswer::Read(count)

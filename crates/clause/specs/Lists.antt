@@ -1,5 +1,6 @@
 -- Lists.
-use Rattle.std.specs.Prelude.{◌≡◌, Bool, true, false, ◌&&◌, List, [], ◌∷◌, ◌++◌, ℕ, zero, suc, ◌<◌, eqb}
+use Rattle.std.specs.Prelude.{◌≡◌, Bool, List, [], ◌∷◌, ◌++◌, ℕ, zero, suc, ◌<◌, eqb}
+use Rattle.std.specs.Cmp.Lexicographic.{pointwise}
 
 -- P holds of every element
 pub data All {ℓ κ} {A : Type ℓ} (P : A → Type κ) : List A → Type (ℓ ⊔ κ) where
@@ -22,10 +23,7 @@ Hold (A ∷ As) = A × Hold As
 
 -- two lists of numbers are the same
 abbrev pub alike : List ℕ → List ℕ → Bool
-alike [] [] = true
-alike [] (y ∷ ys) = false
-alike (x ∷ xs) [] = false
-alike (x ∷ xs) (y ∷ ys) = eqb x y && alike xs ys
+alike = pointwise eqb
 
 -- the numbers below n, rising
 unfoldable pub numbers_below : ℕ → List ℕ

@@ -1,14 +1,12 @@
 // Clauses: their words, their shapes and faults, their tables (docs/REFERENCE.md, "Clause words").
 #![tactic(auto)]
 
-mod equality;
 mod tables;
 mod word;
 
 ghost use Rattle.std.specs.Prelude.{◌≡◌};
 ghost use Rattle.clause.specs.Clause.{fault_of};
 
-pub use equality::same;
 pub use word::arity;
 
 // What is wrong with a clause: its length (code 3), a word or the end that breaks the rules (4) or a ninth head (5), each with its position.

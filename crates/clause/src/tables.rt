@@ -12,9 +12,7 @@ fn note_term(words: &[u16], tables: &mut [u8; Clause::TABLES], p: usize)
     ensures { tables.new ≡ tables_from words.now p }
 {
     let mut at = p + 1;
-    let mut left = arity(words[p]);
-    while left > 0 {
-        left -= 1;
+    for left in (0..arity(words[p])).rev() {
         let rights = Clause::SIBLINGS + at;
         tables[rights] = left as u8;
         at = tables[Clause::ENDS + at] as usize;
@@ -28,9 +26,7 @@ fn note_terms(words: &[u16], tables: &mut [u8; Clause::TABLES])
     requires { Accepted words.now × (tables.old ≡ replicate tables_size 0) }
     ensures { tables.new ≡ tables_from words.now 0 }
 {
-    let mut p = words.len();
-    while p > 0 {
-        p -= 1;
+    for p in (0..words.len()).rev() {
         note_term(words, tables, p);
     }
 }
@@ -42,6 +38,7 @@ fn note_literals(words: &[u16], tables: &mut [u8; Clause::TABLES])
 {
     let mut at = 0;
     let mut count = 0;
+    // no `for`: how far the next literal is stands in the tables
     while at < words.len() {
         tables[count] = at as u8;
         count += 1;
@@ -59,6 +56,6 @@ impl Clause {
         let mut tables = [0u8; Clause::TABLES];
         note_terms(words, &mut tables);
         note_literals(words, &mut tables);
-        Clause { tables: tables }
+        Clause { tables }
     }
 }

@@ -5,10 +5,16 @@ use mathlib.Core.List.{List, [], ◌∷◌, ◌++◌, map, append-nil, map-appen
 use Prim.Native.Nat.{ℕ, zero, suc, ◌+◌, ◌/◌, ◌%◌, ◌≤◌, ◌<◌}
 use native.Mathlib.Nat.{mod-eq_of_lt}
 use native.Mathlib.Omega.{arith}
-use native.Mathlib.Numerals.{add-one}
-use lib.ListN.{length, get_or, take, drop, set, drop_of_length-le}
-use lib.Seq.{drop-cons, take-suc-set, length-take-le}
-use borrow.Author.Tests.{eq-eqb, ne_eqb}
+use native.Mathlib.Numerals.{add-one, one-add}
+use lib.ListN.{length, get_or, take, set}
+use lib.Seq.{take-suc-set, length-take-le}
+use lib.Dec.{eqb}
+use Rattle.std.proofs.lemmas.List.Recursion.{is_position_or_len}
+use mathlib.Core.Bool.{Bool, true, false, cond}
+use lib.Dec.{ltb}
+use Rattle.std.specs.Prelude.{position, unwrap_or, Some, None}
+use Rattle.std.specs.List.{position_or_len}
+use borrow.Author.Tests.{eq-eqb, ltb-false}
 use Rattle.clause.specs.Word.{kind, arity, sort_by, sort, variable, if_variable}
 use Rattle.machine.specs.Instr.{key}
 use Rattle.machine.specs.Compile.{first, act, puts_after}
@@ -16,19 +22,26 @@ use Rattle.compiling.specs.Inner.Compiling.{firsts_of, Acted}
 use Rattle.machine.proofs.Compares.{first_le}
 use Rattle.machine.proofs.Agree.{first_append}
 
--- the search from index i on: found there, not there, at the end
-module _ (us : List ℕ) (v i : ℕ) where
-  pub first_here : i < length us → get_or us i 0 ≡ v → first v (drop i us) ≡ 0
-  unfolding first
-  first_here h e = rw (drop-cons us i 0, eq-eqb (get_or us i 0) v e)
+-- the search for it: the first place at which it stands, or the length
+first_place : (v : ℕ) (us : List ℕ) → first v us ≡ position_or_len (λ u. eqb u v) us
+unfolding first
+first_place v us = is_position_or_len (first v) (λ u. eqb u v) refl (λ x xs. rw one-add refl) us
 
-  pub first_past : i < length us → get_or us i 0 ≢ v → first v (drop i us) ≡ suc (first v (drop (i + 1) us))
-  unfolding first
-  first_past h n = rw (add-one, drop-cons us i 0, ne_eqb (get_or us i 0) v n)
+first_high : (v : ℕ) (us : List ℕ) → first v us ≤ length us
+unfolding first
+first_high v [] = omega arith
+first_high v (u ∷ us) = go (eqb u v) (first_high v us)
+  where
+    go : (b : Bool) → first v us ≤ length us → cond b 0 (suc (first v us)) ≤ suc (length us)
+    go true h = omega arith
+    go false h = omega arith
 
-  pub first_end : length us ≤ i → first v (drop i us) ≡ 0
-  unfolding first
-  first_end h = rw drop_of_length-le
+pub first_found : (v : ℕ) (us : List ℕ) → unwrap_or (position (λ u. eqb u v) us) (length us) ≡ first v us
+first_found v us = rw (← first_place v us) (go (ltb (first v us) (length us)) refl)
+  where
+    go : (b : Bool) → ltb (first v us) (length us) ≡ b → unwrap_or (cond b (Some (first v us)) None) (length us) ≡ first v us
+    go true e = refl
+    go false e = omega (arith, first_high v us, ltb-false (first v us) (length us) e)
 
 -- a put more: of its own variable the first put is the same, and so is that of each variable put before
 first_last : (us : List ℕ) (w : ℕ) → first w (us ++ (w ∷ [])) ≡ first w us

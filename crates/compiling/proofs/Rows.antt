@@ -3,10 +3,11 @@ use mathlib.Core.Path.{◌≡◌, refl, sym, ap, ap₂, ◌∙◌}
 use mathlib.Core.Logic.{◌≢◌}
 use mathlib.Core.Bool.{Bool, true, false, cond, ◌&&◌}
 use mathlib.Core.List.{List, [], ◌∷◌, ◌++◌, map, flat_map, append-nil, map-append}
-use Prim.Native.Nat.{ℕ, zero, suc, ◌+◌, ◌-◌, ◌*◌, ◌≤◌, ◌<◌}
+use Prim.Native.Nat.{ℕ, zero, suc, ◌+◌, ◌-◌, ◌*◌, ◌≤◌, ◌<◌, max}
 use native.Mathlib.Nat.{add-zero, add-suc}
 use native.Mathlib.Omega.{arith}
 use native.Mathlib.Numerals.{add-one}
+use native.Mathlib.Decide.{dec_lt}
 use lib.ListN.{length, get_or, set, length-append, length-map}
 use lib.Dec.{leb, ltb, eqb}
 use borrow.Author.Tests.{eq-eqb, ne_eqb, le-leb, lt-leb, lt-ltb, le-ltb}
@@ -53,11 +54,12 @@ module _ (firsts : List ℕ) (from m : ℕ) where
   row_none zero h = refl
   row_none (suc n) h = flat_map_numbers_below cell n ∙ rw (row_none n (λ k l. h k (omega arith)), h n (omega arith))
 
-  pub row_from : row_to from ≡ []
-  row_from = row_none from early
-
-  pub row_above : row_to (m + 1) ≡ []
-  row_above = row_none (m + 1) (λ k h. low k (omega arith))
+  pub row_first : {n : ℕ} → n ≡ max from (m + 1) → row_to n ≡ []
+  row_first {n = n} e = row_none n (λ k h. go k (dec_lt k from) (omega arith))
+    where
+      go : (k : ℕ) → Dec (k < from) → (from ≤ k → k ≤ m) → repeats_by firsts from m k ≡ false
+      go k (yes l) h = early k l
+      go k (no n) h = low k (h (omega arith))
 
   -- one put more
   pub row_hit : (k : ℕ) → from ≤ k → m < k → get_or firsts k 0 ≡ m → row_to (k + 1) ≡ row_to k ++ (key (Do (Compare m k)) ∷ [])

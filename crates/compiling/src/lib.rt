@@ -30,14 +30,10 @@ struct Spot {
 fn first_put(variables: &[u16], v: u16) -> usize
     ensures { result ≡ first v variables.now }
 {
-    let mut i = 0;
-    while i < variables.len() {
-        if variables[i] == v {
-            return i;
-        }
-        i += 1;
-    }
-    i
+    variables
+        .iter()
+        .position(|u| *u == v)
+        .unwrap_or(variables.len())
 }
 
 // Writes Compare m k for each put k of this literal whose variable was first put as m < k.
@@ -47,16 +43,11 @@ fn compare_row(firsts: &[usize], from: usize, m: usize, keys: &mut [u64], writte
     ensures { Stored (row_keys firsts.now from m) keys.old written keys.new result }
 {
     let mut at = written;
-    let mut k = from;
-    if from <= m {
-        k = m + 1;
-    }
-    while k < firsts.len() {
+    for k in from.max(m + 1)..firsts.len() {
         if firsts[k] == m {
             keys[at] = Key::COMPARE + (m as u64) * Key::PAIR + (k as u64);
             at += 1;
         }
-        k += 1;
     }
     at
 }
@@ -67,10 +58,8 @@ fn compare_all(firsts: &[usize], from: usize, keys: &mut [u64], written: usize) 
     ensures { Stored (compare_keys firsts.now from) keys.old written keys.new result }
 {
     let mut at = written;
-    let mut m = 0;
-    while m < firsts.len() {
+    for m in 0..firsts.len() {
         at = compare_row(firsts, from, m, keys, at);
-        m += 1;
     }
     at
 }
@@ -213,10 +202,8 @@ pub fn compile(words: &[u16], keys: &mut [u64]) -> usize
         from: 0,
         written: 0,
     };
-    let mut i = 0;
-    while i < words.len() {
+    for i in 0..words.len() {
         s = compile_word(words, i, s, &mut variables, &mut firsts, &mut saved, keys);
-        i += 1;
     }
     s.written
 }

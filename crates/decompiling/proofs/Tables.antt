@@ -18,15 +18,6 @@ use Rattle.decompiling.specs.Inner.Reader.{Own, Origins}
 use Rattle.readback.proofs.Lists.{new_below_le, new_below_new, new_below_old}
 use Rattle.decompiling.proofs.Reader.{origin_turn, key_compare, no_compare}
 
--- ---- own numbers
-
-pub own_turn : (os : List ℕ) (k : ℕ) → k < length os → ((j : ℕ) → j < k → get_or os j 0 ≡ j) → (j : ℕ) → j < k + 1 → get_or (set os k k) j 0 ≡ j
-own_turn os k h f j l = go (ℕ_discrete j k)
-  where
-    go : Dec (j ≡ k) → get_or (set os k k) j 0 ≡ j
-    go (yes e) = rw e (get_or-set_same os k k 0 h)
-    go (no n) = get_or-set_other os k j k 0 n ∙ f j (omega arith)
-
 -- ---- origins
 
 -- a table noted from a later key on
@@ -96,9 +87,6 @@ module _ (os cs : List ℕ) (count k : ℕ) (C : Counted os cs count k) (h : k +
 pub origins_none : (p os : List ℕ) → Own os → Origins (instructions (drop (length p) p)) os
 unfolding instructions origin
 origins_none p os h k l = rw (drop_of_length-le p (le_refl (length p))) (h k l)
-
-pub origins_all : (p os : List ℕ) (i : ℕ) → i ≤ 0 → Origins (instructions (drop i p)) os → Origins (instructions p) os
-origins_all p os i h O = let e : i ≡ 0 = omega arith in rw e at O
 
 pub counted_low : (os cs : List ℕ) (count k : ℕ) → Counted os cs count k → count ≤ k
 counted_low os cs count k C = omega (arith, C.now, new_below_le (λ j. get_or os j 0) k)

@@ -20,8 +20,8 @@ use Rattle.machine.specs.Compile.{keys}
 use Rattle.compiling.specs.Inner.Compiling.{Stored}
 use Rattle.machine.specs.Machine.{slots}
 use Rattle.compiling.proofs.Stores.{stored_none, stored_snoc}
-use Rattle.decompiling.specs.declared.Word.TheVariants.{Stands, Silent, Outside}
-use Rattle.decompiling.specs.declared.ReadOff.TheVariants.{Words}
+use Rattle.std.specs.Prelude.{Some, None, Ok, Err}
+use Rattle.decompiling.specs.declared.Foreign.{Foreign}
 use Rattle.readback.specs.Readback.{variable_word, new_below, instructions, origin, word_of, words_of, put_number, read_off, clause_of}
 use Rattle.decompiling.specs.Inner.Reader.{word_in, Small, Modest, Origins, Counts, numbers_by, origin_by, Names, Written}
 use Rattle.readback.specs.Saved.{narrow, has_keys, readable}
@@ -32,24 +32,24 @@ use Rattle.decompiling.proofs.Reader.{readable_modest, words_turn, words_begin, 
 -- ---- one key
 
 module _ (os cs : List ℕ) (x : ℕ) where
-  pub names_check : x / 2 ^ 32 ≡ 7 → x % 2 ^ 32 < 2 ^ 16 → Names os cs x (Stands (x % 2 ^ 32))
+  pub names_check : x / 2 ^ 32 ≡ 7 → x % 2 ^ 32 < 2 ^ 16 → Names os cs x (Ok (Some (x % 2 ^ 32)))
   unfolding word_of
   names_check e h = (Do (Check (x % 2 ^ 32)), key_check x e, h, refl)
 
-  pub outside_check : x / 2 ^ 32 ≡ 7 → 2 ^ 16 ≤ x % 2 ^ 32 → Names os cs x Outside
+  pub outside_check : {f : Foreign} → x / 2 ^ 32 ≡ 7 → 2 ^ 16 ≤ x % 2 ^ 32 → Names os cs x (Err f)
   outside_check e h = (Do (Check (x % 2 ^ 32)), key_check x e, λ g. omega arith)
 
-  pub outside_put : x / 2 ^ 32 ≡ 4 → slots ≤ x % 2 ^ 32 → Names os cs x Outside
+  pub outside_put : {f : Foreign} → x / 2 ^ 32 ≡ 4 → slots ≤ x % 2 ^ 32 → Names os cs x (Err f)
   outside_put e h = (Do (Put (x % 2 ^ 32)), key_put x e, λ g. omega (arith, g.0))
 
-  pub outside_origin : x / 2 ^ 32 ≡ 4 → slots ≤ get_or os (x % 2 ^ 32) 0 → Names os cs x Outside
+  pub outside_origin : {f : Foreign} → x / 2 ^ 32 ≡ 4 → slots ≤ get_or os (x % 2 ^ 32) 0 → Names os cs x (Err f)
   outside_origin e h = (Do (Put (x % 2 ^ 32)), key_put x e, λ g. omega (arith, g.1))
 
-  pub names_put : x / 2 ^ 32 ≡ 4 → x % 2 ^ 32 < slots → get_or os (x % 2 ^ 32) 0 < slots → Names os cs x (Stands (variable_word (get_or cs (get_or os (x % 2 ^ 32) 0) 0)))
+  pub names_put : x / 2 ^ 32 ≡ 4 → x % 2 ^ 32 < slots → get_or os (x % 2 ^ 32) 0 < slots → Names os cs x (Ok (Some (variable_word (get_or cs (get_or os (x % 2 ^ 32) 0) 0))))
   unfolding word_of variable_word
   names_put e h g = (Do (Put (x % 2 ^ 32)), key_put x e, (h, g), refl)
 
-  pub names_none : x / 2 ^ 32 ≢ 7 → x / 2 ^ 32 ≢ 4 → Names os cs x Silent
+  pub names_none : x / 2 ^ 32 ≢ 7 → x / 2 ^ 32 ≢ 4 → Names os cs x (Ok None)
   names_none m n = λ ν. no_word x n m ν
 
 pub number_low : (os cs : List ℕ) (m : ℕ) → Counts os cs → m < slots → get_or cs m 0 ≤ slots
@@ -95,33 +95,33 @@ module _ (p os cs : List ℕ) (O : Origins (instructions p) os) (C : Counts os c
   clause_is = refl
 
   module _ (i : ℕ) (h : i < length p) where
-    to_word : (w : ℕ) → Names os cs (get_or p i 0) (Stands w) → words_to (i + 1) ≡ words_to i ++ (w ∷ [])
+    to_word : (w : ℕ) → Names os cs (get_or p i 0) (Ok (Some w)) → words_to (i + 1) ≡ words_to i ++ (w ∷ [])
     to_word w (j, e, s, q) =
         let f : word_in (put_number (instructions p)) (instr_of (get_or p i 0)) ≡ w ∷ [] = rw e (sym (same_word j s) ∙ q) in
         rw add-one (words_turn (put_number (instructions p)) p i h ∙ ap (λ (l : List ℕ). words_to i ++ l) f)
 
-    to_silent : Names os cs (get_or p i 0) Silent → words_to (i + 1) ≡ words_to i
+    to_silent : Names os cs (get_or p i 0) (Ok None) → words_to (i + 1) ≡ words_to i
     to_silent n =
         rw add-one (words_turn (put_number (instructions p)) p i h ∙ ap (λ (l : List ℕ). words_to i ++ l) (n (put_number (instructions p))) ∙ append-nil (words_to i))
 
     module _ (before now : List ℕ) (count : ℕ) (S : Stored (words_to i) before 0 now count) where
-      store_word : (w : ℕ) → Names os cs (get_or p i 0) (Stands w) → Stored (words_to (i + 1)) before 0 (set now count w) (count + 1)
+      store_word : (w : ℕ) → Names os cs (get_or p i 0) (Ok (Some w)) → Stored (words_to (i + 1)) before 0 (set now count w) (count + 1)
       store_word w n = rw (to_word w n) (stored_snoc w S)
 
-      store_none : Names os cs (get_or p i 0) Silent → Stored (words_to (i + 1)) before 0 now count
+      store_none : Names os cs (get_or p i 0) (Ok None) → Stored (words_to (i + 1)) before 0 now count
       store_none n = rw (to_silent n) S
 
       -- no room for a 65th word
-      too_many : (w : ℕ) → Names os cs (get_or p i 0) (Stands w) → max_words ≤ count → Modest p → ⊥
+      too_many : (w : ℕ) → Names os cs (get_or p i 0) (Ok (Some w)) → max_words ≤ count → Modest p → ⊥
       too_many w n l M =
           let e : length (words_to (i + 1)) ≡ length (words_to i) + 1 = ap length (to_word w n) ∙ length-append (words_to i) (w ∷ []) in
           omega (arith, S.end_is, words_begin (put_number (instructions p)) p (i + 1), M.few_words, ap length clause_is)
 
-    too_big : Names os cs (get_or p i 0) Outside → Modest p → ⊥
+    too_big : {f : Foreign} → Names os cs (get_or p i 0) (Err f) → Modest p → ⊥
     too_big (j, e, n) M = n (by_table j (at_key p M.small i h j e))
 
   all_stored : (before now : List ℕ) (count i : ℕ) → length p ≤ i → count ≤ max_words → max_words ≤ length before → Stored (words_to i) before 0 now count
-      → Written p before (Words count) now
+      → Written p before (Ok count) now
   all_stored before now count i h few room S =
       let e : words_to i ≡ clause_of p = ap (λ (l : List ℕ). words_of (put_number (instructions p)) (instructions l)) (take_all i p h) ∙ sym clause_is in
       let n : count ≡ length (clause_of p) = omega (arith, S.end_is, ap length e) in
@@ -143,11 +143,11 @@ unfolding instructions words_of
 writing_first p os cs before O C h = record { origins = O; counts = C; inside = omega arith; few = omega arith; room = h; stored = stored_none before 0 }
 
 module _ {p os cs before now : List ℕ} {count i : ℕ} (w : Writing p os cs before now count i) where
-  pub writing_end : length p ≤ i → Written p before (Words count) now
+  pub writing_end : length p ≤ i → Written p before (Ok count) now
   writing_end h = all_stored p os cs w.origins w.counts before now count i h w.few w.room w.stored
 
   module _ (h : i < length p) where
-    pub writing_word : (x : ℕ) → Names os cs (get_or p i 0) (Stands x) → count < max_words → Writing p os cs before (set now count x) (count + 1) (i + 1)
+    pub writing_word : (x : ℕ) → Names os cs (get_or p i 0) (Ok (Some x)) → count < max_words → Writing p os cs before (set now count x) (count + 1) (i + 1)
     writing_word x n l =
         record {
           origins = w.origins;
@@ -158,7 +158,7 @@ module _ {p os cs before now : List ℕ} {count i : ℕ} (w : Writing p os cs be
           stored = store_word p os cs w.origins w.counts i h before now count w.stored x n;
         }
 
-    pub writing_silent : Names os cs (get_or p i 0) Silent → Writing p os cs before now count (i + 1)
+    pub writing_silent : Names os cs (get_or p i 0) (Ok None) → Writing p os cs before now count (i + 1)
     writing_silent n =
         record {
           origins = w.origins;
@@ -170,10 +170,10 @@ module _ {p os cs before now : List ℕ} {count i : ℕ} (w : Writing p os cs be
         }
 
     -- no clause has one word more, nor what stands for no word of a clause
-    pub writing_many : (x : ℕ) → Names os cs (get_or p i 0) (Stands x) → max_words ≤ count → Modest p → ⊥
+    pub writing_many : (x : ℕ) → Names os cs (get_or p i 0) (Ok (Some x)) → max_words ≤ count → Modest p → ⊥
     writing_many x n l = too_many p os cs w.origins w.counts i h before now count w.stored x n l
 
-    pub writing_outside : Names os cs (get_or p i 0) Outside → Modest p → ⊥
+    pub writing_outside : {f : Foreign} → Names os cs (get_or p i 0) (Err f) → Modest p → ⊥
     writing_outside n = too_big p os cs w.origins w.counts i h n
 
 -- ---- the test
@@ -186,15 +186,9 @@ unreadable p h = go (readable p) refl
     go true e = absurd (h (readable_modest p ((readable_iff p).0 e)))
     go false e = refl
 
-module _ (p out before : List ℕ) (n : ℕ) (W : Written p before (Words n) out) where
-  pub written_words : take n out ≡ clause_of p
+module _ (p out before : List ℕ) (n : ℕ) (W : Written p before (Ok n) out) where
+  written_words : take n out ≡ clause_of p
   written_words = ap (λ (l : List ℕ). take n l) W.2 ∙ ap (λ k. take k (clause_of p ++ drop n before)) W.0 ∙ take-append_seam (clause_of p) (drop n before)
-
-  pub written_fits : n ≤ length out
-  written_fits = omega (arith, W.0, ap length W.2, length-append (clause_of p) (drop n before))
-
-  pub written_few : length (take n out) ≤ max_words
-  written_few = omega (arith, ap length written_words, W.0, W.1)
 
   -- the clause decides
   pub written_test : has_keys (take n out) p ≡ readable p

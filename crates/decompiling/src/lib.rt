@@ -2,7 +2,6 @@
 #![tactic(auto)]
 
 ghost use Rattle.std.specs.Prelude.{◌≡◌, ◌≤◌, suc, length};
-ghost use Rattle.clause.specs.Lists.{alike};
 ghost use Rattle.clause.specs.Clause.{max_words};
 ghost use Rattle.machine.specs.Machine.{slots};
 ghost use Rattle.readback.specs.Readback.{instructions};
@@ -12,20 +11,9 @@ ghost use Rattle.decompiling.specs.Inner.Reader.{Own, Origins, Counts, Names, Wr
 use clause::{Clause, Shape};
 use machine::{Key, Sequence};
 
-// What is read off the keys of a path: so many words of a clause, or that no clause has these keys.
-#[derive(Drop)]
-pub enum ReadOff {
-    Words(usize),
-    Foreign,
-}
-
-// What a key stands for: a clause's word, no word, or something that is in no clause's sequence.
-#[derive(Drop)]
-enum Word {
-    Stands(u16),
-    Silent,
-    Outside,
-}
+// That no clause has some keys.
+#[derive(Clone, Copy)]
+pub struct Foreign {}
 
 // The operations of a key that tell the words of a clause.
 #[derive(Drop)]
@@ -44,10 +32,8 @@ fn start_origins(origins: &mut [u64])
     requires { length origins.old ≡ slots }
     ensures { Own origins.new }
 {
-    let mut k = 0;
-    while k < Sequence::NUMBERS {
+    for k in 0..Sequence::NUMBERS {
         origins[k] = k as u64;
-        k += 1;
     }
 }
 
@@ -56,9 +42,7 @@ fn note_origins(keys: &[u64], origins: &mut [u64])
     requires { (length origins.old ≡ slots) × Own origins.old }
     ensures { Origins (instructions keys.now) origins.new }
 {
-    let mut i = keys.len();
-    while i > 0 {
-        i -= 1;
+    for i in (0..keys.len()).rev() {
         let x = keys[i];
         if x / Key::OPERANDS == Operation::COMPARE {
             let k = (x % Key::PAIR) as usize;
@@ -75,19 +59,17 @@ fn note_counts(origins: &[u64], counts: &mut [u64])
     ensures { Counts origins.now counts.new }
 {
     let mut firsts = 0;
-    let mut k = 0;
     counts[0] = 0;
-    while k < Sequence::NUMBERS {
+    for k in 0..Sequence::NUMBERS {
         if origins[k] == k as u64 {
             firsts += 1;
         }
-        k += 1;
-        counts[k] = firsts;
+        counts[k + 1] = firsts;
     }
 }
 
-// The word of a key: a Check's own, and for a Put the variable numbered by how many new ones stand before the first put of it.
-fn word_of(x: u64, origins: &[u64], counts: &[u64]) -> Word
+// The word that a key stands for, if it does: a Check's own, and for a Put the variable numbered by how many new ones stand before the first put of it.
+fn word_of(x: u64, origins: &[u64], counts: &[u64]) -> Result<Option<u16>, Foreign>
     requires { (length origins.now ≡ slots) × (length counts.now ≡ suc slots) × Counts origins.now counts.now }
     ensures { Names origins.now counts.now x result }
 {
@@ -96,56 +78,52 @@ fn word_of(x: u64, origins: &[u64], counts: &[u64]) -> Word
     if op == Operation::CHECK {
         if operand < Clause::VALUES {
             let word = operand as u16;
-            return Word::Stands(word);
+            return Ok(Some(word));
         }
-        return Word::Outside;
+        return Err(Foreign {});
     }
     if op == Operation::PUT {
         if operand >= Sequence::NUMBERS as u64 {
-            return Word::Outside;
+            return Err(Foreign {});
         }
         let m = origins[operand as usize];
         if m >= Sequence::NUMBERS as u64 {
-            return Word::Outside;
+            return Err(Foreign {});
         }
         let number = counts[m as usize];
         let variable = Clause::VARIABLE + number;
         let word = variable as u16;
-        return Word::Stands(word);
+        return Ok(Some(word));
     }
-    Word::Silent
+    Ok(None)
 }
 
 // Writes the words that the keys stand for.
-fn write_words(keys: &[u64], origins: &[u64], counts: &[u64], out: &mut [u16]) -> ReadOff
+fn write_words(
+    keys: &[u64],
+    origins: &[u64],
+    counts: &[u64],
+    out: &mut [u16],
+) -> Result<usize, Foreign>
     requires { (length origins.now ≡ slots) × (length counts.now ≡ suc slots) × Origins (instructions keys.now) origins.now × Counts origins.now counts.now
         × (max_words ≤ length out.old) }
     ensures { Written keys.now out.old result out.new }
 {
     let mut count = 0;
-    let mut i = 0;
-    while i < keys.len() {
-        let found = word_of(keys[i], origins, counts);
-        match found {
-            Word::Stands(w) => {
-                if count >= Clause::WORDS {
-                    return ReadOff::Foreign;
-                }
-                out[count] = w;
-                count += 1;
+    for &key in keys {
+        if let Some(word) = word_of(key, origins, counts)? {
+            if count >= Clause::WORDS {
+                return Err(Foreign {});
             }
-            Word::Silent => {}
-            Word::Outside => {
-                return ReadOff::Foreign;
-            }
+            out[count] = word;
+            count += 1;
         }
-        i += 1;
     }
-    ReadOff::Words(count)
+    Ok(count)
 }
 
 // Reads the words of a clause off the keys of its path. Where no clause has the keys, the lent words may hold anything.
-pub fn read_off(keys: &[u64], out: &mut [u16]) -> ReadOff
+pub fn read_off(keys: &[u64], out: &mut [u16]) -> Result<usize, Foreign>
     requires { max_words ≤ length out.old }
     ensures { Written keys.now out.old result out.new }
 {
@@ -155,23 +133,6 @@ pub fn read_off(keys: &[u64], out: &mut [u16]) -> ReadOff
     note_origins(keys, &mut origins);
     note_counts(&origins, &mut counts);
     write_words(keys, &origins, &counts, out)
-}
-
-// Whether two lists of keys are the same.
-fn same_keys(a: &[u64], b: &[u64]) -> bool
-    ensures { result ≡ alike a.now b.now }
-{
-    if a.len() != b.len() {
-        return false;
-    }
-    let mut i = 0;
-    while i < a.len() {
-        if a[i] != b[i] {
-            return false;
-        }
-        i += 1;
-    }
-    true
 }
 
 // Whether words are an accepted clause with these keys.
@@ -185,7 +146,7 @@ fn has_keys(words: &[u16], keys: &[u64]) -> bool
     };
     let mut compiled = [0u64; Sequence::KEYS];
     let written = compiling::compile(words, &mut compiled);
-    same_keys(&compiled[..written], keys)
+    &compiled[..written] == keys
 }
 
 // Whether keys are those of some clause: the clause read off them is accepted and has them.
@@ -194,7 +155,7 @@ pub fn is_path(keys: &[u64]) -> bool
 {
     let mut out = [0u16; Clause::WORDS];
     let found = read_off(keys, &mut out);
-    let ReadOff::Words(count) = found else {
+    let Ok(count) = found else {
         return false;
     };
     has_keys(&out[..count], keys)

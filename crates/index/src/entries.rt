@@ -1,26 +1,17 @@
-// The entries of the index: cleared, and made for a tree.
-ghost use Rattle.std.specs.Prelude.{◌≡◌, true, length, replicate};
+// The entries of the index, made for a tree.
+ghost use Rattle.std.specs.Prelude.{◌≡◌, true};
 ghost use Rattle.tree.specs.Laid.{sized, well_laid, parse};
-ghost use Rattle.index.specs.Inner.Heads.{entry_count, IndexOf, SpareFor, Indexed, Renewable, Encoded};
+ghost use Rattle.index.specs.Inner.Heads.{IndexOf, SpareFor, Indexed, Renewable, Encoded};
 
 use machine::Key;
 use tree::{Tree, extent, key};
-
-// Makes all entries 0.
-pub fn clear(heads: &mut [u16])
-    requires { length heads.old ≡ entry_count }
-    ensures { heads.new ≡ replicate entry_count 0 }
-{
-    for i in 0..heads.len() {
-        heads[i] = 0;
-    }
-}
 
 // Notes the places of the Checks in the row below the topmost of the words.
 fn note(words: &[u64], heads: &mut [u16])
     requires { Encoded words.now × SpareFor (parse words.now) heads.old }
     ensures { IndexOf (parse words.now) heads.new }
 {
+    // `at` hops by extents and is what is noted, so no `for` counts it.
     let mut at: usize = 1;
     while at < words.len() {
         let w = words[at];

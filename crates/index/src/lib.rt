@@ -8,7 +8,7 @@ mod head;
 mod indexed;
 mod placing;
 
-pub use entries::{clear, renew};
+pub use entries::renew;
 pub use indexed::query_indexed;
 pub use placing::insert_below;
 

@@ -1,37 +1,29 @@
--- The loop that looks for a number: its invariant, and each of its turns.
-use mathlib.Core.Path.{◌≡◌, refl, sym, ap, ◌∙◌}
-use mathlib.Core.Bool.{true, false}
-use mathlib.Core.Logic.{◌≢◌}
+-- A scan for a number, and what it finds.
+use mathlib.Core.Path.{◌≡◌, refl}
+use mathlib.Core.Bool.{Bool, true, false, ◌||◌}
 use mathlib.Core.Option.{Option, none, some}
-use mathlib.Core.List.{List, []}
-use Prim.Native.Nat.{ℕ, ◌+◌, ◌≤◌, ◌<◌}
-use native.Mathlib.Numerals.{add-one}
-use lib.ListN.{length, drop, get_or, drop_of_length-le}
+use mathlib.Core.List.{List, [], ◌∷◌}
+use Prim.Native.Nat.{ℕ, suc}
+use lib.Dec.{eqb}
+use Rattle.std.specs.List.{list_any}
 use Rattle.clause.proofs.Apart.{apart}
+use Rattle.tree.specs.Laid.{key_of, extent_of}
 use Rattle.tree.specs.Inner.Cut.{begin, locate}
 use Rattle.insertion.specs.Inner.Taken.{is_some}
-use Rattle.tree.proofs.Hops.{key_at, extent_at, locate_stop, locate_step}
 
--- the words before p do not have the number n
-pub record Scanned (W : List ℕ) (n p : ℕ) : Type 0 where
-  pub from : ℕ
-  pub up : ℕ
-  pub same : locate W n 0 0 0 ≡ locate (drop p W) n p from up
-
-pub scanned_start : (W : List ℕ) (n : ℕ) → Scanned W n 0
-scanned_start W n = record { from = 0; up = 0; same = refl }
-
-module _ {W : List ℕ} {n p : ℕ} (s : Scanned W n p) where
-  pub scanned_hit : p < length W → key_at W p ≡ n → true ≡ is_some (locate W n 0 0 0)
-  scanned_hit l e = sym (ap is_some (s.same ∙ locate_stop W p n s.from s.up l e))
-
-  pub scanned_miss : p < length W → key_at W p ≢ n → Scanned W n (p + 1)
-  scanned_miss l ne =
-      rw (add-one p)
-      (record { from = begin (get_or W p 0) p s.from s.up; up = extent_at W p; same = s.same ∙ locate_step W p n s.from s.up l ne })
-
-  pub scanned_end : length W ≤ p → false ≡ is_some (locate W n 0 0 0)
-  scanned_end l = let e : drop p W ≡ [] = drop_of_length-le W l in sym (rw (s.same, e))
+-- a number stands among the words where some word is its Success
+pub any_located : (W : List ℕ) (n at from up : ℕ) → list_any (λ w. eqb (key_of w) n) W ≡ is_some (locate W n at from up)
+any_located [] n at from up = refl
+any_located (w ∷ ws) n at from up = go (eqb (key_of w) n) (any_located ws n (suc at) (begin w at from up) (extent_of w))
+  where
+    go : (b : Bool) → list_any (λ v. eqb (key_of v) n) ws ≡ is_some (locate ws n (suc at) (begin w at from up) (extent_of w))
+        → (b || list_any (λ v. eqb (key_of v) n) ws)
+        ≡ is_some (elim b [
+          | true ↦ some (record { place = begin w at from up; last = at })
+          | false ↦ locate ws n (suc at) (begin w at from up) (extent_of w)
+        ])
+    go true h = refl
+    go false h = h
 
 -- nothing was found
 pub is_none : {A : Type 0} (o : Option A) → is_some o ≡ false → o ≡ none

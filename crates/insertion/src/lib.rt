@@ -15,7 +15,7 @@ use clause::Shape;
 use compiling::compile;
 use laid::well_laid;
 use machine::Sequence;
-use merging::{Holder, Place, insert_at, place_of};
+use merging::{Place, insert_at, place_of};
 use reading::read;
 use tree::{CallAnswer, Refusal, Tree, key};
 
@@ -26,16 +26,13 @@ pub fn insert_placed(tree: &mut [u64], keys: &[u64], number: u32, place: Place) 
     ensures { record { answer = result; slice = tree.new }
         ≡ insert_by_words tree.old (record { number = number; keys = keys.now }) }
 {
-    let holder = place.holder;
-    match holder {
-        Holder::Clause(held) => CallAnswer::Refused(Refusal::Held(held)),
-        Holder::Nobody => {
-            if Tree::kept(tree[0]) >= Tree::CLAUSES {
-                return CallAnswer::Refused(Refusal::ListFull);
-            }
-            insert_at(tree, keys, number, place.at, place.shared)
-        }
+    if let Some(held) = place.holder {
+        return CallAnswer::Refused(Refusal::Held(held));
     }
+    if Tree::kept(tree[0]) >= Tree::CLAUSES {
+        return CallAnswer::Refused(Refusal::ListFull);
+    }
+    insert_at(tree, keys, number, place.at, place.shared)
 }
 
 // Inserts a sequence under a number that no Success has: the caller holds the slice well laid, and knows the numbers in it.
@@ -54,12 +51,7 @@ fn has_number(words: &[u64], number: u32) -> bool
     ensures { result ≡ is_some (locate words.now number 0 0 0) }
 {
     let wanted = number as u64;
-    for at in 0..words.len() {
-        if key(words[at]) == wanted {
-            return true;
-        }
-    }
-    false
+    words.iter().any(|w| key(*w) == wanted)
 }
 
 // Whether a number is taken: a Success among the used words has it. The caller holds the slice well laid.

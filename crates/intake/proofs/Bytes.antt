@@ -1,5 +1,5 @@
 -- The input byte by byte: what each function of the reading leaves is what the definition says.
-use mathlib.Core.Path.{◌≡◌, refl, sym, ap, ◌∙◌}
+use mathlib.Core.Path.{◌≡◌, refl, ap, ◌∙◌}
 use mathlib.Core.List.{List, [], ◌∷◌, ◌++◌, append_assoc, append-nil}
 use Prim.Native.Nat.{ℕ, ◌+◌, ◌≤◌, ◌<◌}
 use native.Mathlib.Omega.{arith}
@@ -12,10 +12,9 @@ use Rattle.intake.specs.Feed.{Store, store_of, Fed, record_ended, advanced, stor
 use Rattle.intake.specs.declared.Half.{Half}
 use Rattle.intake.specs.declared.Half.TheVariants.{Even, Odd}
 use Rattle.intake.specs.declared.Stage.{Stage}
-use Rattle.intake.specs.declared.Stage.TheVariants.{AtNumber, AtCount, AtWord}
+use Rattle.intake.specs.declared.Stage.TheVariants.{AtCount, AtWord}
 use Rattle.intake.specs.declared.Session.{Session}
 use Rattle.intake.specs.declared.Next.{Next}
-use Rattle.intake.specs.declared.Next.TheVariants.{Reads}
 
 -- ---- one field, by its stage
 
@@ -44,12 +43,6 @@ module _ (v : Setting) (t : Totals) (m : Store) (w : ℕ) where
   unfolding take_field
   at_last n count i e h = rw (e, le-ltb (i + 1) count h)
 
--- a field that is no word is not stored
-pub no_word : (g : Stage) (ws : List ℕ) (w : ℕ) → ((n count i : ℕ) → g ≡ AtWord n count i → ⊥) → ws ≡ stored g ws w
-no_word AtNumber ws w h = refl
-no_word (AtCount n) ws w h = refl
-no_word (AtWord n count i) ws w h = absurd (h n count i refl)
-
 -- ---- one byte after another
 
 -- first some bytes, then others
@@ -64,10 +57,7 @@ unfolding feed
 feed_one v [] s m h = absurd (omega arith)
 feed_one v (b ∷ input) s m h = rw append-nil
 
--- the first byte of a field, and the second
-pub first_byte : (v : Setting) (s : Session) (m : Store) (b : ℕ) {x : Next} → s.half ≡ Even → x ≡ Reads (Odd b) s.stage → take_byte v s m b ≡ proceeding v x s.totals m
-first_byte v s m b e f = ap (λ (x : Half). take_as v x s.stage s.totals m b) e ∙ ap (λ (x : Next). proceeding v x s.totals m) (sym f)
-
+-- the second byte of a field
 pub second_byte : (v : Setting) (s : Session) (m : Store) (b a : ℕ) {w : ℕ} {ws : List ℕ} {x : Next} → s.half ≡ Odd a → w ≡ field_of a b → ws ≡ stored s.stage m.words w
     → x ≡ advanced s.stage w → take_byte v s m b ≡ proceeding v x s.totals (store_of ws m.slice m.marks m.counters)
 unfolding take_field

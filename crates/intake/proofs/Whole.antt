@@ -152,7 +152,3 @@ read_more input words at i count h l =
     let d : drop at input ≡ get_or input at 0 ∷ get_or input (suc at) 0 ∷ drop (suc (suc at)) input =
     drop-cons input at 0 (omega arith) ∙ ap (λ (l : List ℕ). get_or input at 0 ∷ l) (drop-cons input (suc at) 0 (omega arith)) in
     rw (e, f, g, d, add-one)
-
--- none is left
-pub read_all : (input words : List ℕ) (at i count : ℕ) → count ≤ i → sets words i (fields (take ((count - i) * 2) (drop at input))) ≡ words
-read_all input words at i count h = let e : (count - i) * 2 ≡ 0 = omega arith in rw e

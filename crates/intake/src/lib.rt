@@ -5,7 +5,7 @@ use record::Totals;
 
 mod input;
 
-pub use input::{begin, read_some};
+pub use input::read_some;
 
 // A field of the input: 16 bits.
 #[derive(Drop)]
@@ -14,27 +14,27 @@ struct Field {}
 impl Field {
     // Its bytes.
     const BYTES: usize = 2;
-    // How many values a byte has.
-    const BYTE: u16 = 256;
 }
 
 // Whether the next byte is the first of a field, or the second, with the first.
-#[derive(Clone, Copy)]
+#[derive(Clone, Copy, Default)]
 pub enum Half {
+    #[default]
     Even,
     Odd(u8),
 }
 
 // What the next field is: a record's number; its word count, with its number; or one of its words, with its number, its count and the words so far.
-#[derive(Clone, Copy)]
+#[derive(Clone, Copy, Default)]
 pub enum Stage {
+    #[default]
     AtNumber,
     AtCount(u16),
     AtWord(u16, u16, u16),
 }
 
-// How far the reading of the input is, and the totals.
-#[derive(Clone, Copy)]
+// How far the reading of the input is, and the totals. By default it is the session before the first byte.
+#[derive(Clone, Copy, Default)]
 pub struct Session {
     pub half: Half,
     pub stage: Stage,
@@ -51,13 +51,6 @@ pub struct Heading {
 impl Heading {
     // Its bytes: two fields.
     const BYTES: usize = 2 * Field::BYTES;
-}
-
-// What the input begins with: a whole record of so many words, or bytes that are taken one by one.
-#[derive(Drop)]
-enum Ahead {
-    Whole(usize),
-    Bytes,
 }
 
 // What some more of the input leads to: the reading goes on, or a record is whole.

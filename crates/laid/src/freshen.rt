@@ -1,24 +1,15 @@
 // Fresh: a slice made an empty tree.
-ghost use Rattle.std.specs.Prelude.{◌≡◌, length, replicate};
+ghost use Rattle.std.specs.Prelude.{◌≡◌};
 ghost use Rattle.tree.specs.Calls as calls;
 
 use tree::{CallAnswer, Refusal, Tree};
-
-// Writes 0 over every word.
-pub fn clear(words: &mut [u64])
-    ensures { words.new ≡ replicate (length words.old) 0 }
-{
-    for i in 0..words.len() {
-        words[i] = 0;
-    }
-}
 
 // Makes an empty tree of a slice of any words.
 pub fn fresh(tree: &mut [u64]) -> CallAnswer
     ensures { record { answer = result; slice = tree.new } ≡ calls.fresh tree.old }
 {
     if Tree::sized(tree.len()) {
-        clear(tree);
+        tree.fill(0);
         CallAnswer::Ready
     } else {
         CallAnswer::Refused(Refusal::BadSlice)

@@ -12,7 +12,7 @@ use tree::{Tree, extent, key};
 
 mod freshen;
 
-pub use freshen::{clear, fresh};
+pub use freshen::fresh;
 
 // The least key that may stand to the right of a sibling: a Success has no second beside it.
 fn next_key(w: u64) -> u64
@@ -58,22 +58,15 @@ fn row(words: &[u64], count: usize) -> bool
     if count > words.len() {
         return false;
     }
-    let mut at = 0;
-    let mut least: u64 = 0;
-    while at < count {
-        let w = words[at];
+    let mut rest = &words[..count];
+    let mut least = 0;
+    while let &[w, ..] = rest {
         let e = extent(w);
-        if key(w) < least {
-            return false;
-        }
-        if e == 0 {
-            return false;
-        }
-        if e > count - at {
+        if key(w) < least || e == 0 || e > rest.len() {
             return false;
         }
         least = next_key(w);
-        at += e;
+        rest = &rest[e..];
     }
     true
 }
@@ -85,17 +78,11 @@ fn rows(words: &[u64], kept: usize) -> bool
     ensures { result ≡ (laid.rows words.now && eqb (successes words.now) kept) }
 {
     let mut found = 0;
-    let mut at = 0;
-    while at < words.len() {
-        let w = words[at];
+    for (at, &w) in words.iter().enumerate() {
         if key(w) < Key::FIRST {
             found += 1;
         }
-        at += 1;
-        if !sound(w) {
-            return false;
-        }
-        if !row(&words[at..], below(w)) {
+        if !sound(w) || !row(&words[at + 1..], below(w)) {
             return false;
         }
     }
@@ -106,38 +93,20 @@ fn rows(words: &[u64], kept: usize) -> bool
 fn zeros(words: &[u64]) -> bool
     ensures { result ≡ laid.zeros words.now }
 {
-    let mut i = 0;
-    while i < words.len() {
-        if words[i] != 0 {
-            return false;
-        }
-        i += 1;
-    }
-    true
+    words.iter().all(|w| *w == 0)
 }
 
 // Whether a slice, of any length, is well laid: its header, the topmost words, all used words, the words after them.
 pub fn well_laid(tree: &[u64]) -> bool
     ensures { result ≡ laid.well_laid tree.now }
 {
-    if tree.len() == 0 {
+    let [first, rest @ ..] = tree else {
+        return false;
+    };
+    let header = Tree::header(*first);
+    if header.used > rest.len() || header.kept > Tree::CLAUSES {
         return false;
     }
-    let header = Tree::header(tree[0]);
-    let used = header.used;
-    if used > tree.len() - 1 {
-        return false;
-    }
-    if header.kept > Tree::CLAUSES {
-        return false;
-    }
-    let end = used + 1;
-    let words = &tree[1..end];
-    if !row(words, used) {
-        return false;
-    }
-    if !rows(words, header.kept) {
-        return false;
-    }
-    zeros(&tree[end..])
+    let (words, after) = rest.split_at(header.used);
+    row(words, header.used) && rows(words, header.kept) && zeros(after)
 }

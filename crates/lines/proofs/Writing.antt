@@ -1,16 +1,17 @@
 -- Text put into the output piece by piece, and a number digit after digit.
 use mathlib.Core.Path.{◌≡◌, refl, sym, ap, ◌∙◌}
-use mathlib.Core.List.{List, [], ◌∷◌, ◌++◌}
-use Prim.Native.Nat.{ℕ, suc, ◌+◌, ◌/◌, ◌%◌, ◌^◌, ◌≤◌, ◌<◌}
+use mathlib.Core.List.{List, [], ◌∷◌, ◌++◌, append_assoc}
+use borrow.Rule.Slice.PartMut.{put_mid, Post-is}
+use Prim.Native.Nat.{ℕ, suc, ◌+◌, ◌-◌, ◌/◌, ◌%◌, ◌^◌, ◌≤◌, ◌<◌}
 use native.Mathlib.Omega.{arith}
 use native.Mathlib.Numerals.{add-one}
 use lib.ListN.{length, take, drop, get_or, length-append, drop_of_length-le, set}
-use lib.Seq.{sets, sets-eq, set_comm, length-sets, take-suc, take_at, drop-cons, length-take-le}
+use lib.Seq.{sets, sets-eq, length-sets, take_at, drop-cons}
 use Rattle.record.specs.Text.{decimal, Written, put_at}
 use Rattle.record.specs.Line.{named, says_removed, removal_line, removal_lines, removed_total}
 use Rattle.record.specs.declared.Setting.{Setting}
 use Rattle.record.specs.declared.Setting.TheVariants.{Plain, Back}
-use Rattle.record.proofs.Text.{decimal_small, decimal_large, length_small, length_large, decimal_length}
+use Rattle.record.proofs.Text.{decimal_small, decimal_large, decimal_length}
 
 -- text in two pieces
 sets_append : (s t o : List ℕ) (at : ℕ) → sets o at (s ++ t) ≡ sets (sets o at s) (at + length s) t
@@ -35,30 +36,10 @@ text_there t o h e =
     ap (λ (w : Written). take w.next w.output) e
     ∙ rw (sets-eq t o 0 (omega arith)) (take_at t (drop (0 + length t) o) (0 + length t) (omega arith))
 
--- ---- a number, digit after digit
+-- ---- a text copied over a part
 
--- a byte after some text may be put before the text
-sets_set : (t o : List ℕ) (at i b : ℕ) → at + length t ≤ i → set (sets o at t) i b ≡ sets (set o i b) at t
-sets_set [] o at i b h = refl
-sets_set (a ∷ t) o at i b h = sets_set t (set o at a) (suc at) i b (omega arith) ∙ rw (set_comm o at i a b (λ e. omega arith))
-
--- a number's last digit first, and then the digits before it
-pub put_last : (n : ℕ) (o : List ℕ) (at last : ℕ) → 10 ≤ n → last + 1 ≡ at + length (decimal n)
-    → sets o at (decimal n) ≡ sets (set o last (48 + n % 10)) at (decimal (n / 10))
-put_last n o at last h e =
-    let l : at + length (decimal (n / 10)) ≡ last = omega (arith, length_large n h) in
-    rw (decimal_large n h, sets_append, l) (sets_set (decimal (n / 10)) o at last (48 + n % 10) (omega arith))
-
--- the only digit
-pub put_only : (n : ℕ) (o : List ℕ) (at last : ℕ) → n < 10 → last + 1 ≡ at + length (decimal n) → sets o at (decimal n) ≡ set o last (48 + n)
-put_only n o at last h e = let l : last ≡ at = omega (arith, length_small n h) in rw (l, decimal_small n h)
-
--- ---- a text, byte after byte
-
-pub put_more : (t o p : List ℕ) (at i : ℕ) → i < length t → p ≡ sets o at (take i t) → set p (at + i) (get_or t i 0) ≡ sets o at (take (i + 1) t)
-put_more t o p at i h e =
-    let l : length (take i t) ≡ i = length-take-le i t (omega arith) in
-    rw (add-one, take-suc t i 0, sets_append, l, e)
+pub put_part : (t o : List ℕ) (at : ℕ) → at + length t ≤ length o → put_mid at (at + length t - at) o t ≡ sets o at t
+put_part t o at h = rw (Post-is at (at + length t) o (omega arith), sets-eq t o at h, append_assoc)
 
 -- ---- a text in pieces
 
@@ -88,6 +69,18 @@ named_put t k n h o at e = let q = placed (named t n) o at e in (omega (arith, l
 pub removed_total_length : (s : Setting) (n : ℕ) → n < 10 ^ 20 → length (removed_total s n) ≤ 29
 removed_total_length Plain n h = omega arith
 removed_total_length Back n h = omega (arith, length-append says_removed (decimal n), decimal_length 19 n h)
+
+-- ---- a number, digit after digit
+
+-- the only digit
+pub put_only : (n : ℕ) (o : List ℕ) (at : ℕ) → n < 10 → ◌≡◌ {A = Written} (record { next = at + 1; output = set o at (48 + n) }) (put_at (decimal n) o at)
+put_only n o at h = rw (decimal_small n h)
+
+-- the digits before the last one, and then the last one
+pub put_last : (n : ℕ) (o : List ℕ) (at : ℕ) {r : ℕ} {p : List ℕ} → 10 ≤ n
+    → ◌≡◌ {A = Written} (record { next = r; output = p }) (put_at (decimal (n / 10)) o at)
+    → ◌≡◌ {A = Written} (record { next = r + 1; output = set p r (48 + n % 10) }) (put_at (decimal n) o at)
+put_last n o at h e = rw (decimal_large n h) (joined (decimal (n / 10)) ((48 + n % 10) ∷ []) o at e refl)
 
 -- ---- the lines of removals, one after another
 

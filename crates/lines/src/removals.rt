@@ -25,10 +25,8 @@ pub fn put_removals(output: &mut [u8], at: usize, by: u16, numbers: &[u32]) -> u
     ensures short { result ≤ at + length numbers.now * longest_removal }
 {
     let mut next = at;
-    let mut i = 0;
-    while i < numbers.len() {
-        next = put_removal(output, next, by, numbers[i]);
-        i += 1;
+    for &number in numbers {
+        next = put_removal(output, next, by, number);
     }
     next
 }

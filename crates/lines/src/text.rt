@@ -2,34 +2,18 @@
 ghost use Rattle.std.specs.Prelude.{◌≡◌, ◌++◌, ◌+◌, ◌≤◌, length};
 ghost use Rattle.record.specs.Text.{decimal, put_at};
 
-// How many digits a number has in base ten.
-fn digits(number: u64) -> usize
-    ensures { result ≡ length (decimal number) }
-{
-    let mut left = number;
-    let mut count: usize = 1;
-    while left >= 10 {
-        left /= 10;
-        count += 1;
-    }
-    count
-}
-
-// Puts the digits of a number in base ten at a place of the output, the last one first, and gives the place after them.
+// Puts the digits of a number in base ten at a place of the output, and gives the place after them.
 pub fn put_decimal(output: &mut [u8], at: usize, number: u64) -> usize
     requires { at + length (decimal number) ≤ length output.old }
     ensures { record { next = result; output = output.new } ≡ put_at (decimal number) output.old at }
 {
-    let end = at + digits(number);
-    let mut left = number;
-    let mut last = end - 1;
-    while left >= 10 {
-        output[last] = b'0' + (left % 10) as u8;
-        left /= 10;
-        last -= 1;
+    if number < 10 {
+        output[at] = b'0' + number as u8;
+        return at + 1;
     }
-    output[last] = b'0' + left as u8;
-    end
+    let last = put_decimal(output, at, number / 10);
+    output[last] = b'0' + (number % 10) as u8;
+    last + 1
 }
 
 // Puts some text at a place of the output, and gives the place after it.
@@ -37,12 +21,9 @@ pub fn put_text(output: &mut [u8], at: usize, text: &[u8]) -> usize
     requires { at + length text.now ≤ length output.old }
     ensures { record { next = result; output = output.new } ≡ put_at text.now output.old at }
 {
-    let mut i = 0;
-    while i < text.len() {
-        output[at + i] = text[i];
-        i += 1;
-    }
-    at + text.len()
+    let end = at + text.len();
+    output[at..end].copy_from_slice(text);
+    end
 }
 
 // Puts some text and a number after it at a place of the output, and gives the place after both.

@@ -1,11 +1,13 @@
 -- The words of keys one below the other, then a Success: written one after another.
-use mathlib.Core.Path.{◌≡◌, refl, sym, ap, ◌∙◌}
+use mathlib.Core.Path.{◌≡◌, refl, ap, ◌∙◌}
 use mathlib.Core.List.{List, [], ◌∷◌, ◌++◌, append-nil}
 use Prim.Native.Nat.{ℕ, zero, suc, ◌+◌, ◌-◌, ◌*◌, ◌^◌, ◌≤◌, ◌<◌}
-use native.Mathlib.Numerals.{add-one}
+use native.Mathlib.Nat.{zero-add}
 use native.Mathlib.Omega.{arith}
-use lib.ListN.{length, get_or, take, drop, set, length-drop, drop_of_length-le}
-use lib.Seq.{take-suc, drop-cons, set_at, append_snoc, length-take-le, take_all}
+use lib.ListN.{length, get_or, take, drop, set, length-drop}
+use lib.Seq.{take_all}
+use Rattle.std.proofs.lemmas.List.Edits.{paste_more}
+use Rattle.std.proofs.lemmas.Grind.{common_steps}
 use Rattle.machine.specs.Compiled.{max_keys}
 use Rattle.tree.specs.Forest.{size, encode, chain, Body}
 use Rattle.tree.specs.Inner.Merge.{new_words}
@@ -56,18 +58,10 @@ abbrev pub over : (N s : List ℕ) → ℕ → List ℕ
 over N s i = take i N ++ drop i s
 
 pub over_set : (N s : List ℕ) (i : ℕ) → length N ≡ length s → i < length s → set (over N s i) i (get_or N i 0) ≡ over N s (i + 1)
-over_set N s i e h =
-    ap (λ (l : List ℕ). set (take i N ++ l) i (get_or N i 0)) (drop-cons s i 0 h)
-    ∙ set_at (take i N) (get_or s i 0) (drop (suc i) s) (get_or N i 0) i (length-take-le i N (omega arith))
-    ∙ sym (append_snoc (take i N) (get_or N i 0) (drop (suc i) s))
-    ∙ ap (◌++ drop (suc i) s) (sym (take-suc N i 0 (omega arith)))
-    ∙ ap (λ (n : ℕ). take n N ++ drop n s) (sym (add-one i))
+over_set N s i e h = simp zero-add at (paste_more s 0 N i 0 (omega arith) (omega arith))
 
 over_all : (N s : List ℕ) (i : ℕ) → length N ≡ i → length s ≡ i → over N s i ≡ N
-over_all N s i e h =
-    let m : length s ≤ i = omega arith in
-    let z : drop i s ≡ [] = drop_of_length-le s m in
-    rw (take_all i N (omega arith), z) (append-nil N)
+over_all N s i e h = grind (arith, common_steps)
 
 -- the Success is written last
 pub written : (cs s U : List ℕ) (n i : ℕ) → i ≡ length cs → length s ≡ length cs + 1 → U ≡ over (new_words cs n) s i

@@ -15,18 +15,15 @@ use Rattle.tree.specs.Forest.{word_limit, success}
 use Rattle.tree.specs.Laid.{most_words}
 use Rattle.tree.specs.Inner.Merge.{Descent, stop, behind, descend, from_top}
 use Rattle.merging.specs.Inner.Inserting.{Nested, LeadsTo, Descending, holder_of}
-use Rattle.merging.specs.declared.Holder.{Holder}
+use Rattle.std.specs.Prelude as std
 use Rattle.tree.proofs.Keys.{Tri, less, same, more, tri}
 use Rattle.tree.proofs.Grow.{rows_drop}
 use Rattle.tree.proofs.Descend.{behind_none, behind_behind}
 use Rattle.tree.proofs.Hops.{key_at, extent_at, Firm, firm_at, descend_stop, descend_dive, descend_hop, descend_found, descend_done}
 
--- a key that is a Success, and one that is none
+-- a key that is a Success
 pub is_success : (x k : ℕ) → x ≡ k → x < first_key → success k ≡ some x
 is_success x k e h = rw (lt-ltb k first_key (omega arith), success) (ap some (sym e))
-
-pub not_success : (k : ℕ) → first_key ≤ k → success k ≡ none
-not_success k h = rw (le-ltb k first_key h, success)
 
 -- ---- the invariants
 
@@ -155,7 +152,7 @@ module _ {W cs : List ℕ} {p t k : ℕ} (s : Descending W cs p t k) where
     ended : from_top W cs ≡ behind p s.done (stop (drop p W) (drop k cs) o)
     ended = s.goes ∙ ap (behind p s.done) e
 
-    pub leads : (h : Holder) → holder_of h ≡ o → LeadsTo W cs (record { at = p; shared = k; holder = h })
+    pub leads : (h : std.Option ℕ) → holder_of h ≡ o → LeadsTo W cs (record { at = p; shared = k; holder = h })
     leads h q =
         record {
           within = omega (arith, s.order, s.room);

@@ -1,5 +1,4 @@
 pub mod Descending
-pub mod ShiftRight
 pub mod Chain
 pub mod UsedWords
 pub mod Fitted

@@ -10,39 +10,28 @@ ghost use Rattle.merging.specs.Inner.Inserting.{holder_of, Nested, LeadsTo, Desc
 use machine::Key;
 use tree::{CallAnswer, Refusal, Tree, extent, key, word};
 
-mod moves;
-
-pub use moves::open_up;
-
-// Who keeps a sequence: no clause, or the one with this number.
-#[derive(Drop)]
-pub enum Holder {
-    Nobody,
-    Clause(u32),
-}
-
-// Where the words of a sequence go, how many of its keys have a word on the way there, and who keeps it.
-#[derive(Drop)]
+// Where the words of a sequence go, how many of its keys have a word on the way there, and the number of the clause that keeps it, if one does.
+#[derive(Clone, Copy)]
 pub struct Place {
     pub at: usize,
     pub shared: usize,
-    pub holder: Holder,
+    pub holder: Option<u32>,
 }
 
 // The clause whose Success is the first word of the row from `at` up to `end`, if one is.
 // The caller's rows end within the words.
-fn first_success(words: &[u64], at: usize, end: usize) -> Holder
+fn first_success(words: &[u64], at: usize, end: usize) -> Option<u32>
     requires { end ≤ length words.now }
     ensures { holder_of result ≡ (descend (drop at words.now) 0 (end - at) []).holder }
 {
     if at >= end {
-        return Holder::Nobody;
+        return None;
     }
     let first = key(words[at]);
     if first >= Key::FIRST {
-        return Holder::Nobody;
+        return None;
     }
-    Holder::Clause(first as u32)
+    Some(first as u32)
 }
 
 // Follows the keys from `known` on down the tree: in each row it hops over the siblings with smaller keys, and goes below the one with the key.
@@ -62,7 +51,7 @@ pub fn follow(words: &[u64], keys: &[u64], from: usize, to: usize, known: usize)
             return Place {
                 at: at,
                 shared: shared,
-                holder: Holder::Nobody,
+                holder: None,
             };
         }
         if wanted == here {
@@ -122,8 +111,8 @@ fn write_chain(words: &mut [u64], keys: &[u64], number: u32)
     ensures { words.new ≡ new_words keys.now number }
 {
     let count = keys.len();
-    for i in 0..count {
-        words[i] = word(keys[i], count + 1 - i);
+    for (i, &k) in keys.iter().enumerate() {
+        words[i] = word(k, count + 1 - i);
     }
     words[count] = word(number as u64, 1);
 }
@@ -136,7 +125,8 @@ fn put_in(words: &mut [u64], keys: &[u64], number: u32)
         ≡ new_words keys.now number ++ take (length words.old - (length keys.now + 1)) words.old }
 {
     let new = keys.len() + 1;
-    open_up(words, new);
+    let kept = words.len() - new;
+    words.copy_within(..kept, new);
     write_chain(&mut words[..new], keys, number);
 }
 

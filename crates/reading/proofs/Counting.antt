@@ -53,7 +53,7 @@ scan_counted (w ∷ ws) (suc k) lits at h = go (sort w) (scan_counted ws (arity 
     go wrong ih = refl
 
 -- a clause of 1 to max_words words
-pub shape_counted : (q : List ℕ) → (length q ≡ 0 → ⊥) → length q ≤ max_words → is_whole (shape q) ≡ counted q 0 0
+pub shape_counted : (q : List ℕ) → false ≡ eqb (length q) 0 → length q ≤ max_words → is_whole (shape q) ≡ counted q 0 0
 shape_counted q n h = ap is_whole (shape_scan q n h) ∙ scan_counted q 0 0 0 (omega arith)
 
 module _ (q : List ℕ) (at : ℕ) where

@@ -10,15 +10,12 @@ use lib.ListN.{length, get_or, drop, length-drop, drop_of_length-le, get_or-eq_d
 use lib.Seq.{drop-cons, drop-drop}
 use Rattle.clause.specs.Word.{arity, Sort, symbol, variable, head, wrong, sort, if_inside, is_inside}
 use Rattle.clause.specs.Clause.{scan_word, scan, skip}
-use Rattle.reading.specs.Inner.Cursor.{first_term, go_down, past_terms, go_past}
+use Rattle.std.specs.Prelude.{None, Result, Ok, Err}
+use Rattle.reading.specs.Inner.Cursor.{go_down, past_terms, go_past}
 use Rattle.reading.specs.declared.Cursor.{Cursor}
-use Rattle.reading.specs.declared.Move.TheVariants.{To, Nowhere}
-use Rattle.reading.specs.declared.Passed.{Passed}
-use Rattle.reading.specs.declared.Passed.TheVariants.{At, Off}
 use Rattle.clause.specs.declared.Fault.TheVariants.{Bad}
 use Rattle.clause.specs.declared.Shape.{Shape}
 use Rattle.clause.specs.declared.Shape.TheVariants.{Faulty}
-use Rattle.clause.proofs.Apart.{apart}
 
 if-inside {ℓ} : {A : Type ℓ} (s : Sort) → is_inside s ≡ true → (a b : A) → if_inside s a b ≡ a
 if-inside symbol e a b = refl
@@ -34,28 +31,15 @@ if-outside wrong e a b = refl
 
 -- ---- to an argument
 
--- the first of some terms
-pub first_some : (n at : ℕ) → (n ≡ 0 → ⊥) → To (record { at = at; left = n - 1 }) ≡ first_term n at
-first_some zero at h = absurd (h refl)
-first_some (suc k) at h = let e : suc k - 1 ≡ k = omega arith in rw e
-
--- the first argument of the term at a cursor: none past the end, and none where the arity is 0
-module _ (q : List ℕ) (c : Cursor) where
-  pub go_down_end : length q ≤ c.at → Nowhere ≡ go_down q c
-  unfolding arity
-  go_down_end h = rw (get_or-eq_default q 0 h)
-
-  module _ (n : ℕ) (is : n ≡ arity (get_or q c.at 0)) where
-    pub go_down_none : n ≡ 0 → Nowhere ≡ go_down q c
-    go_down_none h = rw (← is, h)
-
-    pub go_down_some : (n ≡ 0 → ⊥) → To (record { at = c.at + 1; left = n - 1 }) ≡ go_down q c
-    go_down_some h = rw (← is, add-one) (first_some n (suc c.at) h)
+-- past the end there is none
+pub go_down_end : (q : List ℕ) (c : Cursor) → length q ≤ c.at → None ≡ go_down q c
+unfolding arity
+go_down_end q c h = rw (get_or-eq_default q 0 h)
 
 -- ---- one word
 
 -- no terms
-pub past_none : (ws : List ℕ) (at left : ℕ) → past_terms ws 0 at left ≡ At (record { at = at; left = left })
+pub past_none : (ws : List ℕ) (at left : ℕ) → past_terms ws 0 at left ≡ Ok (record { at = at; left = left })
 unfolding past_terms
 past_none [] at left = refl
 past_none (w ∷ ws) at left = refl
@@ -73,14 +57,14 @@ past_over (w ∷ ws) (suc m) (suc n) at left h i =
 
 module _ (q : List ℕ) (at left : ℕ) where
   -- the end
-  pub past_end : (n : ℕ) → 0 < n → length q ≤ at → past_terms (drop at q) n at left ≡ Off at
+  pub past_end : (n : ℕ) → 0 < n → length q ≤ at → past_terms (drop at q) n at left ≡ Err at
   unfolding past_terms
   past_end zero s h = absurd (omega arith)
   past_end (suc k) s h = rw (drop_of_length-le q h)
 
   module _ (inside : at < length q) where
     -- a word that breaks the rules
-    pub past_off : (n : ℕ) → 0 < n → is_inside (sort (get_or q at 0)) ≡ false → past_terms (drop at q) n at left ≡ Off at
+    pub past_off : (n : ℕ) → 0 < n → is_inside (sort (get_or q at 0)) ≡ false → past_terms (drop at q) n at left ≡ Err at
     unfolding past_terms
     past_off zero s e = absurd (omega arith)
     past_off (suc k) s e = rw (drop-cons q at 0) (if-outside (sort (get_or q at 0)) e _ _)
@@ -107,9 +91,9 @@ drop_tail : (q : List ℕ) (at : ℕ) {w : ℕ} {ws : List ℕ} → drop at q �
 drop_tail q at e = rw (← add-one at) (sym (drop-drop 1 at q) ∙ ap (λ (l : List ℕ). drop 1 l) e)
 
 -- going on with the clause, b terms of the literal being still to come
-abbrev pub scan_on : List ℕ → (b lits : ℕ) → Passed → Shape
-scan_on q b lits (At c) = scan (drop c.at q) b lits c.at
-scan_on q b lits (Off at) = Faulty (Bad at)
+abbrev pub scan_on : List ℕ → (b lits : ℕ) → Result Cursor ℕ → Shape
+scan_on q b lits (Ok c) = scan (drop c.at q) b lits c.at
+scan_on q b lits (Err at) = Faulty (Bad at)
 
 -- the reading with a + b terms to come is past a terms and then on
 scan_split : (q ws : List ℕ) (a b lits at left : ℕ) → drop at q ≡ ws → scan ws (a + b) lits at ≡ scan_on q b lits (past_terms ws a at left)
@@ -121,7 +105,7 @@ scan_split q (w ∷ ws) (suc a) b lits at left e =
     rw suc-add (go (sort w) (rw add_assoc at (scan_split q ws (arity w + a) b lits (suc at) left (drop_tail q at e))))
   where
     go : (s : Sort) → scan ws (arity w + (a + b)) lits (suc at) ≡ scan_on q b lits (past_terms ws (arity w + a) (suc at) left)
-        → scan_word s (arity w) (suc (a + b)) lits at (scan ws) ≡ scan_on q b lits (if_inside s (past_terms ws (arity w + a) (suc at) left) (Off at))
+        → scan_word s (arity w) (suc (a + b)) lits at (scan ws) ≡ scan_on q b lits (if_inside s (past_terms ws (arity w + a) (suc at) left) (Err at))
     go symbol h = h
     go variable h = h
     go head h = refl
@@ -133,27 +117,27 @@ unfolding go_past
 scan_past q c lits = rw (← one-add c.left) (scan_split q (drop c.at q) 1 c.left lits c.at c.left refl)
 
 -- terms passed take the words that `skip` counts
-past_at : (ws : List ℕ) (need at left : ℕ) (c : Cursor) → past_terms ws need at left ≡ At c → c.at ≡ at + skip need ws
+past_at : (ws : List ℕ) (need at left : ℕ) (c : Cursor) → past_terms ws need at left ≡ Ok c → c.at ≡ at + skip need ws
 unfolding past_terms skip
 past_at [] zero at left c e = let z : record { at = at; left = left } ≡ c = cc in rw (← z) (omega arith)
-past_at [] (suc k) at left c e = apart cc
+past_at [] (suc k) at left c e = cc
 past_at (w ∷ ws) zero at left c e = let z : record { at = at; left = left } ≡ c = cc in rw (← z) (omega arith)
 past_at (w ∷ ws) (suc k) at left c e = go (sort w) e (past_at ws (arity w + k) (suc at) left c)
   where
-    go : (s : Sort) → if_inside s (past_terms ws (arity w + k) (suc at) left) (Off at) ≡ At c
-        → (past_terms ws (arity w + k) (suc at) left ≡ At c → c.at ≡ suc at + skip (arity w + k) ws) → c.at ≡ at + suc (skip (arity w + k) ws)
+    go : (s : Sort) → if_inside s (past_terms ws (arity w + k) (suc at) left) (Err at) ≡ Ok c
+        → (past_terms ws (arity w + k) (suc at) left ≡ Ok c → c.at ≡ suc at + skip (arity w + k) ws) → c.at ≡ at + suc (skip (arity w + k) ws)
     go symbol e ih = omega (arith, ih e)
     go variable e ih = omega (arith, ih e)
-    go head e ih = apart cc
-    go wrong e ih = apart cc
+    go head e ih = cc
+    go wrong e ih = cc
 
 -- a term has a word
-pub past_on : (q : List ℕ) (c n : Cursor) → go_past q c ≡ At n → (c.at < length q) × (c.at < n.at)
+pub past_on : (q : List ℕ) (c n : Cursor) → go_past q c ≡ Ok n → (c.at < length q) × (c.at < n.at)
 unfolding go_past past_terms skip
 past_on q c n e = go (drop c.at q) refl e
   where
-    go : (ws : List ℕ) → drop c.at q ≡ ws → past_terms ws 1 c.at c.left ≡ At n → (c.at < length q) × (c.at < n.at)
-    go [] f e = apart cc
+    go : (ws : List ℕ) → drop c.at q ≡ ws → past_terms ws 1 c.at c.left ≡ Ok n → (c.at < length q) × (c.at < n.at)
+    go [] f e = cc
     go (w ∷ ws) f e =
         let l : length q - c.at ≡ suc (length ws) = sym (length-drop c.at q) ∙ ap length f in
         (omega arith, omega (arith, past_at (w ∷ ws) 1 c.at c.left n e))

@@ -1,46 +1,45 @@
 -- Reading a clause: at a literal's start, down to its arguments, past each of them and right to the next one.
 use mathlib.Core.Path.{◌≡◌, refl, sym, ◌∙◌}
-use mathlib.Core.Bool.{true, false}
+use mathlib.Core.Bool.{Bool, true, false}
 use mathlib.Core.List.{List, [], ◌∷◌}
 use Prim.Native.Nat.{ℕ, zero, suc, ◌+◌, ◌≤◌, ◌<◌}
 use native.Mathlib.Numerals.{add-one}
 use native.Mathlib.Omega.{arith}
+use lib.Dec.{eqb}
 use lib.ListN.{length, get_or, drop, drop_of_length-le}
 use lib.Seq.{drop-cons}
-use borrow.Author.Tests.{lt-ltb, le-ltb}
+use borrow.Author.Tests.{lt-ltb, le-ltb, eqb-true}
 use Rattle.clause.specs.Word.{arity, Sort, symbol, variable, head, wrong, sort, is_head}
 use Rattle.clause.specs.Clause.{max_words, max_literals, scan_word, scan, shape}
+use Rattle.std.proofs.Common.{◌⊎◌, inl, inr}
+use Rattle.std.specs.Prelude.{Option, None, Some, Ok, Err}
 use Rattle.reading.specs.Inner.Cursor.{head_cursor, first_term, go_down, go_right, go_past}
 use Rattle.reading.specs.declared.Cursor.{Cursor}
-use Rattle.reading.specs.declared.Move.{Move}
-use Rattle.reading.specs.declared.Move.TheVariants.{To, Nowhere}
-use Rattle.reading.specs.declared.Passed.TheVariants.{At, Off}
 use Rattle.clause.specs.declared.Fault.TheVariants.{BadLength, Bad, Ninth}
 use Rattle.clause.specs.declared.Shape.{Shape}
 use Rattle.clause.specs.declared.Shape.TheVariants.{Faulty, Whole}
-use Rattle.clause.proofs.Apart.{apart}
 use Rattle.reading.proofs.Past.{scan_past}
 
 -- the reading from a position on, where an argument with its right siblings or, with none, a literal is to come
-abbrev pub read_on : List ℕ → (at lits : ℕ) → Move → Shape
-read_on q at lits Nowhere = scan (drop at q) 0 lits at
-read_on q at lits (To c) = scan (drop c.at q) (suc c.left) lits c.at
+abbrev pub read_on : List ℕ → (at lits : ℕ) → Option Cursor → Shape
+read_on q at lits None = scan (drop at q) 0 lits at
+read_on q at lits (Some c) = scan (drop c.at q) (suc c.left) lits c.at
 
 -- some terms to come, the first of which stands there
 read_first : (q : List ℕ) (at lits n : ℕ) → read_on q at lits (first_term n at) ≡ scan (drop at q) n lits at
 read_first q at lits zero = refl
 read_first q at lits (suc k) = refl
 
-pub first_at : (n at : ℕ) (c : Cursor) → first_term n at ≡ To c → c.at ≡ at
-first_at zero at c e = apart cc
+pub first_at : (n at : ℕ) (c : Cursor) → first_term n at ≡ Some c → c.at ≡ at
+first_at zero at c e = cc
 first_at (suc k) at c e = let z : record { at = at; left = k } ≡ c = cc in rw (← z)
 
 -- past an argument, and right
 module _ (q : List ℕ) (c : Cursor) (lits : ℕ) where
-  pub read_off : (p : ℕ) → go_past q c ≡ Off p → read_on q c.at lits (To c) ≡ Faulty (Bad p)
+  pub read_off : (p : ℕ) → go_past q c ≡ Err p → read_on q c.at lits (Some c) ≡ Faulty (Bad p)
   read_off p e = scan_past q c lits ∙ rw e
 
-  pub read_right : (n : Cursor) → go_past q c ≡ At n → read_on q c.at lits (To c) ≡ read_on q n.at lits (go_right n.at c)
+  pub read_right : (n : Cursor) → go_past q c ≡ Ok n → read_on q c.at lits (Some c) ≡ read_on q n.at lits (go_right n.at c)
   read_right n e = scan_past q c lits ∙ rw e (sym (read_first q n.at lits c.left))
 
 module _ (q : List ℕ) (at : ℕ) where
@@ -89,17 +88,22 @@ module _ (q : List ℕ) (at : ℕ) where
 
 -- ---- the length
 
-pub shape_empty : (q : List ℕ) → length q ≡ 0 → shape q ≡ Faulty BadLength
+shape_empty : (q : List ℕ) → length q ≡ 0 → shape q ≡ Faulty BadLength
 unfolding shape
 shape_empty [] h = refl
 shape_empty (w ∷ ws) h = absurd (omega arith)
 
-pub shape_long : (q : List ℕ) → max_words < length q → shape q ≡ Faulty BadLength
+shape_long : (q : List ℕ) → max_words < length q → shape q ≡ Faulty BadLength
 unfolding shape
 shape_long [] h = absurd (omega arith)
 shape_long (w ∷ ws) h = rw (lt-ltb max_words (length (w ∷ ws)) h)
 
-pub shape_scan : (q : List ℕ) → (length q ≡ 0 → ⊥) → length q ≤ max_words → shape q ≡ scan q 0 0 0
+-- no words, or too many, by the test for none
+pub shape_length : (q : List ℕ) {e : Bool} → e ≡ eqb (length q) 0 → (e ≡ true) ⊎ ((e ≡ false) × (max_words < length q)) → shape q ≡ Faulty BadLength
+shape_length q t (inl h) = shape_empty q (eqb-true (length q) 0 (sym t ∙ h))
+shape_length q t (inr (h, g)) = shape_long q g
+
+pub shape_scan : (q : List ℕ) → false ≡ eqb (length q) 0 → length q ≤ max_words → shape q ≡ scan q 0 0 0
 unfolding shape
-shape_scan [] n h = absurd (n refl)
+shape_scan [] n h = cc
 shape_scan (w ∷ ws) n h = rw (le-ltb max_words (length (w ∷ ws)) h)

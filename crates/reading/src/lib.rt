@@ -19,28 +19,11 @@ pub struct Cursor {
     pub left: usize,
 }
 
-// Where a cursor gets to: another term, or nowhere.
-#[derive(Drop)]
-pub enum Move {
-    To(Cursor),
-    Nowhere,
-}
-
-// What reading past a term gives: the cursor after it, or the position of the word, or of the end, that breaks the rules.
-#[derive(Drop)]
-pub enum Passed {
-    At(Cursor),
-    Off(usize),
-}
-
 // What the words are: a whole clause, or its first fault.
 pub fn read(words: &[u16]) -> Shape
     ensures { result ≡ shape words.now }
 {
-    if words.len() == 0 {
-        return Shape::Faulty(Fault::BadLength);
-    }
-    if words.len() > Clause::WORDS {
+    if words.is_empty() || words.len() > Clause::WORDS {
         return Shape::Faulty(Fault::BadLength);
     }
     literals(words)
@@ -52,12 +35,12 @@ fn literals(words: &[u16]) -> Shape
 {
     let mut at = 0;
     let mut count = 0;
-    let mut argument = Move::Nowhere;
+    let mut argument: Option<Cursor> = None;
     loop {
-        if let Move::To(here) = argument {
-            let passed = here.past(words);
-            let Passed::At(next) = passed else {
-                return Shape::Faulty(Fault::Bad(passed.position()));
+        if let Some(here) = argument {
+            let next = match here.past(words) {
+                Ok(next) => next,
+                Err(off) => return Shape::Faulty(Fault::Bad(off)),
             };
             at = next.at;
             argument = here.right(at);

@@ -10,17 +10,12 @@ use clause::{Clause, arity};
 pub fn is_whole(words: &[u16]) -> bool
     ensures { result ≡ is_whole (shape words.now) }
 {
-    if words.len() == 0 {
+    if words.is_empty() || words.len() > Clause::WORDS {
         return false;
     }
-    if words.len() > Clause::WORDS {
-        return false;
-    }
-    let mut at: usize = 0;
     let mut need: usize = 0;
     let mut count: usize = 0;
-    while at < words.len() {
-        let word = words[at];
+    for &word in words {
         if need == 0 {
             if !is_head(word) {
                 return false;
@@ -33,10 +28,6 @@ pub fn is_whole(words: &[u16]) -> bool
             need -= 1;
         }
         need += arity(word);
-        at += 1;
     }
-    if count > Clause::LITERALS {
-        return false;
-    }
-    need == 0
+    count <= Clause::LITERALS && need == 0
 }

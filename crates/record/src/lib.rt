@@ -9,6 +9,7 @@ pub enum Setting {
 }
 
 // What becomes of a record: kept, with the used words of the tree; struck, with the covering number and the candidates; refused, with the code.
+// A code and no `Refusal`: the definitions and claims of what is printed (`answer_to`, `saying`, `Reason`, `RowClaims`) speak of codes.
 #[derive(Clone, Copy)]
 pub enum Outcome {
     Kept(u64),
@@ -17,7 +18,7 @@ pub enum Outcome {
 }
 
 // How many records were read, and how many of them are kept, were struck and refused, and were kept once and are removed.
-#[derive(Clone, Copy)]
+#[derive(Clone, Copy, Default)]
 pub struct Totals {
     pub records: u64,
     pub kept: u64,
@@ -44,7 +45,7 @@ impl Lent {
     pub const MARKS: usize = 0x1_0000;
 }
 
-// The mark of a number.
+// The mark of a number, a byte and no enum: a run is lent zeros, and the definitions and claims (`marked`, `shown_from`, `WholeInput`) speak of numbers.
 #[derive(Drop)]
 pub struct Mark {}
 

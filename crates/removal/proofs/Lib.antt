@@ -1,4 +1,2 @@
-pub mod Closing
 pub mod Locating
-pub mod Lowering
 pub mod TakingOut

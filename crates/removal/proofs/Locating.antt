@@ -2,41 +2,19 @@
 use mathlib.Core.Path.{◌≡◌, refl, sym, subst, ◌∙◌}
 use mathlib.Core.List.{List, [], ◌∷◌}
 use mathlib.Core.Bool.{Bool, true, false, cond}
-use mathlib.Core.Option.{none, some}
+use mathlib.Core.Option.{some}
 use Prim.Native.Nat.{ℕ, suc, ◌+◌, ◌≤◌, ◌<◌}
-use native.Mathlib.Numerals.{add-one}
 use native.Mathlib.Omega.{arith}
 use lib.Dec.{eqb}
-use lib.ListN.{length, drop, get_or, drop_of_length-le}
-use borrow.Author.Tests.{eq-eqb, ne_eqb, eqb-true, eqb-false}
+use lib.ListN.{length}
+use borrow.Author.Tests.{eqb-true, eqb-false}
 use Rattle.tree.specs.Keys.{first_key}
 use Rattle.tree.specs.Forest.{leaf?}
 use Rattle.tree.specs.Laid.{key_of, extent_of, successes}
 use Rattle.tree.specs.Inner.Cut.{Span, begin, locate}
 use Rattle.tree.proofs.InsertWords.{leaf_number}
 use Rattle.tree.proofs.RemoveWords.{locate_hit, locate_miss}
-use Rattle.tree.proofs.Hops.{key_at, extent_at, locate_stop, locate_step}
 use Rattle.clause.proofs.Apart.{apart}
-
--- ---- where the run begins
-
-pub begin_on : (w at from up : ℕ) → up ≡ extent_of w + 1 → from ≡ begin w at from up
-begin_on w at from up e = rw (eq-eqb up (suc (extent_of w)) (omega arith))
-
-pub begin_new : (w at from up : ℕ) → (up ≡ extent_of w + 1 → ⊥) → at ≡ begin w at from up
-begin_new w at from up e = rw (ne_eqb up (suc (extent_of w)) (λ q. e (q ∙ sym (add-one (extent_of w)))))
-
--- ---- one turn
-
-module _ (W : List ℕ) (p n from up first : ℕ) (h : p < length W) (b : first ≡ begin (get_or W p 0) p from up) where
-  pub scan_stop : key_at W p ≡ n → some (record { place = first; last = p }) ≡ locate (drop p W) n p from up
-  scan_stop u = rw b (sym (locate_stop W p n from up h u))
-
-  pub scan_on_lem : (key_at W p ≡ n → ⊥) → locate (drop (p + 1) W) n (p + 1) first (extent_at W p) ≡ locate (drop p W) n p from up
-  scan_on_lem u = rw (add-one p, b) (sym (locate_step W p n from up h u))
-
-pub scan_end : (W : List ℕ) (p n from up : ℕ) → length W ≤ p → none ≡ locate (drop p W) n p from up
-scan_end W p n from up h = rw (drop_of_length-le W h)
 
 -- ---- what was found
 

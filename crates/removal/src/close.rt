@@ -2,8 +2,6 @@
 ghost use Rattle.std.specs.Prelude.{◌≡◌, ◌≤◌, length};
 ghost use Rattle.removal.specs.Inner.Close.{close_up};
 
-use laid::clear;
-
 // Of the first `used` words the first `gone` go: the others move to the left, and zeros take the last places.
 // The caller's words are at least so many.
 pub(crate) fn close_up(words: &mut [u64], used: usize, gone: usize)
@@ -11,8 +9,6 @@ pub(crate) fn close_up(words: &mut [u64], used: usize, gone: usize)
     ensures { words.new ≡ close_up words.old used gone }
 {
     let kept = used - gone;
-    for i in 0..kept {
-        words[i] = words[i + gone];
-    }
-    clear(&mut words[kept..used]);
+    words.copy_within(gone..used, 0);
+    words[kept..used].fill(0);
 }

@@ -21,37 +21,27 @@ pub struct Stretch {
     pub last: usize,
 }
 
-// Where a number stands, with the only children that lead to it.
-#[derive(Drop)]
-pub enum Located {
-    At(Stretch),
-    Nowhere,
-}
-
-// The first Success with a number, and the top of its chain of only children.
-pub(crate) fn locate(words: &[u64], number: u32) -> Located
+// Where a number stands: its first Success, with the only children that lead to it.
+pub(crate) fn locate(words: &[u64], number: u32) -> Option<Stretch>
     ensures { span_of result ≡ locate words.now number 0 0 0 }
 {
     let wanted = number as u64;
-    let mut from: usize = 0;
-    let mut above: usize = 0;
-    let mut at: usize = 0;
-    while at < words.len() {
-        let w = words[at];
+    let mut from = 0;
+    let mut above = 0;
+    for (at, &w) in words.iter().enumerate() {
         let here = extent(w);
         if above != here + 1 {
             from = at;
         }
         if key(w) == wanted {
-            return Located::At(Stretch {
+            return Some(Stretch {
                 place: from,
                 last: at,
             });
         }
         above = here;
-        at += 1;
     }
-    Located::Nowhere
+    None
 }
 
 // The extents that reach past these words lowered by `gone`. The caller's words can be.
@@ -59,10 +49,10 @@ fn lower(words: &mut [u64], gone: u64)
     requires { Lowerable words.old gone }
     ensures { words.new ≡ lower words.old (length words.old) gone }
 {
-    for at in 0..words.len() {
-        let w = words[at];
-        if extent(w) > words.len() - at {
-            words[at] = w - gone;
+    let count = words.len();
+    for (at, w) in words.iter_mut().enumerate() {
+        if extent(*w) > count - at {
+            *w -= gone;
         }
     }
 }
@@ -87,8 +77,7 @@ fn remove_laid(tree: &mut [u64], number: u32) -> CallAnswer
     ensures { record { answer = result; slice = tree.new } ≡ remove_by_words tree.old number }
 {
     let end = Tree::used(tree[0]) + 1;
-    let located = locate(&tree[1..end], number);
-    let Located::At(run) = located else {
+    let Some(run) = locate(&tree[1..end], number) else {
         return CallAnswer::Refused(Refusal::NoSuchNumber);
     };
     let place = run.place;

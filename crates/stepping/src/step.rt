@@ -221,7 +221,9 @@ fn same_terms(query: &[u16], tables: &[u8; Clause::TABLES], p: usize, q: usize) 
     let q_cell = Clause::ENDS + q;
     let p_end = wide(tables[p_cell]);
     let q_end = wide(tables[q_cell]);
-    clause::same(&query[p..p_end], &query[q..q_end])
+    let at_p = &query[p..p_end];
+    let at_q = &query[q..q_end];
+    at_p == at_q
 }
 
 // A Success ends the walk; it has one word.

@@ -10,7 +10,7 @@ ghost use Rattle.streaming.specs.Inner.Running.{Running};
 use crate::input::{may_read, read_block};
 use feeding::feed;
 use index::Heads;
-use intake::{Session, begin};
+use intake::Session;
 use printing::{Meter, hand_on};
 use record::Setting;
 
@@ -93,7 +93,7 @@ pub fn feed_all(
     ensures ended { may_read meters.new ≡ false }
 {
     let mut here = FedBlock {
-        session: begin(),
+        session: Session::default(),
         next: 0,
     };
     let mut heads = [0u16; Heads::ENTRIES];

@@ -1,5 +1,5 @@
 -- The rows of some numbers, one after another.
-use mathlib.Core.Path.{◌≡◌, refl}
+use mathlib.Core.Path.{◌≡◌}
 use mathlib.Core.List.{List, [], ◌++◌, flat_map, append-nil}
 use Prim.Native.Nat.{ℕ, ◌+◌, ◌≤◌, ◌<◌}
 use lib.Dec.{ltb}
@@ -7,9 +7,7 @@ use lib.ListN.{get_or}
 use borrow.Author.Tests.{lt-ltb, le-ltb}
 use Rattle.record.specs.Line.{tally_line}
 use Rattle.record.specs.Tally.{passing, tally_lines}
-use Rattle.record.specs.Counters.{strikes_at, candidates_at, counters_after, row_shown, shown_from}
-use Rattle.record.specs.declared.Outcome.{Outcome}
-use Rattle.record.specs.declared.Outcome.TheVariants.{Kept, Struck, Refused}
+use Rattle.record.specs.Counters.{strikes_at, candidates_at, row_shown, shown_from}
 use Rattle.record.proofs.Tallies.{rows_none, rows_append}
 
 module _ (m c : List ℕ) where
@@ -30,9 +28,3 @@ module _ (m c : List ℕ) where
   pub shown_append : (n a b : ℕ) → tally_lines (shown_from m c n (a + b)) ≡ tally_lines (shown_from m c n a) ++ tally_lines (shown_from m c (n + a) b)
   unfolding shown_from
   shown_append n a b = rows_append (row_shown c) (λ k. ltb 0 (get_or m k 0)) n a b
-
--- what is no strike is not counted
-pub no_strike : (o : Outcome) (c : List ℕ) → ((n k : ℕ) → o ≡ Struck n k → ⊥) → c ≡ counters_after o c
-no_strike (Kept used) c h = refl
-no_strike (Struck n k) c h = absurd (h n k refl)
-no_strike (Refused code) c h = refl

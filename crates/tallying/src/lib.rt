@@ -16,6 +16,4 @@ impl Counters {
     pub const WORDS: usize = 0x2_0000;
     // The words of a number.
     const EACH: usize = 2;
-    // The most that a counter counts: it stops there.
-    const MOST: u64 = 0xFFFF_FFFF_FFFF_FFFF;
 }

@@ -50,11 +50,9 @@ pub fn put_rows(
         ≡ put_at (tally_lines (shown_from marks.now counters.now from count)) output.old 0 }
     ensures short { result ≤ count * longest_tally }
 {
-    let mut i: usize = 0;
     let mut at: usize = 0;
-    while i < count {
-        at = put_marked(output, at, marks, counters, from + i);
-        i += 1;
+    for number in from..from + count {
+        at = put_marked(output, at, marks, counters, number);
     }
     at
 }

@@ -107,9 +107,6 @@ impl Tree {
     pub fn sized(words: usize) -> bool
         ensures { result ≡ tree_sized words }
     {
-        if words < Self::LEAST {
-            return false;
-        }
-        words <= Self::WORDS
+        Self::LEAST <= words && words <= Self::WORDS
     }
 }

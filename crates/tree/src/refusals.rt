@@ -5,26 +5,16 @@ ghost use Rattle.tree.specs.Refusal.{code_of};
 use crate::Refusal;
 use clause::Fault;
 
-// The code of a clause's fault.
-fn fault_code(fault: Fault) -> u8
-    ensures { result ≡ code_of (Refusal.BadClause fault) }
-{
-    match fault {
-        Fault::BadLength => 3,
-        Fault::Bad(_) => 4,
-        Fault::Ninth(_) => 5,
-    }
-}
+impl From<Refusal> for u8 {
+    ghost from_gives = { λ refusal code. code ≡ code_of refusal };
 
-impl Refusal {
-    // The code.
-    pub fn code(self) -> u8
-        ensures { result ≡ code_of self }
-    {
-        match self {
+    fn from(refusal: Refusal) -> u8 {
+        match refusal {
             Refusal::BadSlice => 1,
             Refusal::Broken => 2,
-            Refusal::BadClause(fault) => fault_code(fault),
+            Refusal::BadClause(Fault::BadLength) => 3,
+            Refusal::BadClause(Fault::Bad(_)) => 4,
+            Refusal::BadClause(Fault::Ninth(_)) => 5,
             Refusal::ShortWitness => 6,
             Refusal::NumberTaken => 7,
             Refusal::Held(_) => 8,
@@ -37,5 +27,14 @@ impl Refusal {
             Refusal::ShortOutput => 15,
             Refusal::ShortList => 16,
         }
+    }
+}
+
+impl Refusal {
+    // The code.
+    pub fn code(self) -> u8
+        ensures { result ≡ code_of self }
+    {
+        u8::from(self)
     }
 }

@@ -17,4 +17,4 @@ returns-in_default-read c = read_foreign _ c.requires.0 _ _ (rw c.over-pass.ensu
 
 pub returns : goal.returns
 returns c =
-    read_some _ c.requires.0 _ (omega arith) _ c.requires.1 _ (rw c.over-pass.ensures at c.in-Some.ensures) _ _ c.in-Words.ensures
+    read_some _ c.requires.0 _ (omega arith) _ c.requires.1 _ (rw c.over-pass.ensures at c.in-Some.ensures) _ _ c.in-Ok.ensures

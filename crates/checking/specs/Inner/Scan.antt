@@ -5,7 +5,7 @@ use Rattle.tree.specs.Keys.{first_key}
 use Rattle.tree.specs.Laid.{key_of, extent_of}
 use Rattle.tree.specs.Entries.{Entry}
 use Rattle.readback.specs.Saved.{all_readable}
-use Rattle.checking.specs.declared.Foreign.{Foreign}
+use Rattle.decompiling.specs.declared.Foreign.{Foreign}
 use Rattle.checking.specs.declared.going.Success.{Success}
 
 -- a word that others stand below: its key, and where its extent ends

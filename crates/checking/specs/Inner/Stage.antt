@@ -3,7 +3,7 @@ use Rattle.std.specs.Prelude.{◌≡◌, true, false, List, [], ◌∷◌, ℕ, 
 use Rattle.tree.specs.Entries.{Entry}
 use Rattle.readback.specs.Saved.{all_readable, numbers_of}
 use Rattle.checking.specs.Inner.Scan.{scan_from, opens}
-use Rattle.checking.specs.declared.Foreign.{Foreign}
+use Rattle.decompiling.specs.declared.Foreign.{Foreign}
 
 -- the keys above the Success that it has come to, and the entries that are left
 pub record Stage : Type 0 where

@@ -8,7 +8,7 @@ use Rattle.compiling.proofs.Rows.{rows_none, rows_room, rows_stored, rows_to_who
 use Rattle.compiling.proofs.compare_all.Goals as goal
 
 pub loop-m-init : goal.loop-m-init
-loop-m-init c = (omega arith, refl, rw rows_none (stored_none _ _))
+loop-m-init c = (refl, rw rows_none (stored_none _ _))
 
 pub compare_row-at-requires : goal.compare_row-at-requires
 compare_row-at-requires c =
@@ -24,10 +24,10 @@ loop-m-preserved c =
     let a = c.args in
     let l = c.loop-m in
     let e = c.compare_row-at.ensures in
-    (omega arith, stored_length e ∙ l.invariant.1, rows_stored a.firsts.now a.from l.m l.invariant.2 e)
+    (stored_length e ∙ l.invariant.0, rows_stored a.firsts.now a.from l.m l.invariant.1 e)
 
 pub returns : goal.returns
 returns c =
     let a = c.args in
     let e : c.loop-m.m ≡ length a.firsts.now = omega arith in
-    rw (rows_to_whole, ← e) c.loop-m.invariant.2
+    rw (rows_to_whole, ← e) c.loop-m.invariant.1

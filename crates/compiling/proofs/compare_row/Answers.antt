@@ -1,20 +1,15 @@
 -- `compare_row` stores the Compares of one first put.
 use mathlib.Core.Path.{◌≡◌, refl}
-use Prim.Native.Nat.{◌+◌}
 use native.Mathlib.Omega.{arith}
 use lib.ListN.{length, length-set}
-use Rattle.compiling.proofs.Rows.{row_from, row_above, row_room, row_start, row_stored, row_over, row_to_whole}
+use Rattle.compiling.proofs.Rows.{row_first, row_room, row_start, row_stored, row_over, row_to_whole}
 use Rattle.compiling.proofs.compare_row.Goals as goal
-use Rattle.compiling.proofs.compare_row.Goals.{then-from-m, else-from-m, then-firsts-k, else-firsts-k}
+use Rattle.compiling.proofs.compare_row.Goals.{then-firsts-k, else-firsts-k}
 
 pub loop-k-init : goal.loop-k-init
 loop-k-init c =
     let a = c.args in
-    elim c.if-from-m.branch [
-      | then-from-m w ↦
-          rw w.k-is (omega arith, omega arith, omega arith, refl, row_start a.firsts.now a.from a.m (a.m + 1) (row_above a.firsts.now a.from a.m))
-      | else-from-m w ↦ rw w.k-is (omega arith, omega arith, omega arith, refl, row_start a.firsts.now a.from a.m a.from (row_from a.firsts.now a.from a.m))
-    ]
+    (refl, row_start a.firsts.now a.from a.m _ (row_first a.firsts.now a.from a.m c.max-k.ensures))
 
 pub offset_bounds-keys-at : goal.offset_bounds-keys-at
 offset_bounds-keys-at c =
@@ -39,12 +34,12 @@ loop-k-preserved c =
     let i = l.invariant in
     elim c.if-firsts-k.branch [
       | then-firsts-k w ↦
-          rw (w.keys-is, w.at-is) (omega arith, omega arith, omega arith, simp length-set i.3, row_stored f a.from a.m l.k i.0 i.1 w.if-firsts-k.true i.4)
-      | else-firsts-k w ↦ rw (w.keys-is, w.at-is) (omega arith, omega arith, omega arith, i.3, row_over f a.from a.m l.k i.0 i.1 w.if-firsts-k.false i.4)
+          rw (w.keys-is, w.at-is) (simp length-set i.0, row_stored f a.from a.m l.k (omega arith) (omega arith) w.if-firsts-k.true i.1)
+      | else-firsts-k w ↦ rw (w.keys-is, w.at-is) (i.0, row_over f a.from a.m l.k (omega arith) (omega arith) w.if-firsts-k.false i.1)
     ]
 
 pub returns : goal.returns
 returns c =
     let a = c.args in
     let e : c.loop-k.k ≡ length a.firsts.now = omega arith in
-    rw (row_to_whole, ← e) c.loop-k.invariant.4
+    rw (row_to_whole, ← e) c.loop-k.invariant.1

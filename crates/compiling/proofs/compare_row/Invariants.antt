@@ -1,15 +1,9 @@
 -- `compare_row` stores the Compares of one first put.
 use mathlib.Core.Path.{◌≡◌}
-use Prim.Native.Nat.{◌≤◌, ◌<◌, ◌-◌}
 use lib.ListN.{length}
 use Rattle.compiling.specs.Inner.Compiling.{Stored}
 use Rattle.compiling.proofs.Rows.{row_to}
 use Rattle.compiling.proofs.compare_row.Given as goal
 
 abbrev pub invariant-loop-k : goal.invariant-loop-k
-invariant-loop-k l =
-    (l.from ≤ l.k) × (l.m < l.k) × (l.k ≤ length l.firsts) × (length l.keys ≡ length l.initial.keys)
-    × Stored (row_to l.firsts l.from l.m l.k) l.initial.keys l.written l.keys l.at
-
-abbrev pub decreases-loop-k : goal.decreases-loop-k
-decreases-loop-k l = length l.firsts - l.k
+invariant-loop-k l = (length l.keys ≡ length l.initial.keys) × Stored (row_to l.firsts l.from l.m l.k) l.initial.keys l.written l.keys l.at

@@ -1,22 +1,17 @@
--- `first_put` gives the number of a variable's first put: the invariant is that what was passed and the search in the rest give it.
-use native.Mathlib.Omega.{arith}
-use Rattle.compiling.proofs.Puts.{first_here, first_past, first_end}
+-- `first_put` gives the number of a variable's first put: the search tells its place.
+use mathlib.Core.Path.{ap, ◌∙◌}
+use lib.Dec.{eqb}
+use lib.ListN.{length}
+use borrow.Author.Rules.{rules}
+use borrow.Author.Tests.{tests}
+use Rattle.std.specs.Prelude.{unwrap_or}
+use Rattle.std.proofs.lemmas.Iterator.{YieldsList-from_slice}
+use Rattle.std.proofs.lemmas.Iterator.Search.{position_from_yields_List}
+use Rattle.compiling.proofs.Puts.{first_found}
 use Rattle.compiling.proofs.first_put.Goals as goal
-
-pub loop-i-init : goal.loop-i-init
-loop-i-init c = (omega arith, omega arith)
-
-pub returns-then-variables-i : goal.returns-then-variables-i
-returns-then-variables-i c =
-    let a = c.args in
-    omega (arith, first_here a.variables.now a.v c.loop-i.i (omega arith) c.if-variables-i.true)
-
-pub loop-i-preserved : goal.loop-i-preserved
-loop-i-preserved c =
-    let a = c.args in
-    (omega arith, omega (arith, first_past a.variables.now a.v c.loop-i.i (omega arith) c.if-variables-i.false))
 
 pub returns : goal.returns
 returns c =
-    let a = c.args in
-    omega (arith, first_end a.variables.now a.v c.loop-i.i (omega arith))
+    let us = c.args.variables.now in
+    let e = position_from_yields_List (λ u. eqb u c.args.v) _ _ c.position.result c.position.ensures.ran (YieldsList-from_slice us cc) (λ x b q k. search (rules, tests)) in
+    c.unwrap_or.ensures ∙ ap (λ o. unwrap_or o (length us)) e ∙ first_found c.args.v us

@@ -12,6 +12,6 @@ returns-in_default c =
 
 pub returns : goal.returns
 returns c =
-    c.same_keys.ensures ∙ ap (λ l. alike l c.args.keys.now) (compiled_keys c.compile-written.ensures)
+    c.eq.ensures ∙ ap (λ l. alike l c.args.keys.now) (compiled_keys c.compile-written.ensures)
     ∙ keys_whole c.args.words.now c.args.keys.now c.read-shape.result c.in-Whole.field-0 c.read-shape.ensures c.in-Whole.is
     (λ i. omega (arith, c.type_inv.words i))

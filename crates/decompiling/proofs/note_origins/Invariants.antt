@@ -1,13 +1,9 @@
 -- `note_origins` meets its contract: the Compares from i on are noted.
 use mathlib.Core.Path.{◌≡◌}
-use Prim.Native.Nat.{◌≤◌}
 use lib.ListN.{length, drop}
 use Rattle.readback.specs.Readback.{instructions}
 use Rattle.decompiling.specs.Inner.Reader.{Origins}
 use Rattle.decompiling.proofs.note_origins.Given as goal
 
 abbrev pub invariant-loop-i : goal.invariant-loop-i
-invariant-loop-i l = (l.i ≤ length l.keys) × (length l.origins ≡ 64) × Origins (instructions (drop l.i l.keys)) l.origins
-
-abbrev pub decreases-loop-i : goal.decreases-loop-i
-decreases-loop-i l = l.i
+invariant-loop-i l = (length l.origins ≡ 64) × Origins (instructions (drop l.i l.keys)) l.origins

@@ -1,20 +1,15 @@
 -- `insertion::has_number` meets its contract.
-use mathlib.Core.Path.{refl, ◌∙◌}
-use native.Mathlib.Omega.{arith}
-use borrow.Author.Rules.{rules}
-use Rattle.insertion.proofs.Scanning.{scanned_start, scanned_hit, scanned_miss, scanned_end}
+use mathlib.Core.Path.{◌∙◌}
+use lib.Dec.{eqb}
+use Rattle.std.proofs.Common.{rules, tests}
+use Rattle.std.proofs.lemmas.Iterator.{YieldsList-from_slice}
+use Rattle.std.proofs.lemmas.Iterator.Search.{any_from_yields_List}
+use Rattle.tree.specs.Laid.{key_of}
+use Rattle.insertion.proofs.Scanning.{any_located}
 use Rattle.insertion.proofs.has_number.Goals as goal
 
-pub loop-at-init : goal.loop-at-init
-loop-at-init c = (refl, search rules, scanned_start _ _)
-
-pub returns-then-key-wanted : goal.returns-then-key-wanted
-returns-then-key-wanted c = let s = c.loop-at in scanned_hit s.invariant.2 (omega arith) (omega (arith, c.key.ensures))
-
-pub loop-at-preserved : goal.loop-at-preserved
-loop-at-preserved c =
-    let s = c.loop-at in
-    (search rules, search rules, scanned_miss s.invariant.2 (omega arith) (λ e. c.if-key-wanted.false (c.key.ensures ∙ e)))
-
 pub returns : goal.returns
-returns c = scanned_end c.loop-at.invariant.2 (omega arith)
+returns c =
+    let W = c.args.words.now in
+    any_from_yields_List (λ w. eqb (key_of w) c.args.number) _ _ _ c.any.ensures.ran (YieldsList-from_slice W cc) (λ x b q k. search (rules, tests))
+    ∙ any_located W c.args.number 0 0 0

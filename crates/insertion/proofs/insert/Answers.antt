@@ -1,5 +1,4 @@
 -- `insert` meets its contract: the tests in their order, and then the insertion of an accepted clause into a well-laid slice.
-use mathlib.Core.Path.{sym, ◌∙◌}
 use Rattle.tree.specs.Calls.{insertion}
 use Rattle.insertion.proofs.insert.Goals as goal
 
@@ -26,9 +25,3 @@ returns-then-not-well_laid c =
       ← c.well_laid.ensures,
       c.if-not-well_laid.true,
     )
-
-pub insert_read-requires : goal.insert_read-requires
-insert_read-requires c =
-    let size = sym c.sized.ensures ∙ c.if-not-sized.false in
-    let laid = sym c.well_laid.ensures ∙ c.if-not-well_laid.false in
-    (size, laid, (_, sym c.read-shape.ensures ∙ c.in-Whole.is))

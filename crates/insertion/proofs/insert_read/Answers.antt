@@ -3,21 +3,14 @@ use mathlib.Core.Path.{sym, ◌∙◌}
 use Prim.Native.Nat.{ℕ, ◌^◌, ◌<◌}
 use native.Mathlib.Omega.{arith}
 use lib.ListN.{get_or}
-use lib.Seq.{length-take-le}
 use Rattle.clause.proofs.Literals.{accepted}
 use Rattle.tree.proofs.ByWords.{insertion_words}
 use Rattle.merging.proofs.KeysOf.{all_below, keys_body, keys_few}
-use Rattle.machine.proofs.Compiled.{compiled_fits, compiled_keys}
+use Rattle.machine.proofs.Compiled.{compiled_keys}
 use Rattle.insertion.proofs.insert_read.Goals as goal
 
 pub compile-count-requires : goal.compile-count-requires
 compile-count-requires c = ((accepted c.args.words.now c.requires.2).fits, omega arith)
-
-pub slice_bounds-keys-end : goal.slice_bounds-keys-end
-slice_bounds-keys-end c = compiled_fits c.compile-count.ensures
-
-pub slice_bounds-insert_laid-end : goal.slice_bounds-insert_laid-end
-slice_bounds-insert_laid-end c = sym (length-take-le _ _ (compiled_fits c.compile-count.ensures))
 
 pub insert_laid-requires : goal.insert_laid-requires
 insert_laid-requires c =

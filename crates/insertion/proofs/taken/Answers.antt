@@ -8,12 +8,6 @@ use Rattle.insertion.specs.Inner.Taken.{is_some}
 use Rattle.merging.proofs.UsedWords.{parts}
 use Rattle.insertion.proofs.taken.Goals as goal
 
-pub bounds-tree-0 : goal.bounds-tree-0
-bounds-tree-0 c = omega (arith, (parts _ c.requires.0 c.requires.1).room)
-
-pub overflow_add-end : goal.overflow_add-end
-overflow_add-end c = omega (arith, (parts _ c.requires.0 c.requires.1).room)
-
 pub slice_bounds-has_number-end : goal.slice_bounds-has_number-end
 slice_bounds-has_number-end c = omega (arith, (parts _ c.requires.0 c.requires.1).room)
 

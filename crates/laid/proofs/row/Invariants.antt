@@ -1,12 +1,11 @@
 -- The rest of the row from each sibling on decides.
 use mathlib.Core.Path.{◌≡◌}
-use Prim.Native.Nat.{◌-◌, ◌≤◌}
-use lib.ListN.{length, drop}
+use lib.ListN.{length}
 use Rattle.tree.specs.Laid.{row}
 use Rattle.laid.proofs.row.Given as goal
 
-abbrev pub invariant-loop-at : goal.invariant-loop-at
-invariant-loop-at l = (l.at ≤ l.count) × (l.count ≤ length l.words) × (row l.words 0 0 l.count ≡ row (drop l.at l.words) l.least 0 (l.count - l.at))
+abbrev pub invariant-loop-rest : goal.invariant-loop-rest
+invariant-loop-rest l = row l.words 0 0 l.count ≡ row l.rest l.least 0 (length l.rest)
 
-abbrev pub decreases-loop-at : goal.decreases-loop-at
-decreases-loop-at l = l.count - l.at
+abbrev pub decreases-loop-rest : goal.decreases-loop-rest
+decreases-loop-rest l = length l.rest

@@ -5,14 +5,11 @@ use native.Mathlib.Omega.{arith}
 use borrow.Author.Tests.{lt-ltb, le-ltb, le-leb, lt-leb}
 use Rattle.tree.specs.Keys.{first_key, lawful}
 use Rattle.tree.specs.Laid.{key_of}
-use Rattle.laid.proofs.WellLaid.{sound_success, sound_alone, sound_inner}
+use Rattle.laid.proofs.WellLaid.{sound_success, sound_inner}
 use Rattle.laid.proofs.sound.Goals as goal
 
 pub returns-then-k-lt-FIRST : goal.returns-then-k-lt-FIRST
 returns-then-k-lt-FIRST c = let w = c.args.w in rw c.extent-e.ensures (sym (sound_success w (omega arith)))
-
-pub returns-then-e-eq1 : goal.returns-then-e-eq1
-returns-then-e-eq1 c = let w = c.args.w in sym (sound_alone w (omega arith) (omega arith))
 
 pub returns-then-k-ge-END : goal.returns-then-k-ge-END
 unfolding lawful

@@ -1,47 +1,42 @@
 -- The tests of the code, one after the other, are the definition's.
-use mathlib.Core.Path.{◌≡◌, sym, ◌∙◌}
-use mathlib.Core.List.{List}
-use Prim.Native.Nat.{ℕ, ◌-◌, ◌≤◌}
+use mathlib.Core.Path.{sym, ◌∙◌}
 use native.Mathlib.Omega.{arith}
-use lib.ListN.{length, get_or}
 use borrow.Author.Tests.{le-leb, lt-leb}
-use Rattle.tree.specs.Laid.{max_kept, used_of, kept_of, well_laid}
-use Rattle.laid.proofs.WellLaid.{words_by, laid_none, laid_parts}
+use Rattle.clause.proofs.Apart.{apart}
+use Rattle.tree.specs.Laid.{max_kept}
+use Rattle.laid.proofs.WellLaid.{laid_none, laid_parts, laid_rest}
 use Rattle.laid.proofs.well_laid.Goals as goal
+use Rattle.laid.proofs.well_laid.Goals.{then-header-rest-via-then-header-rest, then-header-rest-via-else-header-rest+then-header-gt-CLAUSES, then-row, else-row}
 
--- the header is in order
-inside : (tree : List ℕ) (used kept : ℕ) → (length tree ≡ 0 → ⊥) → used ≡ used_of (get_or tree 0 0) → kept ≡ kept_of (get_or tree 0 0)
-    → used ≤ length tree - 1 → kept ≤ max_kept → well_laid tree ≡ words_by tree used kept
-inside tree used kept z e f u k = laid_parts tree used kept z e f ∙ rw (le-leb _ _ u, le-leb kept max_kept k)
+pub returns-in_default : goal.returns-in_default
+returns-in_default c = sym (laid_none c.args.tree.now (omega arith))
 
-pub returns-then-tree-eq0 : goal.returns-then-tree-eq0
-returns-then-tree-eq0 c = sym (laid_none c.args.tree.now c.if-tree-eq0.true)
-
-pub returns-then-used-tree : goal.returns-then-used-tree
-returns-then-used-tree c =
+pub returns-then-header-rest : goal.returns-then-header-rest
+returns-then-header-rest c =
     let H = c.header-header in
-    sym (laid_parts c.args.tree.now H.result.used H.result.kept c.if-tree-eq0.false H.ensures.0 H.ensures.1 ∙ rw (lt-leb _ _ c.if-used-tree.true))
+    let parts = laid_parts c.args.tree.now H.result.used H.result.kept (omega arith) H.ensures.0 H.ensures.1 in
+    elim c.then-header-rest.branch [
+      | then-header-rest-via-then-header-rest w ↦ rw (lt-leb _ _ w.if-header-rest.true) at parts
+      | then-header-rest-via-else-header-rest+then-header-gt-CLAUSES w ↦
+          rw (le-leb _ _ w.if-header-rest.false, lt-leb H.result.kept max_kept (omega arith)) at parts
+    ]
 
-pub returns-then-header-gt-CLAUSES : goal.returns-then-header-gt-CLAUSES
-returns-then-header-gt-CLAUSES c =
+pub returns-then-rows : goal.returns-then-rows
+returns-then-rows c =
     let H = c.header-header in
-    sym (laid_parts c.args.tree.now H.result.used H.result.kept c.if-tree-eq0.false H.ensures.0 H.ensures.1
-    ∙ rw (le-leb _ _ c.if-used-tree.false, lt-leb H.result.kept max_kept (omega arith)))
+    let parts =
+    laid_rest c.args.tree.now _ _ _ _ (omega arith) H.ensures.0 H.ensures.1 (omega arith) (omega arith) c.split_at.ensures.front c.split_at.ensures.back in
+    elim c.if-row.branch [
+      | then-row w ↦ rw (← c.row.ensures, w.if-row.true, ← w.rows.ensures, ← w.value-is, c.if-rows.true, ← c.zeros.ensures) at parts
+      | else-row w ↦ apart cc
+    ]
 
-pub returns-then-not-row : goal.returns-then-not-row
-returns-then-not-row c =
+pub returns-else-rows : goal.returns-else-rows
+returns-else-rows c =
     let H = c.header-header in
-    sym (inside c.args.tree.now _ _ c.if-tree-eq0.false H.ensures.0 H.ensures.1 c.if-used-tree.false (omega arith)
-    ∙ rw (← c.row.ensures, c.if-not-row.true))
-
-pub returns-then-not-rows : goal.returns-then-not-rows
-returns-then-not-rows c =
-    let H = c.header-header in
-    sym (inside c.args.tree.now _ _ c.if-tree-eq0.false H.ensures.0 H.ensures.1 c.if-used-tree.false (omega arith)
-    ∙ rw (← c.row.ensures, c.if-not-row.false, ← c.rows.ensures, c.if-not-rows.true))
-
-pub returns : goal.returns
-returns c =
-    let H = c.header-header in
-    sym (inside c.args.tree.now _ _ c.if-tree-eq0.false H.ensures.0 H.ensures.1 c.if-used-tree.false (omega arith)
-    ∙ rw (← c.row.ensures, c.if-not-row.false, ← c.rows.ensures, c.if-not-rows.false, ← c.zeros.ensures))
+    let parts =
+    laid_rest c.args.tree.now _ _ _ _ (omega arith) H.ensures.0 H.ensures.1 (omega arith) (omega arith) c.split_at.ensures.front c.split_at.ensures.back in
+    elim c.if-row.branch [
+      | then-row w ↦ c.if-rows.false ∙ (rw (← c.row.ensures, w.if-row.true, ← w.rows.ensures, ← w.value-is, c.if-rows.false) at parts)
+      | else-row w ↦ c.if-rows.false ∙ (rw (← c.row.ensures, w.if-row.false) at parts)
+    ]

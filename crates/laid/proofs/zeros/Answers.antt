@@ -1,23 +1,17 @@
--- The rest of the words decides.
-use mathlib.Core.Path.{◌≡◌, refl, sym, ◌∙◌}
-use native.Mathlib.Omega.{arith}
-use lib.ListN.{length}
-use lib.Seq.{drop-length}
-use borrow.Author.Rules.{rules}
-use Rattle.laid.proofs.WellLaid.{zeros_step, zeros_stop}
+-- `all` of the words is the definition's test.
+use mathlib.Core.Path.{refl, ◌∙◌}
+use mathlib.Core.Bool.{◌&&◌}
+use lib.Dec.{eqb}
+use Rattle.std.proofs.Common.{rules, tests}
+use Rattle.std.specs.List.{list_all}
+use Rattle.std.proofs.lemmas.Iterator.{YieldsList-from_slice}
+use Rattle.std.proofs.lemmas.Iterator.Search.{all_from_yields_List}
+use Rattle.std.proofs.lemmas.List.Recursion.{same_from_clauses}
+use Rattle.tree.specs.Laid.{zeros}
 use Rattle.laid.proofs.zeros.Goals as goal
-
-pub loop-i-init : goal.loop-i-init
-loop-i-init c = (search rules, refl)
-
-pub returns-then-words-i-ne0 : goal.returns-then-words-i-ne0
-returns-then-words-i-ne0 c = sym (c.loop-i.invariant.1 ∙ zeros_stop c.args.words.now c.loop-i.i c.loop-i-test.true c.if-words-i-ne0.true)
-
-pub loop-i-preserved : goal.loop-i-preserved
-loop-i-preserved c = (search rules, c.loop-i.invariant.1 ∙ zeros_step c.args.words.now c.loop-i.i c.loop-i-test.true c.if-words-i-ne0.false)
 
 pub returns : goal.returns
 returns c =
     let W = c.args.words.now in
-    let e : c.loop-i.i ≡ length W = omega arith in
-    sym (c.loop-i.invariant.1 ∙ rw (e, drop-length W))
+    all_from_yields_List (λ w. eqb w 0) _ _ _ c.all.ensures.ran (YieldsList-from_slice W cc) (λ x b q k. search (rules, tests))
+    ∙ same_from_clauses (list_all (λ w. eqb w 0)) zeros (λ w b. eqb w 0 && b) refl (λ _ _. refl) (λ _ _. refl) W

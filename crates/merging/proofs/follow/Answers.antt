@@ -7,32 +7,19 @@ use lib.Arith.{lt_of_le-ne}
 use lib.ListN.{length}
 use borrow.Author.Tests.{ltb-true, ltb-false}
 use Rattle.merging.proofs.Descending.{firm_some, firm_fits, at_stop, at_end, descending_dive, descending_hop, leads}
-use Rattle.merging.specs.declared.Holder.TheVariants.{Nobody}
+use Rattle.std.specs.Prelude.{None}
 use Rattle.merging.proofs.follow.Goals as goal
 use Rattle.merging.proofs.follow.Goals.{then-loop-at-test+else-shared-keys, else-loop-at-test}
-
-pub loop-at-init : goal.loop-at-init
-loop-at-init c = c.requires
 
 pub returns-then-wanted-here : goal.returns-then-wanted-here
 returns-then-wanted-here c =
     let s = c.loop-at.invariant in
-    leads s (at_stop s (omega arith) (omega (arith, ltb-true)) (omega arith)) Nobody refl
-
-pub overflow_add-end : goal.overflow_add-end
-overflow_add-end c =
-    let s = c.loop-at.invariant in
-    omega (arith, c.extent.ensures, firm_fits s (omega arith), s.room)
+    leads s (at_stop s (omega arith) (omega (arith, ltb-true)) (omega arith)) None refl
 
 pub loop-at-preserved-then-wanted-here-2 : goal.loop-at-preserved-then-wanted-here-2
 loop-at-preserved-then-wanted-here-2 c =
     let s = c.loop-at.invariant in
     descending_dive s (omega arith) (omega (arith, ltb-true)) _ c.extent.ensures (omega arith)
-
-pub overflow_add-at-else-wanted-here-2 : goal.overflow_add-at-else-wanted-here-2
-overflow_add-at-else-wanted-here-2 c =
-    let s = c.loop-at.invariant in
-    omega (arith, c.extent-at.ensures, firm_fits s (omega arith), s.room)
 
 pub loop-at-smaller : goal.loop-at-smaller
 loop-at-smaller c =
@@ -43,9 +30,6 @@ pub loop-at-preserved : goal.loop-at-preserved
 loop-at-preserved c =
     let s = c.loop-at.invariant in
     descending_hop s (omega arith) (omega (arith, ltb-true)) _ c.extent-at.ensures (lt_of_le-ne (omega arith) (λ e. c.if-wanted-here-2.false (omega arith)))
-
-pub first_success-requires : goal.first_success-requires
-first_success-requires c = c.loop-at.invariant.room
 
 pub returns : goal.returns
 returns c =

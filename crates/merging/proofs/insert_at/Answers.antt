@@ -7,17 +7,6 @@ use Rattle.merging.proofs.Chain.{tail_writable}
 use Rattle.merging.proofs.Putting.{end_of, new_of, slice_parts, place_inside, insert_cramped, insert_room, insert_kept}
 use Rattle.merging.proofs.insert_at.Goals as goal
 
-pub bounds-tree-0 : goal.bounds-tree-0
-bounds-tree-0 c = omega (arith, (slice_parts c.requires.0).room)
-
-pub overflow_add-end : goal.overflow_add-end
-overflow_add-end c = omega (arith, (slice_parts c.requires.0).room)
-
-pub overflow_add-end-2 : goal.overflow_add-end-2
-overflow_add-end-2 c =
-    let P = slice_parts c.requires.0 in
-    omega (arith, P.room, P.short, c.requires.0.few)
-
 pub returns-then-end-new : goal.returns-then-end-new
 returns-then-end-new c = insert_cramped c.args.number c.args.shared c.requires.0 c.requires.1 (omega (arith, c.if-end-new.true, c.used-end.ensures))
 
@@ -46,9 +35,6 @@ put_in-requires c =
       tail_writable c.args.keys.now c.args.shared c.requires.2 c.requires.0.body c.requires.0.few,
       rw c.used-end.ensures (insert_room c.args.number c.args.shared c.requires.0 c.requires.1 room c.raise.new.words long),
     )
-
-pub one_more-requires : goal.one_more-requires
-one_more-requires c = omega (arith, c.if-end-new.false, c.used-end.ensures, (slice_parts c.requires.0).short)
 
 pub returns : goal.returns
 returns c =

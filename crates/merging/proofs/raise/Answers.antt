@@ -3,7 +3,7 @@ use mathlib.Core.Logic.{inl, inr}
 use native.Mathlib.Omega.{arith}
 use lib.Arith.{lt_of_le-ne}
 use borrow.Author.Tests.{ltb-true, ltb-false}
-use Rattle.merging.proofs.Descending.{raising_start, firm_some, firm_fits, firm_small, as_was, at_stop, at_end, raising_dive, raising_hop, all_raised}
+use Rattle.merging.proofs.Descending.{raising_start, firm_small, as_was, at_stop, at_end, raising_dive, raising_hop, all_raised}
 use Rattle.merging.proofs.raise.Goals as goal
 
 pub loop-at-init : goal.loop-at-init
@@ -19,25 +19,10 @@ overflow_add-words c =
     let s = c.loop-at.invariant in
     omega (arith, as_was s (omega arith), firm_small s.on (omega arith) _ c.requires.1)
 
-pub overflow_add-end : goal.overflow_add-end
-overflow_add-end c =
-    let s = c.loop-at.invariant in
-    omega (arith, c.extent.ensures, as_was s (omega arith), firm_fits s.on (omega arith), s.on.room)
-
 pub loop-at-preserved-then-wanted-here-2 : goal.loop-at-preserved-then-wanted-here-2
 loop-at-preserved-then-wanted-here-2 c =
     let s = c.loop-at.invariant in
     raising_dive s (omega arith) (omega (arith, ltb-true)) _ c.extent.ensures (omega arith)
-
-pub overflow_add-at-else-wanted-here-2 : goal.overflow_add-at-else-wanted-here-2
-overflow_add-at-else-wanted-here-2 c =
-    let s = c.loop-at.invariant in
-    omega (arith, c.extent-at.ensures, as_was s (omega arith), firm_fits s.on (omega arith), s.on.room)
-
-pub loop-at-smaller : goal.loop-at-smaller
-loop-at-smaller c =
-    let s = c.loop-at.invariant in
-    omega (arith, c.extent-at.ensures, as_was s (omega arith), firm_some s.on (omega arith), firm_fits s.on (omega arith), s.on.room, s.many)
 
 pub loop-at-preserved : goal.loop-at-preserved
 loop-at-preserved c =

@@ -1,18 +1,17 @@
 -- What the functions within insertion ask of their callers, and what they tell them.
-use Rattle.std.specs.Prelude.{◌≡◌, true, List, ℕ, ◌-◌, ◌≤◌, T, length, drop}
+use Rattle.std.specs.Prelude as std
+use Rattle.std.specs.Prelude.{Some, None, ◌≡◌, true, List, ℕ, ◌-◌, ◌≤◌, T, length, drop}
 use Rattle.std.proofs.Math.Option.{Option, none, some}
 use Rattle.machine.specs.Compiled.{max_keys}
 use Rattle.tree.specs.Forest.{Body}
 use Rattle.tree.specs.Laid.{sized, row, rows, well_laid}
 use Rattle.tree.specs.Inner.Merge.{behind, descend, from_top}
-use Rattle.merging.specs.declared.Holder.{Holder}
-use Rattle.merging.specs.declared.Holder.TheVariants.{Nobody, Clause}
 use Rattle.merging.specs.declared.Place.{Place}
 
 -- the number of the clause that keeps a sequence, if one does
-abbrev pub holder_of : Holder → Option ℕ
-holder_of Nobody = none
-holder_of (Clause number) = some number
+abbrev pub holder_of : std.Option ℕ → Option ℕ
+holder_of None = none
+holder_of (Some number) = some number
 
 -- the words are siblings one after another, and so are those below each of them
 pub record Nested (words : List ℕ) : Type 0 where

@@ -9,38 +9,36 @@ use borrow.Author.Rules.{rules}
 use Rattle.clause.specs.Word.{arity}
 use Rattle.reading.specs.Inner.Cursor.{head_cursor, go_down}
 use Rattle.clause.specs.declared.Shape.{Shape}
-use Rattle.reading.specs.declared.Move.{Move}
-use Rattle.clause.proofs.Apart.{apart}
+use Rattle.std.specs.Prelude.{Option}
+use Rattle.reading.specs.declared.Cursor.{Cursor}
 use Rattle.reading.proofs.Past.{past_on}
 use Rattle.reading.proofs.Scanning.{read_on, first_at, read_off, read_right, scan_none, scan_other, scan_ninth, scan_down}
 use Rattle.reading.proofs.literals.Goals as goal
 
 -- what is read from here on, by where the argument is
-onward : {s : Shape} (q : List ℕ) (at count : ℕ) {m n : Move} → s ≡ read_on q at count m → m ≡ n → s ≡ read_on q at count n
+onward : {s : Shape} (q : List ℕ) (at count : ℕ) {m n : Option Cursor} → s ≡ read_on q at count m → m ≡ n → s ≡ read_on q at count n
 onward q at count e f = e ∙ ap (read_on q at count) f
 
 pub loop-argument-init : goal.loop-argument-init
-loop-argument-init c = (search rules, λ h e. apart cc, refl)
+loop-argument-init c = (search rules, λ h e. cc, refl)
 
-pub returns-in_default-passed : goal.returns-in_default-passed
-returns-in_default-passed c =
-    let e = c.in_default-passed.is in
-    sym (onward c.args.words.now _ _ c.loop-argument.invariant.2 c.in-To.is
-    ∙ rw (c.position.ensures, e) (read_off _ _ _ _ (sym c.past-passed.ensures ∙ e)))
+pub returns-in-Err : goal.returns-in-Err
+returns-in-Err c =
+    sym (onward c.args.words.now _ _ c.loop-argument.invariant.2 c.in-Some.is ∙ read_off _ _ _ _ (sym c.past.ensures ∙ c.in-Err.is))
 
-pub loop-argument-smaller-in-To : goal.loop-argument-smaller-in-To
-loop-argument-smaller-in-To c =
-    let h = past_on _ _ _ (sym c.past-passed.ensures ∙ c.in-At.is) in
-    omega (arith, h, c.loop-argument.invariant.1 _ c.in-To.is)
+pub loop-argument-smaller-in-Some : goal.loop-argument-smaller-in-Some
+loop-argument-smaller-in-Some c =
+    let h = past_on _ _ _ (sym c.past.ensures ∙ c.in-Ok.is) in
+    omega (arith, h, c.loop-argument.invariant.1 _ c.in-Some.is)
 
-pub loop-argument-preserved-in-To : goal.loop-argument-preserved-in-To
-loop-argument-preserved-in-To c =
-    let n = c.in-At.next in
-    let here = c.in-To.here in (
+pub loop-argument-preserved-in-Some : goal.loop-argument-preserved-in-Some
+loop-argument-preserved-in-Some c =
+    let n = c.in-Ok.next in
+    let here = c.in-Some.here in (
       c.loop-argument.invariant.0,
       λ s f. first_at here.left n.at s (sym c.right-argument.ensures ∙ f),
-      onward c.args.words.now _ _ c.loop-argument.invariant.2 c.in-To.is
-          ∙ read_right _ _ _ n (sym c.past-passed.ensures ∙ c.in-At.is)
+      onward c.args.words.now _ _ c.loop-argument.invariant.2 c.in-Some.is
+          ∙ read_right _ _ _ n (sym c.past.ensures ∙ c.in-Ok.is)
           ∙ ap (read_on c.args.words.now n.at c.loop-argument.count) (sym c.right-argument.ensures),
     )
 

@@ -1,30 +1,13 @@
--- `lower` meets its contract: the words passed are lowered, the others as they were.
-use mathlib.Core.Path.{refl, ap}
+-- `lower` meets its contract: the words from `at` on are as they were, and lowering them is all that is left.
+use mathlib.Core.Path.{◌≡◌, ap}
 use native.Mathlib.Omega.{arith}
+use lib.ListN.{get_or}
+use Rattle.std.proofs.lemmas.Grind.{common_steps}
 use Rattle.tree.specs.Laid.{extent_of}
-use Rattle.removal.proofs.Lowering.{lowering_start, lowering_word, lowering_over, lowering_stay, lowering_end}
 use Rattle.removal.proofs.lower.Goals as goal
-use Rattle.removal.proofs.lower.Goals.{then-extent-words, else-extent-words}
 
-pub loop-at-init : goal.loop-at-init
-loop-at-init c = (refl, lowering_start _ _)
-
-pub overflow_sub-words-then-extent-words : goal.overflow_sub-words-then-extent-words
-overflow_sub-words-then-extent-words c =
-    let same = lowering_word c.args.words.now c.args.gone c.loop-at.words c.loop-at.at c.loop-at.invariant.1 (omega arith) in
-    omega (arith, same, c.requires c.loop-at.at (omega (arith, ap extent_of same)))
-
-pub loop-at-preserved : goal.loop-at-preserved
-loop-at-preserved c = (
-  refl,
-  elim c.if-extent-words.branch [
-    | then-extent-words w ↦ rw w.words-is (lowering_over _ _ _ _ c.loop-at.invariant.1 (omega arith) (omega arith))
-    | else-extent-words w ↦ rw w.words-is (lowering_stay _ _ _ _ c.loop-at.invariant.1 (omega arith) (omega arith))
-  ],
-)
-
-pub shape_of-words : goal.shape_of-words
-shape_of-words c = c.loop-at.invariant.1.long
-
-pub returns : goal.returns
-returns c = lowering_end _ _ _ _ c.loop-at.invariant.1 (omega arith)
+pub overflow_sub-w : goal.overflow_sub-w
+overflow_sub-w c =
+    let p = c.loop-at.at in
+    let same : get_or c.loop-at.words p 0 ≡ get_or c.args.words.now p 0 = grind (arith, common_steps) in
+    omega (arith, same, c.requires p (omega (arith, ap extent_of same)))

@@ -1,12 +1,16 @@
--- `lower` meets its contract: the words passed are lowered, the others as they were.
+-- `lower` meets its contract: the words from `at` on are as they were, and lowering them is all that is left.
 use mathlib.Core.Path.{◌≡◌}
+use mathlib.Core.List.{◌++◌}
 use Prim.Native.Nat.{◌-◌}
-use lib.ListN.{length}
-use Rattle.removal.proofs.Lowering.{Lowering}
+use lib.ListN.{length, take, drop}
+use Rattle.tree.specs.Inner.Cut.{lower}
 use Rattle.removal.proofs.lower.Given as goal
 
 abbrev pub invariant-loop-at : goal.invariant-loop-at
-invariant-loop-at l = (l.at-end ≡ length l.initial.words) × Lowering l.initial.words l.gone l.words l.at
-
-abbrev pub decreases-loop-at : goal.decreases-loop-at
-decreases-loop-at l = length l.initial.words - l.at
+invariant-loop-at l =
+    let W = l.initial.words in
+    record {
+      counted : l.count ≡ length W;
+      rest : drop l.at l.words ≡ drop l.at W;
+      does : take l.at l.words ++ lower (drop l.at l.words) (l.count - l.at) l.gone ≡ lower W l.count l.gone;
+    }

@@ -14,9 +14,6 @@ unfolding removal
 returns-then-not-well_laid c =
     rw (← c.sized.ensures, c.if-not-sized.false, ← c.well_laid.ensures, c.if-not-well_laid.true)
 
-pub remove_laid-requires : goal.remove_laid-requires
-remove_laid-requires c = (sym c.sized.ensures ∙ c.if-not-sized.false, sym c.well_laid.ensures ∙ c.if-not-well_laid.false)
-
 pub returns : goal.returns
 returns c =
     c.remove_laid.ensures

@@ -1,14 +1,6 @@
 -- `take_out` meets its contract: what the two lent parts hold when they are back, with the header stored, is the definition's slice.
-use mathlib.Core.Path.{◌≡◌}
-use Prim.Native.Nat.{◌+◌, ◌-◌}
-use native.Mathlib.Omega.{arith}
 use Rattle.removal.proofs.TakingOut.{taken}
 use Rattle.removal.proofs.take_out.Goals as goal
-
-pub lower-requires : goal.lower-requires
-lower-requires c =
-    let w : c.args.place + 1 - 1 ≡ c.args.place = omega arith in
-    rw w c.requires.high
 
 pub returns : goal.returns
 returns c =

@@ -1,15 +1,15 @@
 -- What the parts of a removal do: the place that the scan answers, the words that can be lowered, and the words closed up.
 use Rattle.std.proofs.Math.Option.{Option, none, some}
-use Rattle.std.specs.Prelude.{List, [], ◌∷◌, ◌++◌, ℕ, ◌+◌, ◌-◌, ◌≤◌, ◌<◌, length, get_or, take, drop, replicate}
+use Rattle.std.specs.Prelude as std
+use Rattle.std.specs.Prelude.{Some, None, List, [], ◌∷◌, ◌++◌, ℕ, ◌+◌, ◌-◌, ◌≤◌, ◌<◌, length, get_or, take, drop, replicate}
 use Rattle.tree.specs.Laid.{extent_of, used_of, kept_of, one_less}
 use Rattle.tree.specs.Inner.Cut.{Span, lower}
-use Rattle.removal.specs.declared.Located.{Located}
-use Rattle.removal.specs.declared.Located.TheVariants.{At, Nowhere}
+use Rattle.removal.specs.declared.Stretch.{Stretch}
 
 -- the span that the scan answers
-abbrev pub span_of : Located → Option Span
-span_of (At run) = some (record { place = run.place; last = run.last })
-span_of Nowhere = none
+abbrev pub span_of : std.Option Stretch → Option Span
+span_of None = none
+span_of (Some run) = some (record { place = run.place; last = run.last })
 
 -- each word with a word below it is at least r
 abbrev pub Lowerable : List ℕ → ℕ → Type 0

@@ -14,7 +14,7 @@ renew-requires c =
       c.requires.0,
       c.requires.1,
       elim c.if-removed-gt0.branch [
-        | then-removed-gt0 w ↦ cleared_spare c.args.tree.now o.tree (w.heads-is ∙ w.clear.ensures)
+        | then-removed-gt0 w ↦ cleared_spare c.args.tree.now o.tree (w.heads-is ∙ rw o.long at (w.fill.ensures.after (λ _ e. e)))
         | else-removed-gt0 w ↦ rw w.heads-is (o.more (omega (arith, w.if-removed-gt0.false)))
       ],
     )

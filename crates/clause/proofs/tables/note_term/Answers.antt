@@ -17,13 +17,6 @@ loop-left-init c =
       noting_none a.words.now c.requires.0 a.p c.requires.1 _ c.arity-left.ensures c.requires.2,
     )
 
-pub overflow_cast-at : goal.overflow_cast-at
-overflow_cast-at c =
-    let g : 0 < c.loop-left.left = omega (arith, c.loop-left-test.true) in
-    let m = noting_term c.args.words.now c.requires.0 c.args.p c.requires.1 c.loop-left.at c.loop-left.left
-    (c.loop-left.left - 1) g refl c.loop-left.invariant.2 in
-    record { fits = omega (arith, m.0, m.1.high, (accepted c.args.words.now c.requires.0).fits) }
-
 pub loop-left-preserved : goal.loop-left-preserved
 loop-left-preserved c =
     let g : 0 < c.loop-left.left = omega (arith, c.loop-left-test.true) in

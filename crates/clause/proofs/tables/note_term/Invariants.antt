@@ -7,6 +7,3 @@ use Rattle.clause.proofs.tables.note_term.Given as goal
 
 abbrev pub invariant-loop-left : goal.invariant-loop-left
 invariant-loop-left l = (l.at ≤ max_words) × (l.left < arities) × Noting l.words l.p l.at l.left l.tables
-
-abbrev pub decreases-loop-left : goal.decreases-loop-left
-decreases-loop-left l = l.left

@@ -7,24 +7,10 @@ use Rattle.index.proofs.entries.note.Goals as goal
 pub loop-at-init : goal.loop-at-init
 loop-at-init c = noting_start c.args.words.now c.args.heads.now c.requires.0 c.requires.1
 
-pub overflow_cast-heads : goal.overflow_cast-heads
-overflow_cast-heads c = omega (arith, c.loop-at-test.true, c.requires.0.few)
-
--- the Check at `at`
-pub offset_bounds-heads-head : goal.offset_bounds-heads-head
-offset_bounds-heads-head c =
-    let n = noting_next c.args.words.now c.loop-at.at c.loop-at.heads c.requires.0.few c.loop-at-test.true c.loop-at.invariant in
-    omega (arith, c.key.ensures, n.small)
-
 pub bounds-heads-head : goal.bounds-heads-head
 bounds-heads-head c =
     let n = noting_next c.args.words.now c.loop-at.at c.loop-at.heads c.requires.0.few c.loop-at-test.true c.loop-at.invariant in
     omega (arith, c.key.ensures, n.small, c.loop-at.invariant.long)
-
-pub overflow_add-at : goal.overflow_add-at
-overflow_add-at c =
-    let n = noting_next c.args.words.now c.loop-at.at c.loop-at.heads c.requires.0.few c.loop-at-test.true c.loop-at.invariant in
-    omega (arith, c.extent-at.ensures, n.inside, c.requires.0.few)
 
 pub loop-at-smaller : goal.loop-at-smaller
 loop-at-smaller c =
@@ -35,9 +21,6 @@ pub loop-at-preserved : goal.loop-at-preserved
 loop-at-preserved c =
     let n = noting_next c.args.words.now c.loop-at.at c.loop-at.heads c.requires.0.few c.loop-at-test.true c.loop-at.invariant in
     rw (c.key.ensures, c.extent-at.ensures) n.noted
-
-pub shape_of-heads : goal.shape_of-heads
-shape_of-heads c = c.loop-at.invariant.long ∙ sym c.requires.1.long
 
 pub returns : goal.returns
 returns c = noting_end c.args.words.now c.loop-at.at c.loop-at.heads (omega (arith, c.loop-at-test.false)) c.requires.1.tree c.loop-at.invariant

@@ -7,12 +7,6 @@ use Rattle.index.proofs.Noting.{decode_region, laid_encoded}
 use Rattle.query.proofs.Asking.{used_part}
 use Rattle.index.proofs.entries.renew.Goals as goal
 
-pub bounds-tree-0 : goal.bounds-tree-0
-bounds-tree-0 c = omega (arith, sized_low c.args.tree.now c.requires.0)
-
-pub overflow_add-end : goal.overflow_add-end
-overflow_add-end c = record { fits = omega (arith, c.used-end.ensures, laid_room c.args.tree.now c.requires.1, sized_high c.args.tree.now c.requires.0) }
-
 pub slice_bounds-note-end : goal.slice_bounds-note-end
 slice_bounds-note-end c = omega (arith, c.used-end.ensures, laid_room c.args.tree.now c.requires.1)
 

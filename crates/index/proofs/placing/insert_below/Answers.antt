@@ -4,12 +4,6 @@ use Rattle.merging.proofs.Putting.{slice_parts}
 use Rattle.insertion.proofs.InsertCases.{in_region}
 use Rattle.index.proofs.placing.insert_below.Goals as goal
 
-pub bounds-tree-0 : goal.bounds-tree-0
-bounds-tree-0 c = omega (arith, (slice_parts c.requires.0).room)
-
-pub overflow_add-end : goal.overflow_add-end
-overflow_add-end c = omega (arith, (slice_parts c.requires.0).room)
-
 pub slice_bounds-place_below-end : goal.slice_bounds-place_below-end
 slice_bounds-place_below-end c = omega (arith, (slice_parts c.requires.0).room)
 

@@ -4,7 +4,7 @@ use Rattle.laid.proofs.freshen.fresh.Goals as goal
 
 pub returns-then-sized : goal.returns-then-sized
 unfolding fresh
-returns-then-sized c = rw (← c.sized.ensures, c.if-sized.true, c.clear.ensures)
+returns-then-sized c = rw (← c.sized.ensures, c.if-sized.true, c.fill.ensures.after (λ _ e. e))
 
 pub returns-else-sized : goal.returns-else-sized
 unfolding fresh

@@ -6,7 +6,7 @@ use Rattle.tallying.proofs.counting.raise.Goals as goal
 
 pub returns-then-at-counters : goal.returns-then-at-counters
 unfolding raised
-returns-then-at-counters c = rw c.sum.ensures
+returns-then-at-counters c = rw c.saturating_add.ensures
 
 pub returns-else-at-counters : goal.returns-else-at-counters
 unfolding raised
