@@ -1,4 +1,5 @@
 -- One record: what the query, the listing and the insertion leave is what becomes of the record.
+use Rattle.std.specs.Prelude.{Err, Ok, Result, ℕ}
 use mathlib.Core.Path.{◌≡◌, refl, sym, ap, ap₂, ◌∙◌}
 use mathlib.Core.Logic.{◌≢◌}
 use mathlib.Core.Bool.{Bool, true, false, cond}
@@ -11,8 +12,6 @@ use lib.Seq.{take-take, take_at, length-take-le}
 use Rattle.clause.specs.Lists.{All}
 use Rattle.clause.specs.Word.{Words}
 use Rattle.clause.specs.Clause.{max_words, shape, Accepted}
-use Rattle.clause.specs.declared.Shape.{Shape}
-use Rattle.clause.specs.declared.Shape.TheVariants.{Faulty, Whole}
 use Rattle.clause.proofs.Lists.{all_mem, all-weaken, all_below}
 use Rattle.clause.proofs.Literals.{accepted}
 use Rattle.clause.proofs.Apart.{apart}
@@ -28,23 +27,22 @@ use Rattle.tree.specs.Calls.{Called, changed, insertion}
 use Rattle.tree.specs.Inner.ByWords.{insert_by_words}
 use Rattle.tree.specs.declared.Refusal.{Refusal}
 use Rattle.tree.specs.declared.Refusal.TheVariants.{BadSlice, Broken, NoSuchTree, NumberTaken}
-use Rattle.tree.specs.declared.CallAnswer.{CallAnswer}
-use Rattle.tree.specs.declared.CallAnswer.TheVariants as call
+use Rattle.tree.specs.declared.Done.{Done}
+use Rattle.tree.specs.declared.Done.TheVariants as call
 use Rattle.tree.proofs.Plain.{plain_body}
 use Rattle.tree.proofs.ByWords.{insertion_words}
 use Rattle.merging.specs.Inner.Inserting.{Mergeable}
 use Rattle.merging.proofs.KeysOf.{keys_few}
 use Rattle.merging.proofs.UsedWords.{number_free}
 use Rattle.walk.specs.Query.{witness_words, unanswered, query_as, query}
-use Rattle.walk.specs.declared.QueryAnswer.{QueryAnswer}
-use Rattle.walk.specs.declared.QueryAnswer.TheVariants.{Unanswered, Covered, NotCovered}
+use Rattle.walk.specs.declared.Verdict.{Verdict}
+use Rattle.walk.specs.declared.Verdict.TheVariants.{Covered, NotCovered}
 use Rattle.readback.specs.Saved.{of_clauses, pairs_of}
 use Rattle.readback.proofs.Lists.{all_elements}
 use Rattle.backward.specs.Listing.{Listing, listed, overfull, spent, broken, rising, list_from}
 use Rattle.backward.specs.Calls.{Backed, unlisted, listed_in, list_into, backward_as, backward}
 use Rattle.backward.specs.Laws.{ListsKept}
-use Rattle.backward.specs.declared.BackAnswer.{BackAnswer}
-use Rattle.backward.specs.declared.BackAnswer.TheVariants.{Unlisted, Listed}
+use Rattle.backward.specs.declared.Listed.{Listed}
 use Rattle.backward.proofs.Laws.{backward_laws}
 use Rattle.book.specs.Book.{insert, Fit}
 use Rattle.record.specs.Answer.{budget, list_words, Record, Answered, entered, unless_taken, replaced_as, replaced, goes_in, answer_to}
@@ -57,6 +55,7 @@ use Rattle.record.specs.declared.Came.{Came}
 use Rattle.replacing.proofs.Copying.{enters_kept, enters_refused}
 use Rattle.answering.specs.Inner.Steady.{Steady, CameOut}
 use Rattle.answering.proofs.Steady.{steady_sized, steady_laid, steady_taken, steady_free}
+use Rattle.clause.specs.declared.Fault.{Fault}
 
 -- ---- the insertion
 
@@ -85,7 +84,7 @@ pub insertable : {S K c : List ℕ} (n : ℕ) → Steady S K → Accepted c → 
 insertable {c = c} n h a u l = record { steady = h; accepts = a; words = all_below (2 ^ 16) c u; number = l }
 
 -- a refused change leaves the slice
-change_left : (S : List ℕ) (y : Change) (f : Refusal) → (changed S call.Kept y).answer ≡ call.Refused f → (changed S call.Kept y).slice ≡ S
+change_left : (S : List ℕ) (y : Change) (f : Refusal) → (changed S (Ok call.Kept) y).answer ≡ Err f → (changed S (Ok call.Kept) y).slice ≡ S
 change_left S (refuse r) f e = refl
 change_left S (change F) f e = apart cc
 
@@ -109,7 +108,7 @@ module _ {S K c : List ℕ} {n : ℕ} (g : Insertable S K c n) where
   number_new m = number_free S (steady_sized g.steady) (steady_laid g.steady) n (omega (arith, g.number)) (number_missing m)
 
   -- by what it does to the tree
-  by_tree : insertion S c n ≡ changed S call.Kept (insert_into (length S) (decode S) (entry (record { number = n; clause = c })))
+  by_tree : insertion S c n ≡ changed S (Ok call.Kept) (insert_into (length S) (decode S) (entry (record { number = n; clause = c })))
   unfolding insertion
   by_tree = rw (steady_sized g.steady, g.accepts.1, steady_laid g.steady)
 
@@ -118,21 +117,21 @@ module _ {S K c : List ℕ} {n : ℕ} (g : Insertable S K c n) where
   keep_marked m p = let (ks, e) = number_found m in rw (by_tree, e, p, insert_into)
 
   -- the keys are those of the clause, and they are inserted under a number that is not marked
-  module _ {ks R : List ℕ} {r : CallAnswer} (e : ks ≡ keys c)
+  module _ {ks R : List ℕ} {r : Result Done Refusal} (e : ks ≡ keys c)
       (w : ◌≡◌ {A = Called} (record { answer = r; slice = R }) (insert_by_words S (record { number = n; keys = ks }))) where
     called : ◌≡◌ {A = Called} (record { answer = r; slice = R }) (insertion S c n)
     called =
         let l : n < 2 ^ 32 = omega (arith, g.number) in
         w ∙ rw e (sym (insertion_words S (steady_sized g.steady) (steady_laid g.steady) c n g.accepts.0 g.accepts.1 g.words l))
 
-    pub keep_refused : {code : ℕ} (f : Refusal) → r ≡ call.Refused f → code ≡ code_of f → record { outcome = Refused code; removed = []; slice = R } ≡ entered [] S (of c n)
+    pub keep_refused : {code : ℕ} (f : Refusal) → r ≡ Err f → code ≡ code_of f → record { outcome = Refused code; removed = []; slice = R } ≡ entered [] S (of c n)
     keep_refused {code} f q p =
         let t = called ∙ by_tree in
         let y : Change = insert_into (length S) (decode S) (entry (record { number = n; clause = c })) in
         let same : R ≡ S = ap (λ (x : Called). x.slice) t ∙ change_left S y f (sym (ap (λ (x : Called). x.answer) t) ∙ q) in
         ap (λ (T : List ℕ). record { outcome = Refused code; removed = []; slice = T }) same ∙ enters_refused S [] (of c n) refl called f q p
 
-    pub keep_kept : {used : ℕ} → ((f : Refusal) → r ≡ call.Refused f → ⊥) → used ≡ used_of (get_or R 0 0)
+    pub keep_kept : {used : ℕ} → ((f : Refusal) → r ≡ Err f → ⊥) → used ≡ used_of (get_or R 0 0)
         → record { outcome = Kept used; removed = []; slice = R } ≡ entered [] S (of c n)
     keep_kept f u = enters_kept S [] (of c n) refl called f refl u
 
@@ -181,14 +180,14 @@ module _ (T : List ℕ) (x : Record) (L M : List ℕ) (same : length L ≡ lengt
       laid true false = refl
       laid false o = refl
 
-      go : (s : Bool) (h : Shape) → Made (cond s (backward_as h T x.words budget L) (unlisted BadSlice L)) ≡ Made (cond s (backward_as h T x.words budget M) (unlisted BadSlice M))
-      go true (Faulty f) = refl
-      go true (Whole q) = laid (well_laid T) (of_clauses (decode T))
+      go : (s : Bool) (h : Result ℕ Fault) → Made (cond s (backward_as h T x.words budget L) (unlisted BadSlice L)) ≡ Made (cond s (backward_as h T x.words budget M) (unlisted BadSlice M))
+      go true (Err f) = refl
+      go true (Ok q) = laid (well_laid T) (of_clauses (decode T))
       go false h = refl
 
 -- ---- what becomes of a record that is listed
 
-module _ {S K c : List ℕ} {n : ℕ} (g : Insertable S K c n) (L : List ℕ) {M : List ℕ} {r : BackAnswer} (same : length L ≡ list_words)
+module _ {S K c : List ℕ} {n : ℕ} (g : Insertable S K c n) (L : List ℕ) {M : List ℕ} {r : Result Listed Refusal} (same : length L ≡ list_words)
     (w : ◌≡◌ {A = Backed} (record { answer = r; list = M }) (backward S c budget L)) where
   -- it is what the definition says
   is_replaced : replaced_as r M S (of c n) ≡ replaced S (of c n)
@@ -197,17 +196,17 @@ module _ {S K c : List ℕ} {n : ℕ} (g : Insertable S K c n) (L : List ℕ) {M
       ap (λ (b : Backed). replaced_as b.answer b.list S (of c n)) w
       ∙ made_apart S (of c n) L (replicate list_words 0) (same ∙ sym (length-replicate {A = ℕ} list_words 0))
 
-  pub back_refused : {code : ℕ} (f : Refusal) → r ≡ Unlisted f → code ≡ code_of f
+  pub back_refused : {code : ℕ} (f : Refusal) → r ≡ Err f → code ≡ code_of f
       → CameOut (replaced S (of c n)) n K (record { outcome = Refused code; removed = 0 }) M S K
   back_refused f e p =
-      record { many = omega arith; answer = rw p (sym (ap (λ (b : BackAnswer). replaced_as b M S (of c n)) e) ∙ is_replaced); marking = refl }
+      record { many = omega arith; answer = rw p (sym (ap (λ (b : Result Listed Refusal). replaced_as b M S (of c n)) e) ∙ is_replaced); marking = refl }
 
   -- the numbers that are listed
   lists : ListsKept S g.steady.pairs c budget L
   lists = backward_laws S g.steady.pairs g.steady.tree c g.accepts g.words budget L
 
-  module _ (m k : ℕ) (e : r ≡ Listed m k) where
-    says : (backward S c budget L).answer ≡ Listed m k
+  module _ (m k : ℕ) (e : r ≡ Ok (record { count = m; candidates = k })) where
+    says : (backward S c budget L).answer ≡ Ok (record { count = m; candidates = k })
     says = sym (ap (λ (b : Backed). b.answer) w) ∙ e
 
     numbers_are : take m M ≡ lists.numbers
@@ -235,36 +234,36 @@ module _ {S K c : List ℕ} {n : ℕ} (g : Insertable S K c n) (L : List ℕ) {M
           many = omega arith;
           answer =
               ap (λ (ms : List ℕ). record { outcome = o.outcome; removed = ms; slice = R }) (sym t)
-              ∙ a ∙ sym (ap (λ (b : BackAnswer). replaced_as b M S (of c n)) e) ∙ is_replaced;
+              ∙ a ∙ sym (ap (λ (b : Result Listed Refusal). replaced_as b M S (of c n)) e) ∙ is_replaced;
           marking = b ∙ ap (λ (ms : List ℕ). marked o.outcome n ms K) t;
         }
 
 -- ---- the query
 
 -- only an accepted clause is not covered
-pub not_covered : (S c : List ℕ) (b : ℕ) (W : List ℕ) (k : ℕ) → (query S c b W).answer ≡ NotCovered k → Accepted c
+pub not_covered : (S c : List ℕ) (b : ℕ) (W : List ℕ) (k : ℕ) → (query S c b W).answer ≡ Ok (NotCovered k) → Accepted c
 unfolding query
 not_covered S c b W k e = go (sized S) (shape c) refl e
   where
-    go : (s : Bool) (x : Shape) → shape c ≡ x → (cond s (query_as x S c b W) (unanswered BadSlice W)).answer ≡ NotCovered k → Accepted c
-    go true (Faulty f) p e = apart cc
-    go true (Whole q) p e = (q, p)
+    go : (s : Bool) (x : Result ℕ Fault) → shape c ≡ x → (cond s (query_as x S c b W) (unanswered BadSlice W)).answer ≡ Ok (NotCovered k) → Accepted c
+    go true (Err f) p e = apart cc
+    go true (Ok q) p e = (q, p)
     go false x p e = apart cc
 
-module _ (v : Setting) (S c : List ℕ) (n : ℕ) {r : QueryAnswer} (answers : r ≡ (query S c budget (replicate witness_words 0)).answer) where
-  pub asked_refused : {code : ℕ} {K M : List ℕ} (f : Refusal) → r ≡ Unanswered f → code ≡ code_of f
+module _ (v : Setting) (S c : List ℕ) (n : ℕ) {r : Result Verdict Refusal} (answers : r ≡ (query S c budget (replicate witness_words 0)).answer) where
+  pub asked_refused : {code : ℕ} {K M : List ℕ} (f : Refusal) → r ≡ Err f → code ≡ code_of f
       → CameOut (answer_to v S (of c n)) n K (record { outcome = Refused code; removed = 0 }) M S K
   unfolding answer_to
   asked_refused f e p = record { many = omega arith; answer = rw (← answers, e, p); marking = refl }
 
-  pub asked_struck : {K M : List ℕ} (m k : ℕ) → r ≡ Covered m k → CameOut (answer_to v S (of c n)) n K (record { outcome = Struck m k; removed = 0 }) M S K
+  pub asked_struck : {K M : List ℕ} (m k : ℕ) → r ≡ Ok (Covered m k) → CameOut (answer_to v S (of c n)) n K (record { outcome = Struck m k; removed = 0 }) M S K
   unfolding answer_to
   asked_struck m k e = record { many = omega arith; answer = rw (← answers, e); marking = refl }
 
-  pub asked_accepted : (k : ℕ) → r ≡ NotCovered k → Accepted c
+  pub asked_accepted : (k : ℕ) → r ≡ Ok (NotCovered k) → Accepted c
   asked_accepted k e = not_covered S c budget (replicate witness_words 0) k (sym answers ∙ e)
 
-  pub asked_in : (k : ℕ) {o : Came} {K M R Z : List ℕ} → r ≡ NotCovered k → CameOut (goes_in v S (of c n)) n K o M R Z
+  pub asked_in : (k : ℕ) {o : Came} {K M R Z : List ℕ} → r ≡ Ok (NotCovered k) → CameOut (goes_in v S (of c n)) n K o M R Z
       → CameOut (answer_to v S (of c n)) n K o M R Z
   unfolding answer_to
   asked_in k e x = record { many = x.many; answer = rw (← answers, e) x.answer; marking = x.marking }

@@ -1,4 +1,5 @@
 -- From record to record: the slice stays the tree of some pairs, and the marks stay those of its numbers.
+use Rattle.std.specs.Prelude.{Ok}
 use mathlib.Core.Path.{◌≡◌, refl, sym, ap, ◌∙◌}
 use mathlib.Core.Logic.{◌↔◌, ◌≢◌}
 use mathlib.Core.Bool.{true}
@@ -12,14 +13,12 @@ use lib.Seq.{get_or-set_same, get_or-set_other}
 use Rattle.clause.specs.Lists.{All, none, also}
 use Rattle.clause.specs.Clause.{shape}
 use Rattle.clause.proofs.Lists.{all_mem, all-weaken}
-use Rattle.clause.specs.declared.Shape.TheVariants.{Whole}
 use Rattle.tree.specs.Forest.{layout, find}
 use Rattle.tree.specs.Laid.{max_kept, sized, well_laid, decode}
 use Rattle.tree.specs.Entries.{Pair}
 use Rattle.tree.proofs.Words.{length_layout}
 use Rattle.readback.specs.Saved.{IsTreeOf}
 use Rattle.readback.specs.Calls.{check}
-use Rattle.readback.specs.declared.CheckAnswer.TheVariants.{Passed}
 use Rattle.readback.proofs.Saved.{right_size, laid as saved-laid}
 use Rattle.readback.proofs.Lists.{all_elements}
 use Rattle.book.specs.Book.{insert, Fit, AllFit, book_from, tree_of}
@@ -78,10 +77,10 @@ module _ {S m : List ℕ} (h : Steady S m) where
   pub steady_few : kept_in S ≤ max_kept
   steady_few = omega (arith, standing_kept steady_standing, h.tree.few)
 
-  pub steady_passes : check S ≡ Passed
+  pub steady_passes : check S ≡ Ok tt
   steady_passes = (passed_saved S).1 (h.pairs, h.tree)
 
-  module _ (x : Record) (f : Fit (insert x.words x.number)) (q : ℕ) (s : shape x.words ≡ Whole q) (l : x.number < number_count) where
+  module _ (x : Record) (f : Fit (insert x.words x.number)) (q : ℕ) (s : shape x.words ≡ Ok q) (l : x.number < number_count) where
     -- a number that is marked as taken has a Success, and no other has
     pub steady_taken : get_or m x.number 0 ≡ taken → (keys : List ℕ) × (find x.number (decode S) ≡ some keys)
     steady_taken e = go (find x.number (tree_of h.pairs)) refl

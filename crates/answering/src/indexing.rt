@@ -5,18 +5,18 @@ ghost use Rattle.index.specs.Inner.Heads.{Indexed};
 ghost use Rattle.answering.specs.Inner.Steady.{Outdated};
 
 use index::renew;
-use record::Outcome;
+use record::{Came, Outcome};
 
 // Makes the index anew where a record has gone in; where clauses went out for it, a head may have gone with them.
 // The caller's entries are those before the record.
-pub(crate) fn reindex(tree: &[u64], heads: &mut [u16], outcome: Outcome, removed: usize)
-    requires { (sized tree.now ≡ true) × (well_laid tree.now ≡ true) × Outdated outcome removed tree.now heads.old }
+pub(crate) fn reindex(tree: &[u64], heads: &mut [u16], came: &Came)
+    requires { (sized tree.now ≡ true) × (well_laid tree.now ≡ true) × Outdated came.now.outcome came.now.removed tree.now heads.old }
     ensures { Indexed tree.now heads.new }
 {
-    let Outcome::Kept(_) = outcome else {
+    let Outcome::Kept(_) = came.outcome else {
         return;
     };
-    if removed > 0 {
+    if came.removed > 0 {
         heads.fill(0);
     }
     renew(tree, heads);

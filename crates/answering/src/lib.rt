@@ -5,7 +5,13 @@ mod answering;
 mod indexing;
 mod striking;
 
-pub use answering::answer;
+// The words that a run lends for the clauses that it keeps: their tree, the marks of its numbers, and the index of its heads.
+#[derive(Drop)]
+pub struct Book<'a> {
+    pub tree: &'a mut [u64],
+    pub marks: &'a mut [u8],
+    pub heads: &'a mut [u16],
+}
 
 // What a query may spend, and a listing.
 #[derive(Drop)]

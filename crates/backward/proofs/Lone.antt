@@ -1,4 +1,5 @@
 -- The tree of a clause alone: its slice, and the queries of it.
+use Rattle.std.specs.Prelude.{Ok}
 use mathlib.Core.Path.{◌≡◌, refl, ap}
 use mathlib.Core.List.Memᴰ
 use mathlib.Core.List.{List, [], ◌∷◌, map}
@@ -20,7 +21,7 @@ use Rattle.tree.specs.Entries.{Pair, Sound, entry, Mirrors}
 use Rattle.tree.specs.Inner.Books.{Apart}
 use Rattle.tree.specs.Changes.{insert_into}
 use Rattle.tree.specs.Calls.{insertion}
-use Rattle.tree.specs.declared.CallAnswer.TheVariants.{Kept}
+use Rattle.tree.specs.declared.Done.TheVariants.{Kept}
 use Rattle.tree.proofs.Words.{length_layout, laid_layout, decode_layout}
 use Rattle.tree.proofs.InsertWords.{chain_size, ins_leaves}
 use Rattle.tree.proofs.Mirror.{mirrors_build}
@@ -87,7 +88,7 @@ module _ (c : List ℕ) (C : Accepted c) (w : Words c) where
 
   -- inserting the clause into the fresh slice makes it
   pub lone_insertion : (len : ℕ) → 2 ≤ len → len ≤ 65_536 → size (lone c) < len
-      → insertion (replicate len 0) c 0 ≡ record { answer = Kept; slice = layout len (lone c) }
+      → insertion (replicate len 0) c 0 ≡ record { answer = Ok Kept; slice = layout len (lone c) }
   unfolding insertion insert_into find holder lone
   lone_insertion len low high room =
       let e : size empty < len = omega arith in

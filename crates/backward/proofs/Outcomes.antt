@@ -1,4 +1,5 @@
 -- What a listing answers: exactly one of three outcomes, and what follows from each answer.
+use Rattle.std.specs.Prelude.{Ok, Result}
 use mathlib.Core.Path.{◌≡◌, sym, ap, ◌∙◌}
 use mathlib.Core.Logic.{◌⊎◌, inl, inr}
 use mathlib.Core.List.{List}
@@ -8,19 +9,27 @@ use Rattle.clause.specs.Word.{Words}
 use Rattle.clause.specs.Clause.{Accepted}
 use Rattle.clause.proofs.Apart.{apart}
 use Rattle.tree.specs.Entries.{Pair}
+use Rattle.tree.specs.declared.Refusal.{Refusal}
+use Rattle.backward.specs.declared.Listed.{Listed}
 use Rattle.tree.specs.declared.Refusal.TheVariants.{Spent, ShortList}
 use Rattle.readback.specs.Calls.{over}
 use Rattle.backward.specs.Listing.{list_from}
 use Rattle.backward.specs.Calls.{Backed, unlisted, listed_in}
 use Rattle.backward.specs.Laws.{tries_of, Picks, SpentAt, FullAt}
-use Rattle.backward.specs.declared.BackAnswer.TheVariants.{Listed}
 use Rattle.backward.proofs.Picking.{AllAccepted}
 use Rattle.backward.proofs.Listings.{listed_is, spent_is, full_is, ways}
+
+-- the answer tells what is listed
+abbrev listing : Listed → Result Listed Refusal
+listing = Ok
+
+same_listed : {x y : Listed} → listing x ≡ listing y → x ≡ y
+same_listed q = cc
 
 -- the outcomes of listing pairs R by c with a budget of b into L, where the numbers ns are to be listed
 pub record Outcomes (c : List ℕ) (b : ℕ) (L : List ℕ) (R : List Pair) (ns : List ℕ) (B : Backed) : Type 0 where
   pub ways : ((length ns ≤ length L) × (tries_of c R ≤ b)) ⊎ (SpentAt c b L R ⊎ FullAt c b L R)
-  pub listed : length ns ≤ length L → tries_of c R ≤ b → B ≡ record { answer = Listed (length ns) (tries_of c R); list = over ns L }
+  pub listed : length ns ≤ length L → tries_of c R ≤ b → B ≡ record { answer = Ok (record { count = length ns; candidates = tries_of c R }); list = over ns L }
   pub spent : SpentAt c b L R → B ≡ unlisted (Spent b) L
   pub full : FullAt c b L R → B ≡ unlisted ShortList L
 
@@ -42,22 +51,22 @@ module _ {c : List ℕ} {b : ℕ} {L : List ℕ} {R : List Pair} {ns : List ℕ}
   Enough n k = (length ns ≤ length L) × (tries_of c R ≤ b) × (n ≡ length ns) × (k ≡ tries_of c R)
 
   -- they are if numbers are listed
-  pub listed_enough : (n k : ℕ) → B.answer ≡ Listed n k → Enough n k
+  pub listed_enough : (n k : ℕ) → B.answer ≡ Ok (record { count = n; candidates = k }) → Enough n k
   listed_enough n k e = go O.ways
     where
       go : ((length ns ≤ length L) × (tries_of c R ≤ b)) ⊎ (SpentAt c b L R ⊎ FullAt c b L R) → Enough n k
       go (inl (h, g)) =
-          let q : Listed (length ns) (tries_of c R) ≡ Listed n k = sym (ap (λ x. x.answer) (O.listed h g)) ∙ e in
-          (h, g, cc, cc)
+          let r = same_listed (sym (ap (λ (x : Backed). x.answer) (O.listed h g)) ∙ e) in
+          (h, g, sym (ap (λ x. x.count) r), sym (ap (λ x. x.candidates) r))
       go (inr (inl s)) = let q = ap (λ (x : Backed). x.answer) (O.spent s) in apart cc
       go (inr (inr s)) = let q = ap (λ (x : Backed). x.answer) (O.full s) in apart cc
 
   -- and only then
-  pub enough_listed : (n k : ℕ) → Enough n k → B.answer ≡ Listed n k
+  pub enough_listed : (n k : ℕ) → Enough n k → B.answer ≡ Ok (record { count = n; candidates = k })
   enough_listed n k (h, g, e, f) = rw (e, f) (ap (λ x. x.answer) (O.listed h g))
 
   -- they stand in the list
-  pub listed_over : (n k : ℕ) → B.answer ≡ Listed n k → B.list ≡ over ns L
+  pub listed_over : (n k : ℕ) → B.answer ≡ Ok (record { count = n; candidates = k }) → B.list ≡ over ns L
   listed_over n k e = let v = listed_enough n k e in ap (λ x. x.list) (O.listed v.0 v.1)
 
   -- spent: at a pair
@@ -79,11 +88,11 @@ module _ {c : List ℕ} {b : ℕ} {L : List ℕ} {R : List Pair} {ns : List ℕ}
       go (inr (inr s)) = s
 
   -- nothing else is answered
-  pub one_kind : ((n : ℕ) × (k : ℕ) × (B.answer ≡ Listed n k)) ⊎ ((B ≡ unlisted (Spent b) L) ⊎ (B ≡ unlisted ShortList L))
+  pub one_kind : ((n : ℕ) × (k : ℕ) × (B.answer ≡ Ok (record { count = n; candidates = k }))) ⊎ ((B ≡ unlisted (Spent b) L) ⊎ (B ≡ unlisted ShortList L))
   one_kind = go O.ways
     where
       go : ((length ns ≤ length L) × (tries_of c R ≤ b)) ⊎ (SpentAt c b L R ⊎ FullAt c b L R)
-          → ((n : ℕ) × (k : ℕ) × (B.answer ≡ Listed n k)) ⊎ ((B ≡ unlisted (Spent b) L) ⊎ (B ≡ unlisted ShortList L))
+          → ((n : ℕ) × (k : ℕ) × (B.answer ≡ Ok (record { count = n; candidates = k }))) ⊎ ((B ≡ unlisted (Spent b) L) ⊎ (B ≡ unlisted ShortList L))
       go (inl (h, g)) = inl (length ns, tries_of c R, ap (λ x. x.answer) (O.listed h g))
       go (inr (inl s)) = inr (inl (O.spent s))
       go (inr (inr s)) = inr (inr (O.full s))

@@ -1,5 +1,5 @@
 -- What is claimed of listing backward, where some clauses are kept.
-use Rattle.std.specs.Prelude.{◌≡◌, ◌↔◌, ◌⊎◌, ℕ, ◌+◌, ◌≤◌, ◌<◌, length}
+use Rattle.std.specs.Prelude.{◌≡◌, ◌↔◌, ◌⊎◌, ℕ, ◌+◌, ◌≤◌, ◌<◌, length, Ok}
 use mathlib.Core.List.{List, [], ◌∷◌, ◌++◌, map, Memᴰ}
 use Rattle.clause.specs.Lists.{Each}
 use Rattle.clause.specs.Word.{Words}
@@ -13,7 +13,6 @@ use Rattle.readback.specs.Saved.{IsTreeOf}
 use Rattle.readback.specs.Calls.{over}
 use Rattle.backward.specs.Listing.{rising, lone}
 use Rattle.backward.specs.Calls.{unlisted, list_into, backward}
-use Rattle.backward.specs.declared.BackAnswer.TheVariants.{Listed}
 
 -- a kept pair as it is read back
 abbrev pub as_read : Pair → Pair
@@ -67,14 +66,14 @@ pub record ListsKept (T : List ℕ) (K : List Pair) (c : List ℕ) (b : ℕ) (L 
   pub rise : Each ◌<◌ numbers
   pub few : length numbers ≤ length K
   -- they are listed, with the candidates in all, exactly if list and budget are enough; the list's further words stay
-  pub answered : (n k : ℕ) → ((backward T c b L).answer ≡ Listed n k)
+  pub answered : (n k : ℕ) → ((backward T c b L).answer ≡ Ok (record { count = n; candidates = k }))
       ↔ ((length numbers ≤ length L) × (tries_of c (queried K) ≤ b) × (n ≡ length numbers) × (k ≡ tries_of c (queried K)))
-  pub list : (n k : ℕ) → (backward T c b L).answer ≡ Listed n k → (backward T c b L).list ≡ over numbers L
+  pub list : (n k : ℕ) → (backward T c b L).answer ≡ Ok (record { count = n; candidates = k }) → (backward T c b L).list ≡ over numbers L
   -- 12 and 16 come exactly where they are met, going by rising number, and leave every word
   pub spent : (backward T c b L ≡ unlisted (Spent b) L) ↔ SpentAt c b L (queried K)
   pub full : (backward T c b L ≡ unlisted ShortList L) ↔ FullAt c b L (queried K)
   -- and nothing else comes
-  pub kinds : ((n : ℕ) × (k : ℕ) × ((backward T c b L).answer ≡ Listed n k))
+  pub kinds : ((n : ℕ) × (k : ℕ) × ((backward T c b L).answer ≡ Ok (record { count = n; candidates = k })))
       ⊎ ((backward T c b L ≡ unlisted (Spent b) L) ⊎ (backward T c b L ≡ unlisted ShortList L))
   -- a budget that is enough for every query is enough for the listing
   pub enough : tries_of c (queried K) ≤ enough_budget

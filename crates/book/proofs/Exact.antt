@@ -1,4 +1,5 @@
 -- The count of a query, where units are kept: the proof of `ExactCount`.
+use Rattle.std.specs.Prelude.{Ok}
 use mathlib.Core.Path.{◌≡◌, ◌∙◌}
 use mathlib.Core.Logic.{◌⊎◌, inl, inr}
 use mathlib.Core.List.{List}
@@ -10,7 +11,7 @@ use Rattle.tree.specs.Forest.{Forest}
 use Rattle.tree.specs.Entries.{Pair}
 use Rattle.walk.specs.Query.{witness_words, query}
 use Rattle.walk.specs.Covering.{Units, Subsumed, candidates, IsCovered, IsNotCovered, IsSpent, Answers}
-use Rattle.walk.specs.declared.QueryAnswer.TheVariants.{Covered, NotCovered}
+use Rattle.walk.specs.declared.Verdict.TheVariants.{Covered, NotCovered}
 use Rattle.walk.proofs.Units.{units_exact, units_bounded}
 use Rattle.walk.proofs.Covering.{fits_decided, decided_fits}
 use Rattle.book.specs.Book.{Call, slice_of, book_of, tree_of}
@@ -45,11 +46,11 @@ module _ (T : List ℕ) (xs : List Call) (R : Run T xs) (some : 1 ≤ length (bo
   asked : Answers K (tree_of K) S d b W
   asked = answered T xs R d D b W long
 
-  exact : (c : ℕ) → (query S d b W).answer ≡ NotCovered c → c ≡ length (literals d)
+  exact : (c : ℕ) → (query S d b W).answer ≡ Ok (NotCovered c) → c ≡ length (literals d)
   exact c e = asked.counts_not c e ∙ holds_exact held units d some D (asked.spares c e).0
 
   less : b < length (literals d) → IsCovered S d b W ⊎ (IsNotCovered S d b W ⊎ IsSpent S d b W)
-      → IsSpent S d b W ⊎ ((n : ℕ) × (c : ℕ) × ((query S d b W).answer ≡ Covered n c) × (c ≤ b))
+      → IsSpent S d b W ⊎ ((n : ℕ) × (c : ℕ) × ((query S d b W).answer ≡ Ok (Covered n c)) × (c ≤ b))
   less h (inl (n, c, e)) = inr (n, c, e, omega (arith, asked.counts n c e, decided_fits asked (inl (n, c, e))))
   less h (inr (inl (c, e))) = absurd (omega (arith, exact c e, asked.counts_not c e, decided_fits asked (inr (c, e))))
   less h (inr (inr s)) = inl s

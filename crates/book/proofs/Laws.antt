@@ -1,4 +1,5 @@
 -- The claims of specs/Laws.
+use Rattle.std.specs.Prelude.{Err, Ok, Result, ℕ, ⊤}
 use mathlib.Core.Path.{◌≡◌, refl, sym, ap, ◌∙◌}
 use mathlib.Core.Logic.{◌↔◌}
 use mathlib.Core.Bool.{true}
@@ -23,18 +24,11 @@ use Rattle.tree.specs.Entries.{Pair, Sound, entry}
 use Rattle.clause.specs.Word.{Words}
 use Rattle.tree.specs.declared.Refusal.{Refusal}
 use Rattle.tree.specs.declared.Refusal.TheVariants.{BadSlice, Broken, ShortWitness, NumberTaken, NoSuchNumber, ListFull, NoRoom, BadSize, BadClause, Held, Spent, NoSuchTree, ShortOutput, ShortList}
-use Rattle.walk.specs.declared.CeilingAnswer.{CeilingAnswer}
-use Rattle.walk.specs.declared.CeilingAnswer.TheVariants.{NoCeiling, Ceiling}
-use Rattle.walk.specs.declared.QueryAnswer.{QueryAnswer}
-use Rattle.walk.specs.declared.QueryAnswer.TheVariants.{Unanswered, Covered, NotCovered}
-use Rattle.tree.specs.declared.CallAnswer.{CallAnswer}
-use Rattle.tree.specs.declared.CallAnswer.TheVariants.{Refused, Ready, Kept, Removed}
-use Rattle.readback.specs.declared.CheckAnswer.{CheckAnswer}
-use Rattle.readback.specs.declared.CheckAnswer.TheVariants.{Failed, Passed}
-use Rattle.readback.specs.declared.ReadAnswer.{ReadAnswer}
-use Rattle.readback.specs.declared.ReadAnswer.TheVariants.{Unread, Read}
-use Rattle.backward.specs.declared.BackAnswer.{BackAnswer}
-use Rattle.backward.specs.declared.BackAnswer.TheVariants.{Unlisted, Listed}
+use Rattle.walk.specs.declared.Verdict.{Verdict}
+use Rattle.walk.specs.declared.Verdict.TheVariants.{Covered, NotCovered}
+use Rattle.tree.specs.declared.Done.{Done}
+use Rattle.tree.specs.declared.Done.TheVariants.{Ready, Kept, Removed}
+use Rattle.backward.specs.declared.Listed.{Listed}
 
 number : (n : ℕ) (K : List Pair) → (numbered n (map entry K) ≡ true) ↔ ((p : Pair) × Memᴰ p K × (p.number ≡ n))
 number n K = (
@@ -81,110 +75,110 @@ refusal_back NoSuchTree = refl
 refusal_back ShortOutput = refl
 refusal_back ShortList = refl
 
-call_as : Title → List ℕ → CallAnswer
-call_as ready vs = Ready
-call_as kept vs = Kept
-call_as removed vs = Removed
-call_as is_covered vs = Ready
-call_as is_not_covered vs = Ready
-call_as returned vs = Ready
-call_as passed vs = Ready
-call_as read vs = Ready
-call_as listed vs = Ready
-call_as (code n) vs = Refused (refusal_of n vs)
+call_as : Title → List ℕ → Result Done Refusal
+call_as ready vs = Ok Ready
+call_as kept vs = Ok Kept
+call_as removed vs = Ok Removed
+call_as is_covered vs = Ok Ready
+call_as is_not_covered vs = Ok Ready
+call_as returned vs = Ok Ready
+call_as passed vs = Ok Ready
+call_as read vs = Ok Ready
+call_as listed vs = Ok Ready
+call_as (code n) vs = Err (refusal_of n vs)
 
-call_back : (a : CallAnswer) → call_as (said_call a).title (said_call a).values ≡ a
+call_back : (a : Result Done Refusal) → call_as (said_call a).title (said_call a).values ≡ a
 unfolding call_as
-call_back (Refused r) = ap Refused (refusal_back r)
-call_back Ready = refl
-call_back Kept = refl
-call_back Removed = refl
+call_back (Err r) = ap Err (refusal_back r)
+call_back (Ok Ready) = refl
+call_back (Ok Kept) = refl
+call_back (Ok Removed) = refl
 
-query_as : Title → List ℕ → QueryAnswer
-query_as ready vs = NotCovered 0
-query_as kept vs = NotCovered 0
-query_as removed vs = NotCovered 0
-query_as is_covered vs = Covered (get_or vs 0 0) (get_or vs 1 0)
-query_as is_not_covered vs = NotCovered (get_or vs 0 0)
-query_as returned vs = NotCovered 0
-query_as passed vs = NotCovered 0
-query_as read vs = NotCovered 0
-query_as listed vs = NotCovered 0
-query_as (code n) vs = Unanswered (refusal_of n vs)
+query_as : Title → List ℕ → Result Verdict Refusal
+query_as ready vs = Ok (NotCovered 0)
+query_as kept vs = Ok (NotCovered 0)
+query_as removed vs = Ok (NotCovered 0)
+query_as is_covered vs = Ok (Covered (get_or vs 0 0) (get_or vs 1 0))
+query_as is_not_covered vs = Ok (NotCovered (get_or vs 0 0))
+query_as returned vs = Ok (NotCovered 0)
+query_as passed vs = Ok (NotCovered 0)
+query_as read vs = Ok (NotCovered 0)
+query_as listed vs = Ok (NotCovered 0)
+query_as (code n) vs = Err (refusal_of n vs)
 
-query_back : (a : QueryAnswer) → query_as (said_query a).title (said_query a).values ≡ a
+query_back : (a : Result Verdict Refusal) → query_as (said_query a).title (said_query a).values ≡ a
 unfolding query_as
-query_back (Unanswered r) = ap Unanswered (refusal_back r)
-query_back (Covered n c) = refl
-query_back (NotCovered c) = refl
+query_back (Err r) = ap Err (refusal_back r)
+query_back (Ok (Covered n c)) = refl
+query_back (Ok (NotCovered c)) = refl
 
-ceiling_as : Title → List ℕ → CeilingAnswer
-ceiling_as ready vs = Ceiling 0
-ceiling_as kept vs = Ceiling 0
-ceiling_as removed vs = Ceiling 0
-ceiling_as is_covered vs = Ceiling 0
-ceiling_as is_not_covered vs = Ceiling 0
-ceiling_as returned vs = Ceiling (get_or vs 0 0)
-ceiling_as passed vs = Ceiling 0
-ceiling_as read vs = Ceiling 0
-ceiling_as listed vs = Ceiling 0
-ceiling_as (code n) vs = NoCeiling (refusal_of n vs)
+ceiling_as : Title → List ℕ → Result ℕ Refusal
+ceiling_as ready vs = Ok 0
+ceiling_as kept vs = Ok 0
+ceiling_as removed vs = Ok 0
+ceiling_as is_covered vs = Ok 0
+ceiling_as is_not_covered vs = Ok 0
+ceiling_as returned vs = Ok (get_or vs 0 0)
+ceiling_as passed vs = Ok 0
+ceiling_as read vs = Ok 0
+ceiling_as listed vs = Ok 0
+ceiling_as (code n) vs = Err (refusal_of n vs)
 
-ceiling_back : (a : CeilingAnswer) → ceiling_as (said_ceiling a).title (said_ceiling a).values ≡ a
+ceiling_back : (a : Result ℕ Refusal) → ceiling_as (said_ceiling a).title (said_ceiling a).values ≡ a
 unfolding ceiling_as
-ceiling_back (NoCeiling r) = ap NoCeiling (refusal_back r)
-ceiling_back (Ceiling n) = refl
+ceiling_back (Err r) = ap Err (refusal_back r)
+ceiling_back (Ok n) = refl
 
-check_as : Title → List ℕ → CheckAnswer
-check_as ready vs = Passed
-check_as kept vs = Passed
-check_as removed vs = Passed
-check_as is_covered vs = Passed
-check_as is_not_covered vs = Passed
-check_as returned vs = Passed
-check_as passed vs = Passed
-check_as read vs = Passed
-check_as listed vs = Passed
-check_as (code n) vs = Failed (refusal_of n vs)
+check_as : Title → List ℕ → Result ⊤ Refusal
+check_as ready vs = Ok tt
+check_as kept vs = Ok tt
+check_as removed vs = Ok tt
+check_as is_covered vs = Ok tt
+check_as is_not_covered vs = Ok tt
+check_as returned vs = Ok tt
+check_as passed vs = Ok tt
+check_as read vs = Ok tt
+check_as listed vs = Ok tt
+check_as (code n) vs = Err (refusal_of n vs)
 
-check_back : (a : CheckAnswer) → check_as (said_check a).title (said_check a).values ≡ a
+check_back : (a : Result ⊤ Refusal) → check_as (said_check a).title (said_check a).values ≡ a
 unfolding check_as
-check_back (Failed r) = ap Failed (refusal_back r)
-check_back Passed = refl
+check_back (Err r) = ap Err (refusal_back r)
+check_back (Ok tt) = refl
 
-read_as : Title → List ℕ → ReadAnswer
-read_as ready vs = Read 0
-read_as kept vs = Read 0
-read_as removed vs = Read 0
-read_as is_covered vs = Read 0
-read_as is_not_covered vs = Read 0
-read_as returned vs = Read 0
-read_as passed vs = Read 0
-read_as read vs = Read (get_or vs 0 0)
-read_as listed vs = Read 0
-read_as (code n) vs = Unread (refusal_of n vs)
+read_as : Title → List ℕ → Result ℕ Refusal
+read_as ready vs = Ok 0
+read_as kept vs = Ok 0
+read_as removed vs = Ok 0
+read_as is_covered vs = Ok 0
+read_as is_not_covered vs = Ok 0
+read_as returned vs = Ok 0
+read_as passed vs = Ok 0
+read_as read vs = Ok (get_or vs 0 0)
+read_as listed vs = Ok 0
+read_as (code n) vs = Err (refusal_of n vs)
 
-read_back : (a : ReadAnswer) → read_as (said_read a).title (said_read a).values ≡ a
+read_back : (a : Result ℕ Refusal) → read_as (said_read a).title (said_read a).values ≡ a
 unfolding read_as
-read_back (Unread r) = ap Unread (refusal_back r)
-read_back (Read n) = refl
+read_back (Err r) = ap Err (refusal_back r)
+read_back (Ok n) = refl
 
-back_as : Title → List ℕ → BackAnswer
-back_as ready vs = Listed 0 0
-back_as kept vs = Listed 0 0
-back_as removed vs = Listed 0 0
-back_as is_covered vs = Listed 0 0
-back_as is_not_covered vs = Listed 0 0
-back_as returned vs = Listed 0 0
-back_as passed vs = Listed 0 0
-back_as read vs = Listed 0 0
-back_as listed vs = Listed (get_or vs 0 0) (get_or vs 1 0)
-back_as (code n) vs = Unlisted (refusal_of n vs)
+back_as : Title → List ℕ → Result Listed Refusal
+back_as ready vs = Ok (record { count = 0; candidates = 0 })
+back_as kept vs = Ok (record { count = 0; candidates = 0 })
+back_as removed vs = Ok (record { count = 0; candidates = 0 })
+back_as is_covered vs = Ok (record { count = 0; candidates = 0 })
+back_as is_not_covered vs = Ok (record { count = 0; candidates = 0 })
+back_as returned vs = Ok (record { count = 0; candidates = 0 })
+back_as passed vs = Ok (record { count = 0; candidates = 0 })
+back_as read vs = Ok (record { count = 0; candidates = 0 })
+back_as listed vs = Ok (record { count = get_or vs 0 0; candidates = get_or vs 1 0 })
+back_as (code n) vs = Err (refusal_of n vs)
 
-back_back : (a : BackAnswer) → back_as (said_back a).title (said_back a).values ≡ a
+back_back : (a : Result Listed Refusal) → back_as (said_back a).title (said_back a).values ≡ a
 unfolding back_as
-back_back (Unlisted r) = ap Unlisted (refusal_back r)
-back_back (Listed n k) = refl
+back_back (Err r) = ap Err (refusal_back r)
+back_back (Ok l) = refl
 
 pub book_laws : BookLaws
 book_laws =

@@ -1,4 +1,5 @@
 -- Every list of calls leaves the slice of the tree of the clauses that it keeps; so its queries are answered by those clauses.
+use Rattle.std.specs.Prelude.{Ok}
 use mathlib.Core.Path.{◌≡◌, refl, sym, ap, ◌∙◌}
 use mathlib.Core.Bool.{Bool, true, false, cond, and-eq-true_iff}
 use mathlib.Core.List.{List, [], ◌∷◌}
@@ -29,7 +30,7 @@ use Rattle.book.proofs.Holds.{Holds, holds_empty, fresh_layout, holds_tree, hold
 use Rattle.book.proofs.Step.{Steps, steps}
 use Rattle.tree.specs.Entries.{Pair}
 use Rattle.tree.specs.declared.Refusal.TheVariants.{BadSlice}
-use Rattle.tree.specs.declared.CallAnswer.TheVariants.{Ready}
+use Rattle.tree.specs.declared.Done.TheVariants.{Ready}
 
 -- the tree that a slice holds
 pub record Laid (len : ℕ) (K : List Pair) (T : List ℕ) : Type 0 where
@@ -57,11 +58,11 @@ pub record Usable (T : List ℕ) : Type 0 where
   pub high : length T ≤ 65_536
   pub slice : (fresh T).slice ≡ layout (length T) empty
 
-ready : (T : List ℕ) → (fresh T).answer ≡ Ready → Usable T
+ready : (T : List ℕ) → (fresh T).answer ≡ Ok Ready → Usable T
 unfolding fresh
 ready T e = go (sized T) refl e
   where
-    go : (b : Bool) → sized T ≡ b → (cond b (record { answer = Ready; slice = replicate (length T) 0 }) (refused BadSlice T)).answer ≡ Ready → Usable T
+    go : (b : Bool) → sized T ≡ b → (cond b (record { answer = Ok Ready; slice = replicate (length T) 0 }) (refused BadSlice T)).answer ≡ Ok Ready → Usable T
     go true u v =
         let (l, h) = (and-eq-true_iff (leb 2 (length T)) (leb (length T) 65_536)).0 u in
         let low : 2 ≤ length T = leb-true 2 (length T) l in

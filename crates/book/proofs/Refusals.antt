@@ -1,4 +1,5 @@
 -- Demand 1 holds: each call by the cases of its rows.
+use Rattle.std.specs.Prelude.{Err, Ok, Result, ℕ}
 use mathlib.Core.Path.{◌≡◌, refl}
 use mathlib.Core.Bool.{Bool, true, false, not, ◌&&◌, and-eq-true_iff}
 use mathlib.Core.Option.{Option, none, some}
@@ -27,9 +28,8 @@ use Rattle.book.specs.Table.{ready, kept, removed, returned, passed, said_ceilin
 use Rattle.book.specs.Refusals.{first_of, fresh_rows, ceiling_rows, insert_rows, remove_rows, query_rows, check_rows, read_rows, back_rows, finished, unless_refused, unless_said, walk_result, read_result, list_result}
 use Rattle.book.specs.Claims.{Demand1}
 use Rattle.clause.specs.declared.Fault.TheVariants.{BadLength, Bad, Ninth}
-use Rattle.clause.specs.declared.Shape.{Shape}
-use Rattle.clause.specs.declared.Shape.TheVariants.{Faulty, Whole}
 use Rattle.machine.specs.Compile.{keys}
+use Rattle.clause.specs.declared.Fault.{Fault}
 
 -- no room, as the call tests it and as the table has it
 room_test : (len n : ℕ) → leb 2 len ≡ true → ltb (len - 1) n ≡ leb len n
@@ -50,20 +50,20 @@ removes T n true false es ew o eo = rw (es, ew)
 removes T n true true es ew none eo = rw (es, ew, remove_from, eo)
 removes T n true true es ew (some cs) eo = rw (es, ew, remove_from, eo)
 
-inserts : (T c : List ℕ) (n : ℕ) (s w l r : Bool) (h : Shape) (o : Option (List ℕ)) (m : Option ℕ)
+inserts : (T c : List ℕ) (n : ℕ) (s w l r : Bool) (h : Result ℕ Fault) (o : Option (List ℕ)) (m : Option ℕ)
     → sized T ≡ s → well_laid T ≡ w → leb max_kept (leaves (decode T)) ≡ l → leb (length T) (size (ins (keys c) n (decode T))) ≡ r
     → shape c ≡ h → find n (decode T) ≡ o → holder (keys c) (decode T) ≡ m
     → called (insertion T c n) ≡ unless_refused (first_of (insert_rows T c n)) T (finished kept (layout (length T) (ins (keys c) n (decode T))))
 unfolding insertion insert_into
 inserts T c n false w l r h o m es ew el er eh eo em = rw es
-inserts T c n true w l r (Faulty BadLength) o m es ew el er eh eo em = rw (es, eh)
-inserts T c n true w l r (Faulty (Bad at)) o m es ew el er eh eo em = rw (es, eh)
-inserts T c n true w l r (Faulty (Ninth at)) o m es ew el er eh eo em = rw (es, eh)
-inserts T c n true false l r (Whole q) o m es ew el er eh eo em = rw (es, eh, ew)
-inserts T c n true true l r (Whole q) (some cs) m es ew el er eh eo em = rw (es, eh, ew, insert_into, eo)
-inserts T c n true true l r (Whole q) none (some k) es ew el er eh eo em = rw (es, eh, ew, insert_into, eo, em)
-inserts T c n true true true r (Whole q) none none es ew el er eh eo em = rw (es, eh, ew, insert_into, eo, em, el)
-inserts T c n true true false r (Whole q) none none es ew el er eh eo em =
+inserts T c n true w l r (Err BadLength) o m es ew el er eh eo em = rw (es, eh)
+inserts T c n true w l r (Err (Bad at)) o m es ew el er eh eo em = rw (es, eh)
+inserts T c n true w l r (Err (Ninth at)) o m es ew el er eh eo em = rw (es, eh)
+inserts T c n true false l r (Ok q) o m es ew el er eh eo em = rw (es, eh, ew)
+inserts T c n true true l r (Ok q) (some cs) m es ew el er eh eo em = rw (es, eh, ew, insert_into, eo)
+inserts T c n true true l r (Ok q) none (some k) es ew el er eh eo em = rw (es, eh, ew, insert_into, eo, em)
+inserts T c n true true true r (Ok q) none none es ew el er eh eo em = rw (es, eh, ew, insert_into, eo, em, el)
+inserts T c n true true false r (Ok q) none none es ew el er eh eo em =
     go r er
   where
     same : ltb (length T - 1) (size (ins (keys c) n (decode T))) ≡ leb (length T) (size (ins (keys c) n (decode T)))
@@ -74,20 +74,20 @@ inserts T c n true true false r (Whole q) none none es ew el er eh eo em =
     go true er = rw (es, eh, ew, insert_into, eo, em, el, same, er)
     go false er = rw (es, eh, ew, insert_into, eo, em, el, same, er)
 
-asks : (T d : List ℕ) (b : ℕ) (W : List ℕ) (s u v : Bool) (h : Shape) (a : Answer State)
+asks : (T d : List ℕ) (b : ℕ) (W : List ℕ) (s u v : Bool) (h : Result ℕ Fault) (a : Answer State)
     → sized T ≡ s → ltb (length W) witness_words ≡ u → ltb (length T - 1) (used_of (get_or T 0 0)) ≡ v → shape d ≡ h → walk_slice T d b ≡ a
     → asked (query T d b W) ≡ unless_refused (first_of (query_rows T d W)) W (walk_result b W (walk_slice T d b))
 unfolding query
 asks T d b W false u v h a es eu ev eh ea = rw es
-asks T d b W true u v (Faulty BadLength) a es eu ev eh ea = rw (es, eh)
-asks T d b W true u v (Faulty (Bad at)) a es eu ev eh ea = rw (es, eh)
-asks T d b W true u v (Faulty (Ninth at)) a es eu ev eh ea = rw (es, eh)
-asks T d b W true true v (Whole q) a es eu ev eh ea = rw (es, eh, eu)
-asks T d b W true false true (Whole q) a es eu ev eh ea = rw (es, eh, eu, ev)
-asks T d b W true false false (Whole q) (covered n s c) es eu ev eh ea = rw (es, eh, eu, ev, ea)
-asks T d b W true false false (Whole q) (not_covered c) es eu ev eh ea = rw (es, eh, eu, ev, ea)
-asks T d b W true false false (Whole q) spent es eu ev eh ea = rw (es, eh, eu, ev, ea)
-asks T d b W true false false (Whole q) broken es eu ev eh ea = rw (es, eh, eu, ev, ea)
+asks T d b W true u v (Err BadLength) a es eu ev eh ea = rw (es, eh)
+asks T d b W true u v (Err (Bad at)) a es eu ev eh ea = rw (es, eh)
+asks T d b W true u v (Err (Ninth at)) a es eu ev eh ea = rw (es, eh)
+asks T d b W true true v (Ok q) a es eu ev eh ea = rw (es, eh, eu)
+asks T d b W true false true (Ok q) a es eu ev eh ea = rw (es, eh, eu, ev)
+asks T d b W true false false (Ok q) (covered n s c) es eu ev eh ea = rw (es, eh, eu, ev, ea)
+asks T d b W true false false (Ok q) (not_covered c) es eu ev eh ea = rw (es, eh, eu, ev, ea)
+asks T d b W true false false (Ok q) spent es eu ev eh ea = rw (es, eh, eu, ev, ea)
+asks T d b W true false false (Ok q) broken es eu ev eh ea = rw (es, eh, eu, ev, ea)
 
 starts : (T : List ℕ) (s : Bool) → sized T ≡ s
     → called (fresh T) ≡ unless_refused (first_of (fresh_rows T)) T (finished ready (replicate (length T) 0))
@@ -127,20 +127,20 @@ reads T n W true true true false o es el ew ec eo = rw (es, short_test (length W
 reads T n W true true true true none es el ew ec eo = rw (es, short_test (length W) max_words, el, ew, ec, eo)
 reads T n W true true true true (some p) es el ew ec eo = rw (es, short_test (length W) max_words, el, ew, ec, eo)
 
-lists : (T c : List ℕ) (b : ℕ) (L : List ℕ) (s w o : Bool) (h : Shape) (l : Listing)
+lists : (T c : List ℕ) (b : ℕ) (L : List ℕ) (s w o : Bool) (h : Result ℕ Fault) (l : Listing)
     → sized T ≡ s → well_laid T ≡ w → of_clauses (decode T) ≡ o → shape c ≡ h → list_from c b (rising (pairs_of (decode T))) (length L) 0 ≡ l
     → backed (backward T c b L) ≡ unless_refused (first_of (back_rows T c)) L (list_result b L (list_from c b (rising (pairs_of (decode T))) (length L) 0))
 unfolding listed_in list_into backward
 lists T c b L false w o h l es ew eo eh el = rw es
-lists T c b L true w o (Faulty BadLength) l es ew eo eh el = rw (es, eh)
-lists T c b L true w o (Faulty (Bad at)) l es ew eo eh el = rw (es, eh)
-lists T c b L true w o (Faulty (Ninth at)) l es ew eo eh el = rw (es, eh)
-lists T c b L true false o (Whole q) l es ew eo eh el = rw (es, eh, ew)
-lists T c b L true true false (Whole q) l es ew eo eh el = rw (es, eh, ew, eo)
-lists T c b L true true true (Whole q) (listing.listed ns k) es ew eo eh el = rw (es, eh, ew, eo, el)
-lists T c b L true true true (Whole q) listing.overfull es ew eo eh el = rw (es, eh, ew, eo, el)
-lists T c b L true true true (Whole q) listing.spent es ew eo eh el = rw (es, eh, ew, eo, el)
-lists T c b L true true true (Whole q) listing.broken es ew eo eh el = rw (es, eh, ew, eo, el)
+lists T c b L true w o (Err BadLength) l es ew eo eh el = rw (es, eh)
+lists T c b L true w o (Err (Bad at)) l es ew eo eh el = rw (es, eh)
+lists T c b L true w o (Err (Ninth at)) l es ew eo eh el = rw (es, eh)
+lists T c b L true false o (Ok q) l es ew eo eh el = rw (es, eh, ew)
+lists T c b L true true false (Ok q) l es ew eo eh el = rw (es, eh, ew, eo)
+lists T c b L true true true (Ok q) (listing.listed ns k) es ew eo eh el = rw (es, eh, ew, eo, el)
+lists T c b L true true true (Ok q) listing.overfull es ew eo eh el = rw (es, eh, ew, eo, el)
+lists T c b L true true true (Ok q) listing.spent es ew eo eh el = rw (es, eh, ew, eo, el)
+lists T c b L true true true (Ok q) listing.broken es ew eo eh el = rw (es, eh, ew, eo, el)
 
 -- Demand 1
 pub demand1 : Demand1

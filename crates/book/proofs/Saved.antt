@@ -1,4 +1,5 @@
 -- Saved slices: the claims of specs/Saved.
+use Rattle.std.specs.Prelude.{Ok}
 use mathlib.Core.Path.{◌≡◌, refl, sym, ap, ◌∙◌}
 use mathlib.Core.Bool.{false}
 use mathlib.Core.List.{List, [], ◌∷◌, ◌++◌, map}
@@ -16,7 +17,7 @@ use Rattle.tree.specs.Entries.{Pair, Sound, entry, build}
 use Rattle.tree.specs.Changes.{numbered, varied, refuses}
 use Rattle.tree.specs.Inner.Books.{Apart}
 use Rattle.tree.specs.Calls.{fresh}
-use Rattle.tree.specs.declared.CallAnswer.TheVariants.{Ready}
+use Rattle.tree.specs.declared.Done.TheVariants.{Ready}
 use Rattle.tree.proofs.Pairs.{kept_pair}
 use Rattle.tree.proofs.Words.{length_layout}
 use Rattle.tree.proofs.Count.{book_size}
@@ -106,7 +107,7 @@ module _ (T : List ℕ) (K : List Pair) (I : IsTreeOf T K) where
   made : book_of (length T) (insert_all K) ≡ K
   made = book_made (length T) K (record { sound = I.sound; numbers = I.numbers; clauses = I.clauses }) I.few I.room
 
-  ready : (fresh T).answer ≡ Ready
+  ready : (fresh T).answer ≡ Ok Ready
   unfolding fresh
   ready = rw (right_size T K I)
 

@@ -1,4 +1,5 @@
 -- What one call does to the slice and to the book.
+use Rattle.std.specs.Prelude.{Err, Ok, Result, ℕ}
 use mathlib.Core.Path.{◌≡◌, refl, sym, ap, ◌∙◌}
 use mathlib.Core.Logic.{◌↔◌, ◌≢◌}
 use mathlib.Core.Bool.{false}
@@ -20,13 +21,12 @@ use Rattle.tree.proofs.Words.{length_layout}
 use Rattle.tree.proofs.Plain.{plain_body}
 use Rattle.tree.proofs.Changes.{Removes, gone, missing, removes, Inserts, refused, grown, inserts, apart_without}
 use Rattle.book.proofs.Holds.{Holds, holds_laid, holds_decode, entries_without, numbered_without, without_missing, sound_without, length_without}
-use Rattle.clause.specs.declared.Shape.{Shape}
-use Rattle.clause.specs.declared.Shape.TheVariants.{Faulty, Whole}
 use Rattle.tree.specs.Entries.{Pair, entry}
 use Rattle.machine.specs.Compile.{keys}
 use Rattle.tree.specs.declared.Refusal.{Refusal}
 use Rattle.tree.specs.declared.Refusal.TheVariants.{BadClause, NoSuchNumber}
-use Rattle.tree.specs.declared.CallAnswer.TheVariants.{Refused, Kept, Removed}
+use Rattle.tree.specs.declared.Done.TheVariants.{Kept, Removed}
+use Rattle.clause.specs.declared.Fault.{Fault}
 
 -- a call leaves the slice of a tree that keeps the book after it, and answers "kept" or "removed" exactly if the book changes
 pub record Steps (len : ℕ) (K : List Pair) (F : Forest) (x : Call) : Type 0 where
@@ -36,13 +36,13 @@ pub record Steps (len : ℕ) (K : List Pair) (F : Forest) (x : Call) : Type 0 wh
   pub changes : ((call (layout len F) x).answer ≡ done x) ↔ (book_step len K x ≢ K)
 
 -- a refused call does nothing
-refused≢done : (r : Refusal) (x : Call) → Refused r ≡ done x → ⊥
+refused≢done : (r : Refusal) (x : Call) → Err r ≡ done x → ⊥
 refused≢done r (insert c n) e = apart cc
 refused≢done r (remove n) e = apart cc
 
 module _ (len : ℕ) (K : List Pair) (F : Forest) (h : Holds len K F) (low : 2 ≤ len) (high : len ≤ 65_536) where
   -- a call that is refused leaves the book
-  left : (x : Call) (r : Refusal) → call (layout len F) x ≡ record { answer = Refused r; slice = layout len F } → book_step len K x ≡ K
+  left : (x : Call) (r : Refusal) → call (layout len F) x ≡ record { answer = Err r; slice = layout len F } → book_step len K x ≡ K
       → Steps len K F x
   left x r e same =
       record {
@@ -58,22 +58,22 @@ module _ (len : ℕ) (K : List Pair) (F : Forest) (h : Holds len K F) (low : 2 �
   moved x G e g other = record { tree = G; holds = g; slice = ap (λ y. y.slice) e; changes = (λ d. other, λ n. ap (λ y. y.answer) e) }
 
   -- a call by what it does to the tree
-  pub insertion_is : (c : List ℕ) (n q : ℕ) → shape c ≡ Whole q
-      → insertion (layout len F) c n ≡ changed (layout len F) Kept (insert_into len F (entry (record { number = n; clause = c })))
+  pub insertion_is : (c : List ℕ) (n q : ℕ) → shape c ≡ Ok q
+      → insertion (layout len F) c n ≡ changed (layout len F) (Ok Kept) (insert_into len F (entry (record { number = n; clause = c })))
   unfolding insertion
   insertion_is c n q e =
       rw (length_layout len F h.room, le-leb 2 len low, le-leb len 65_536 high, e, holds_laid h high, length_layout len F h.room, holds_decode h high)
 
-  pub removal_is : (n : ℕ) → removal (layout len F) n ≡ changed (layout len F) Removed (remove_from F n)
+  pub removal_is : (n : ℕ) → removal (layout len F) n ≡ changed (layout len F) (Ok Removed) (remove_from F n)
   unfolding removal
   removal_is n = rw (length_layout len F h.room, le-leb 2 len low, le-leb len 65_536 high, holds_laid h high, holds_decode h high)
 
   -- an insertion
-  step_insert : (c : List ℕ) (n : ℕ) → Fit (insert c n) → (s : Shape) → shape c ≡ s → Steps len K F (insert c n)
+  step_insert : (c : List ℕ) (n : ℕ) → Fit (insert c n) → (s : Result ℕ Fault) → shape c ≡ s → Steps len K F (insert c n)
   unfolding book_step insertion
-  step_insert c n f (Faulty v) e =
+  step_insert c n f (Err v) e =
       left (insert c n) (BadClause v) (rw (length_layout len F h.room, le-leb 2 len low, le-leb len 65_536 high, e)) (rw e)
-  step_insert c n f (Whole q) e =
+  step_insert c n f (Ok q) e =
       go (inserts len (entry p) F (map entry K) (plain_body (sequence_plain c (accepted c (q, e)) f.0)) f.1 h.keeps)
     where
       p : Pair

@@ -1,16 +1,16 @@
 -- Lists of calls: what they leave in a slice, and what the clause book tells that they keep.
-use Rattle.std.specs.Prelude.{cond, List, [], ◌∷◌, map, ℕ, ◌<◌, eqb}
+use Rattle.std.specs.Prelude.{cond, List, [], ◌∷◌, map, ℕ, ◌<◌, eqb, Err, Ok, Result}
 use Rattle.clause.specs.Clause.{shape}
 use Rattle.tree.specs.Keys.{first_key}
 use Rattle.tree.specs.Forest.{Forest}
 use Rattle.tree.specs.Entries.{build, Pair, entry}
 use Rattle.tree.specs.Changes.{refuses}
 use Rattle.tree.specs.Calls.{Called, fresh, insertion, removal}
-use Rattle.clause.specs.declared.Shape.{Shape}
-use Rattle.clause.specs.declared.Shape.TheVariants.{Faulty, Whole}
 use Rattle.clause.specs.Word.{Words}
-use Rattle.tree.specs.declared.CallAnswer.{CallAnswer}
-use Rattle.tree.specs.declared.CallAnswer.TheVariants.{Kept, Removed}
+use Rattle.tree.specs.declared.Done.{Done}
+use Rattle.tree.specs.declared.Done.TheVariants.{Kept, Removed}
+use Rattle.tree.specs.declared.Refusal.{Refusal}
+use Rattle.clause.specs.declared.Fault.{Fault}
 
 -- a call: an insertion or a removal
 pub data Call : Type 0 where
@@ -35,9 +35,9 @@ call T (insert c n) = insertion T c n
 call T (remove n) = removal T n
 
 -- its answer where the tree is changed
-abbrev pub done : Call → CallAnswer
-done (insert c n) = Kept
-done (remove n) = Removed
+abbrev pub done : Call → Result Done Refusal
+done (insert c n) = Ok Kept
+done (remove n) = Ok Removed
 
 -- the slice after some calls, each on the slice as the call before left it
 abbrev pub after : List ℕ → List Call → List ℕ
@@ -56,9 +56,9 @@ without n [] = []
 without n (p ∷ K) = cond (eqb p.number n) (without n K) (p ∷ without n K)
 
 -- an insertion of a clause of a given shape
-abbrev pub book_insert : Shape → (len : ℕ) → List Pair → Pair → List Pair
-book_insert (Faulty f) len K p = K
-book_insert (Whole q) len K p = cond (refuses len (map entry K) (entry p)) K (p ∷ K)
+abbrev pub book_insert : Result ℕ Fault → (len : ℕ) → List Pair → Pair → List Pair
+book_insert (Err f) len K p = K
+book_insert (Ok q) len K p = cond (refuses len (map entry K) (entry p)) K (p ∷ K)
 
 -- the book after one more call on a slice of len words
 unfoldable pub book_step : (len : ℕ) → List Pair → Call → List Pair

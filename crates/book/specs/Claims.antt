@@ -1,5 +1,5 @@
 -- What is claimed of the calls, and of lists of calls.
-use Rattle.std.specs.Prelude.{◌≡◌, ◌↔◌, ◌≢◌, ◌⊎◌, ℕ, ◌≤◌, ◌<◌, length, replicate}
+use Rattle.std.specs.Prelude.{◌≡◌, ◌↔◌, ◌≢◌, ◌⊎◌, ℕ, ◌≤◌, ◌<◌, length, replicate, Ok}
 use Rattle.std.proofs.Math.Option.{Option}
 use mathlib.Core.List.{List, [], ◌∷◌, map, Memᴰ}
 use Rattle.clause.specs.Lists.{Each}
@@ -24,8 +24,8 @@ use Rattle.book.specs.Table.{ready, kept, removed, returned, passed, said_ceilin
 use Rattle.book.specs.Refusals.{first_of, fresh_rows, ceiling_rows, insert_rows, remove_rows, query_rows, check_rows, read_rows, back_rows, finished, unless_refused, unless_said, walk_result, read_result, list_result}
 use Rattle.book.specs.Book.{Call, Fit, AllFit, call, done, slice_of, book_step, book_of, tree_of}
 use Rattle.clause.specs.Word.{Words}
-use Rattle.tree.specs.declared.CallAnswer.TheVariants.{Ready}
-use Rattle.walk.specs.declared.QueryAnswer.TheVariants.{Covered, NotCovered}
+use Rattle.tree.specs.declared.Done.TheVariants.{Ready}
+use Rattle.walk.specs.declared.Verdict.TheVariants.{Covered, NotCovered}
 
 -- Demand 1: every call, on any words, answers the first refusal that applies and leaves every lent word, or does what it is for
 pub record Demand1 : Type 0 where
@@ -49,7 +49,7 @@ pub record Demand1 : Type 0 where
 
 -- a list of calls on a slice on which fresh has answered "ready"
 pub record Run (T : List ℕ) (xs : List Call) : Type 0 where
-  pub ready : (fresh T).answer ≡ Ready
+  pub ready : (fresh T).answer ≡ Ok Ready
   pub fit : AllFit xs
 
 -- Reach: what holds after a list of calls
@@ -129,14 +129,14 @@ Demand3 = (S : List ℕ) (xs : List Call) (T : List ℕ) (ys : List Call) → Ru
 -- what is claimed of a query's count where units (clauses of a single literal) are kept, at least one, and nothing else; q is the number of d's literals
 pub record Exact (T : List ℕ) (xs : List Call) (d : List ℕ) (b : ℕ) (W : List ℕ) : Type 0 where
   -- not covered: the count is exactly q
-  pub exact : (c : ℕ) → (query (slice_of T xs) d b W).answer ≡ NotCovered c → c ≡ length (literals d)
+  pub exact : (c : ℕ) → (query (slice_of T xs) d b W).answer ≡ Ok (NotCovered c) → c ≡ length (literals d)
   -- covered: it is at most q
-  pub at_most : (n c : ℕ) → (query (slice_of T xs) d b W).answer ≡ Covered n c → c ≤ length (literals d)
+  pub at_most : (n c : ℕ) → (query (slice_of T xs) d b W).answer ≡ Ok (Covered n c) → c ≤ length (literals d)
   -- every budget of q or more is enough
   pub enough : length (literals d) ≤ b → IsCovered (slice_of T xs) d b W ⊎ IsNotCovered (slice_of T xs) d b W
   -- a smaller one is spent, unless d is covered within it
   pub less : b < length (literals d)
-      → IsSpent (slice_of T xs) d b W ⊎ ((n : ℕ) × (c : ℕ) × ((query (slice_of T xs) d b W).answer ≡ Covered n c) × (c ≤ b))
+      → IsSpent (slice_of T xs) d b W ⊎ ((n : ℕ) × (c : ℕ) × ((query (slice_of T xs) d b W).answer ≡ Ok (Covered n c)) × (c ≤ b))
 
 -- One literal, an exact count: for every list of calls that keeps at least one clause, and units only, and for every query, budget and witness
 abbrev pub ExactCount : Type 0

@@ -1,5 +1,5 @@
 -- What is claimed of the table's names and of the book's tests: nothing is lost by the names, and the tests ask what docs/REFERENCE.md says ("Lists of calls").
-use Rattle.std.specs.Prelude.{◌≡◌, ◌↔◌, ◌≢◌, true, ℕ, length}
+use Rattle.std.specs.Prelude.{◌≡◌, ◌↔◌, ◌≢◌, true, ℕ, length, Result, ⊤}
 use mathlib.Core.List.{List, [], ◌++◌, map, Memᴰ}
 use Rattle.clause.specs.Lists.{All, Each}
 use Rattle.clause.specs.Clause.{Accepted}
@@ -10,12 +10,10 @@ use Rattle.tree.specs.Changes.{numbered, varied}
 use Rattle.book.specs.Table.{said_call, said_query, said_ceiling, said_check, said_read, said_back}
 use Rattle.tree.specs.Entries.{Pair, Sound, entry}
 use Rattle.clause.specs.Word.{Words}
-use Rattle.walk.specs.declared.CeilingAnswer.{CeilingAnswer}
-use Rattle.walk.specs.declared.QueryAnswer.{QueryAnswer}
-use Rattle.tree.specs.declared.CallAnswer.{CallAnswer}
-use Rattle.readback.specs.declared.CheckAnswer.{CheckAnswer}
-use Rattle.readback.specs.declared.ReadAnswer.{ReadAnswer}
-use Rattle.backward.specs.declared.BackAnswer.{BackAnswer}
+use Rattle.walk.specs.declared.Verdict.{Verdict}
+use Rattle.tree.specs.declared.Done.{Done}
+use Rattle.backward.specs.declared.Listed.{Listed}
+use Rattle.tree.specs.declared.Refusal.{Refusal}
 
 -- a beginning of a sequence, of one instruction or more
 abbrev pub IsBeginning : (beginning sequence : List Instr) → Type 0
@@ -29,12 +27,12 @@ pub record AllBeginnings (K : List Pair) (bs : List (List Instr)) : Type 0 where
 -- the claim
 pub record BookLaws : Type 0 where
   -- no two answers to a call are said the same
-  pub call : (a b : CallAnswer) → said_call a ≡ said_call b → a ≡ b
-  pub query : (a b : QueryAnswer) → said_query a ≡ said_query b → a ≡ b
-  pub ceiling : (a b : CeilingAnswer) → said_ceiling a ≡ said_ceiling b → a ≡ b
-  pub check : (a b : CheckAnswer) → said_check a ≡ said_check b → a ≡ b
-  pub read : (a b : ReadAnswer) → said_read a ≡ said_read b → a ≡ b
-  pub back : (a b : BackAnswer) → said_back a ≡ said_back b → a ≡ b
+  pub call : (a b : Result Done Refusal) → said_call a ≡ said_call b → a ≡ b
+  pub query : (a b : Result Verdict Refusal) → said_query a ≡ said_query b → a ≡ b
+  pub ceiling : (a b : Result ℕ Refusal) → said_ceiling a ≡ said_ceiling b → a ≡ b
+  pub check : (a b : Result ⊤ Refusal) → said_check a ≡ said_check b → a ≡ b
+  pub read : (a b : Result ℕ Refusal) → said_read a ≡ said_read b → a ≡ b
+  pub back : (a b : Result Listed Refusal) → said_back a ≡ said_back b → a ≡ b
   -- a number is in the book
   pub number : (n : ℕ) (K : List Pair) → (numbered n (map entry K) ≡ true) ↔ ((p : Pair) × Memᴰ p K × (p.number ≡ n))
   -- a variant of a clause is in the book

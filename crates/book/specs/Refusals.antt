@@ -1,5 +1,5 @@
 -- The table of refusals: each call's rows in the order in which they are asked for, by their codes (docs/REFERENCE.md, "Calls"); the first that applies is the answer.
-use Rattle.std.specs.Prelude.{Bool, true, false, not, ◌&&◌, List, [], ◌∷◌, ℕ, ◌-◌, leb, ltb, length, get_or}
+use Rattle.std.specs.Prelude.{Bool, true, false, not, ◌&&◌, List, [], ◌∷◌, ℕ, ◌-◌, leb, ltb, length, get_or, Err, Ok, Result}
 use Rattle.std.proofs.Math.Option.{Option, none, some}
 use Rattle.clause.specs.Clause.{shape, max_words, max_literals}
 use Rattle.machine.specs.Machine.{State}
@@ -10,11 +10,10 @@ use Rattle.walk.specs.Query.{witness_words, shown, with_shown}
 use Rattle.readback.specs.Saved.{of_clauses}
 use Rattle.readback.specs.Calls.{over}
 use Rattle.backward.specs.Listing as listing
-use Rattle.book.specs.Table.{Title, Said, is_covered, is_not_covered, read, listed, code, Result}
+use Rattle.book.specs.Table.{Title, Said, is_covered, is_not_covered, read, listed, code, Returned}
 use Rattle.clause.specs.declared.Fault.TheVariants.{BadLength, Bad, Ninth}
-use Rattle.clause.specs.declared.Shape.{Shape}
-use Rattle.clause.specs.declared.Shape.TheVariants.{Faulty, Whole}
 use Rattle.machine.specs.Compile.{keys}
+use Rattle.clause.specs.declared.Fault.{Fault}
 
 -- a row that applies
 abbrev pub refusal : (code : ℕ) (values : List ℕ) → Option Said
@@ -34,11 +33,11 @@ first_of (none ∷ rs) = first_of rs
 -- ---- rows with values, or by cases
 
 -- 3, and 4 and 5 with the position
-abbrev pub clause_row : Shape → Option Said
-clause_row (Faulty BadLength) = refusal 3 []
-clause_row (Faulty (Bad at)) = refusal 4 (at ∷ [])
-clause_row (Faulty (Ninth at)) = refusal 5 (at ∷ [])
-clause_row (Whole q) = none
+abbrev pub clause_row : Result ℕ Fault → Option Said
+clause_row (Err BadLength) = refusal 3 []
+clause_row (Err (Bad at)) = refusal 4 (at ∷ [])
+clause_row (Err (Ninth at)) = refusal 5 (at ∷ [])
+clause_row (Ok q) = none
 
 -- 7: a Success has the number
 abbrev pub taken_row : Option (List ℕ) → Option Said
@@ -97,11 +96,11 @@ back_rows T c = when (not (sized T)) 1 ∷ clause_row (shape c) ∷ when (not (w
 -- ---- what a call comes to
 
 -- a call done: what it answers, without values, and the words afterwards
-abbrev pub finished : Title → (words : List ℕ) → Result
+abbrev pub finished : Title → (words : List ℕ) → Returned
 finished t W = record { said = record { title = t; values = [] }; words = W }
 
 -- the first refusal that applies with the words left, or else what is done
-abbrev pub unless_refused : Option Said → (words : List ℕ) → Result → Result
+abbrev pub unless_refused : Option Said → (words : List ℕ) → Returned → Returned
 unless_refused (some r) W a = record { said = r; words = W }
 unless_refused none W a = a
 
@@ -112,19 +111,19 @@ unless_said none a = a
 
 -- what the walk meets: "covered" with the clause's number and the count, and the witness written; "not covered" with the count; 12 with the budget
 -- as the count; or 2
-abbrev pub walk_result : (budget : ℕ) (witness : List ℕ) → Answer State → Result
+abbrev pub walk_result : (budget : ℕ) (witness : List ℕ) → Answer State → Returned
 walk_result b W (covered n s c) = record { said = record { title = is_covered; values = n ∷ c ∷ [] }; words = with_shown (shown s) W }
 walk_result b W (not_covered c) = record { said = record { title = is_not_covered; values = c ∷ [] }; words = W }
 walk_result b W spent = record { said = record { title = code 12; values = b ∷ [] }; words = W }
 walk_result b W broken = record { said = record { title = code 2; values = [] }; words = W }
 
 -- a clause read back: its length, and its words over the first of the output
-abbrev pub read_result : (clause output : List ℕ) → Result
+abbrev pub read_result : (clause output : List ℕ) → Returned
 read_result c W = record { said = record { title = read; values = length c ∷ [] }; words = over c W }
 
 -- what the listing meets: how many numbers and the candidates in all, and the numbers over the first words of the list; 16; 12 with the budget as the
 -- count; or 2
-abbrev pub list_result : (budget : ℕ) (list : List ℕ) → listing.Listing → Result
+abbrev pub list_result : (budget : ℕ) (list : List ℕ) → listing.Listing → Returned
 list_result b L (listing.listed ns k) = record { said = record { title = listed; values = length ns ∷ k ∷ [] }; words = over ns L }
 list_result b L listing.overfull = record { said = record { title = code 16; values = [] }; words = L }
 list_result b L listing.spent = record { said = record { title = code 12; values = b ∷ [] }; words = L }

@@ -1,5 +1,5 @@
 -- What is claimed of saved slices: those that calls make pass the check, those that pass are made by calls, and their clauses are read back.
-use Rattle.std.specs.Prelude.{◌≡◌, ◌↔◌, List, [], ◌∷◌, ◌++◌, ℕ, ◌≤◌, length}
+use Rattle.std.specs.Prelude.{◌≡◌, ◌↔◌, List, [], ◌∷◌, ◌++◌, ℕ, ◌≤◌, length, Ok}
 use Rattle.clause.specs.Clause.{Accepted, max_words}
 use Rattle.tree.specs.Entries.{Pair}
 use Rattle.walk.specs.Query.{witness_words}
@@ -9,7 +9,6 @@ use Rattle.readback.specs.Calls.{check}
 use Rattle.readback.specs.Laws.{ReadsKept}
 use Rattle.book.specs.Book.{Call, insert, AllFit, after, slice_of, book_from, book_of, tree_of}
 use Rattle.book.specs.Claims.{Run, Both}
-use Rattle.readback.specs.declared.CheckAnswer.TheVariants.{Passed}
 
 -- every slice that calls make is the tree of the clauses that they keep, so that it passes (`PassedSaved`)
 abbrev pub ReachSaved : Type 0
@@ -17,7 +16,7 @@ ReachSaved = (T : List ℕ) (xs : List Call) → Run T xs → IsTreeOf (slice_of
 
 -- a slice passes exactly if it is the tree of some clauses, or of none
 abbrev pub PassedSaved : Type 0
-PassedSaved = (T : List ℕ) → (check T ≡ Passed) ↔ IsSaved T
+PassedSaved = (T : List ℕ) → (check T ≡ Ok tt) ↔ IsSaved T
 
 -- ---- a saved slice is one that calls make
 

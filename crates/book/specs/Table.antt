@@ -1,23 +1,16 @@
 -- Every answer as the table has it (docs/REFERENCE.md, "Calls"): what it is called, or its code, and its values.
-use Rattle.std.specs.Prelude.{List, [], ◌∷◌, ℕ}
+use Rattle.std.specs.Prelude.{List, [], ◌∷◌, ℕ, Err, Ok, Result, ⊤}
 use Rattle.tree.specs.Refusal.{code_of, values_of}
 use Rattle.walk.specs.Query.{Asked}
 use Rattle.tree.specs.Calls.{Called}
 use Rattle.readback.specs.Calls.{Given}
 use Rattle.backward.specs.Calls.{Backed}
 use Rattle.tree.specs.declared.Refusal.{Refusal}
-use Rattle.walk.specs.declared.CeilingAnswer.{CeilingAnswer}
-use Rattle.walk.specs.declared.CeilingAnswer.TheVariants.{Ceiling, NoCeiling}
-use Rattle.walk.specs.declared.QueryAnswer.{QueryAnswer}
-use Rattle.walk.specs.declared.QueryAnswer.TheVariants.{Covered, NotCovered, Unanswered}
-use Rattle.tree.specs.declared.CallAnswer.{CallAnswer}
-use Rattle.tree.specs.declared.CallAnswer.TheVariants.{Refused, Ready, Kept, Removed}
-use Rattle.readback.specs.declared.CheckAnswer.{CheckAnswer}
-use Rattle.readback.specs.declared.CheckAnswer.TheVariants.{Failed, Passed}
-use Rattle.readback.specs.declared.ReadAnswer.{ReadAnswer}
-use Rattle.readback.specs.declared.ReadAnswer.TheVariants.{Unread, Read}
-use Rattle.backward.specs.declared.BackAnswer.{BackAnswer}
-use Rattle.backward.specs.declared.BackAnswer.TheVariants.{Unlisted, Listed}
+use Rattle.walk.specs.declared.Verdict.{Verdict}
+use Rattle.walk.specs.declared.Verdict.TheVariants.{Covered, NotCovered}
+use Rattle.tree.specs.declared.Done.{Done}
+use Rattle.tree.specs.declared.Done.TheVariants.{Ready, Kept, Removed}
+use Rattle.backward.specs.declared.Listed.{Listed}
 
 -- what an answer is called, or its code
 pub data Title : Type 0 where
@@ -34,55 +27,55 @@ abbrev pub said_refusal : Refusal → Said
 said_refusal r = record { title = code (code_of r); values = values_of r }
 
 -- the answers of fresh, insertion and removal
-abbrev pub said_call : CallAnswer → Said
-said_call (Refused r) = said_refusal r
-said_call Ready = record { title = ready; values = [] }
-said_call Kept = record { title = kept; values = [] }
-said_call Removed = record { title = removed; values = [] }
+abbrev pub said_call : Result Done Refusal → Said
+said_call (Err r) = said_refusal r
+said_call (Ok Ready) = record { title = ready; values = [] }
+said_call (Ok Kept) = record { title = kept; values = [] }
+said_call (Ok Removed) = record { title = removed; values = [] }
 
 -- those of a query: "covered" with the clause's number and the count, "not covered" with the count
-abbrev pub said_query : QueryAnswer → Said
-said_query (Unanswered r) = said_refusal r
-said_query (Covered number count) = record { title = is_covered; values = number ∷ count ∷ [] }
-said_query (NotCovered count) = record { title = is_not_covered; values = count ∷ [] }
+abbrev pub said_query : Result Verdict Refusal → Said
+said_query (Err r) = said_refusal r
+said_query (Ok (Covered number count)) = record { title = is_covered; values = number ∷ count ∷ [] }
+said_query (Ok (NotCovered count)) = record { title = is_not_covered; values = count ∷ [] }
 
 -- those of the ceiling call, which returns a number
-abbrev pub said_ceiling : CeilingAnswer → Said
-said_ceiling (NoCeiling r) = said_refusal r
-said_ceiling (Ceiling n) = record { title = returned; values = n ∷ [] }
+abbrev pub said_ceiling : Result ℕ Refusal → Said
+said_ceiling (Err r) = said_refusal r
+said_ceiling (Ok n) = record { title = returned; values = n ∷ [] }
 
 -- those of checking a slice
-abbrev pub said_check : CheckAnswer → Said
-said_check (Failed r) = said_refusal r
-said_check Passed = record { title = passed; values = [] }
+abbrev pub said_check : Result ⊤ Refusal → Said
+said_check (Err r) = said_refusal r
+said_check (Ok tt) = record { title = passed; values = [] }
 
 -- those of reading a clause back, with its length
-abbrev pub said_read : ReadAnswer → Said
-said_read (Unread r) = said_refusal r
-said_read (Read n) = record { title = read; values = n ∷ [] }
+abbrev pub said_read : Result ℕ Refusal → Said
+said_read (Err r) = said_refusal r
+said_read (Ok n) = record { title = read; values = n ∷ [] }
 
 -- those of listing backward, with how many numbers and the candidates in all
-abbrev pub said_back : BackAnswer → Said
-said_back (Unlisted r) = said_refusal r
-said_back (Listed n k) = record { title = listed; values = n ∷ k ∷ [] }
+abbrev pub said_back : Result Listed Refusal → Said
+said_back (Err r) = said_refusal r
+said_back (Ok l) = record { title = listed; values = l.count ∷ l.candidates ∷ [] }
 
 -- how a call comes out: what it answers, and the lent words afterwards
-pub record Result : Type 0 where
+pub record Returned : Type 0 where
   pub said : Said
   pub words : List ℕ
 
 -- of fresh, insertion and removal, which are lent the slice
-abbrev pub called : Called → Result
+abbrev pub called : Called → Returned
 called r = record { said = said_call r.answer; words = r.slice }
 
 -- of a query, which is lent the witness
-abbrev pub asked : Asked → Result
+abbrev pub asked : Asked → Returned
 asked r = record { said = said_query r.answer; words = r.witness }
 
 -- of reading a clause back, which is lent the output
-abbrev pub given_back : Given → Result
+abbrev pub given_back : Given → Returned
 given_back r = record { said = said_read r.answer; words = r.output }
 
 -- of listing backward, which is lent the list
-abbrev pub backed : Backed → Result
+abbrev pub backed : Backed → Returned
 backed r = record { said = said_back r.answer; words = r.list }

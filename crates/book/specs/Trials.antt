@@ -1,5 +1,5 @@
 -- The starred rows of the trial clauses.
-use Rattle.std.specs.Prelude.{◌≡◌, List, [], ◌∷◌, map, ℕ, take, drop, replicate}
+use Rattle.std.specs.Prelude.{◌≡◌, List, [], ◌∷◌, map, ℕ, take, drop, replicate, Err, Ok, Result}
 use Rattle.clause.specs.Clause.{max_literals}
 use Rattle.machine.specs.Instr.{Down, Right, Put, Check, Compare, Instr, First, Do, Success}
 use Rattle.machine.specs.Compile.{compile}
@@ -7,8 +7,9 @@ use Rattle.tree.specs.Laid.{extent_of, region}
 use Rattle.walk.specs.Query.{witness_words, query}
 use Rattle.book.specs.Book.{Call, insert, slice_of}
 use Rattle.tree.specs.declared.Refusal.TheVariants.{Spent}
-use Rattle.walk.specs.declared.QueryAnswer.{QueryAnswer}
-use Rattle.walk.specs.declared.QueryAnswer.TheVariants.{Unanswered, Covered, NotCovered}
+use Rattle.walk.specs.declared.Verdict.{Verdict}
+use Rattle.walk.specs.declared.Verdict.TheVariants.{Covered, NotCovered}
+use Rattle.tree.specs.declared.Refusal.{Refusal}
 
 -- P with three, two and one arguments, Q with one, f with one, a, b; the variables x, y, z
 abbrev pub P₃ : ℕ
@@ -64,7 +65,7 @@ short = P₂ ∷ y ∷ f ∷ f ∷ y ∷ []
 
 -- the answer to a query, the first literals and the first positions of the witness
 pub record Seen : Type 0 where
-  pub answer : QueryAnswer
+  pub answer : Result Verdict Refusal
   pub literals : List ℕ
   pub positions : List ℕ
 
@@ -82,15 +83,15 @@ trials =
     -- both merged
     ∷ (map extent_of (region both) ≡ 15 ∷ 14 ∷ 13 ∷ 12 ∷ 11 ∷ 5 ∷ 4 ∷ 3 ∷ 2 ∷ 1 ∷ 5 ∷ 4 ∷ 3 ∷ 2 ∷ 1 ∷ [])
     -- both kept, P(b,a,b)
-    ∷ (ask both (P₃ ∷ b ∷ a ∷ b ∷ []) 100 1 2 ≡ record { answer = Covered 1 1; literals = 0 ∷ []; positions = 1 ∷ 3 ∷ [] })
+    ∷ (ask both (P₃ ∷ b ∷ a ∷ b ∷ []) 100 1 2 ≡ record { answer = Ok (Covered 1 1); literals = 0 ∷ []; positions = 1 ∷ 3 ∷ [] })
     -- P(x),Q(x) kept, P(a),P(b),Q(b); within 6 candidates, and 5; P(a),Q(b)
-    ∷ (ask pxqx (P₁ ∷ a ∷ P₁ ∷ b ∷ Q₁ ∷ b ∷ []) 100 2 2 ≡ record { answer = Covered 1 6; literals = 1 ∷ 2 ∷ []; positions = 3 ∷ 5 ∷ [] })
-    ∷ (ask pxqx (P₁ ∷ a ∷ P₁ ∷ b ∷ Q₁ ∷ b ∷ []) 6 0 0 ≡ record { answer = Covered 1 6; literals = []; positions = [] })
-    ∷ (ask pxqx (P₁ ∷ a ∷ P₁ ∷ b ∷ Q₁ ∷ b ∷ []) 5 0 0 ≡ record { answer = Unanswered (Spent 5); literals = []; positions = [] })
-    ∷ (ask pxqx (P₁ ∷ a ∷ Q₁ ∷ b ∷ []) 100 0 0 ≡ record { answer = NotCovered 3; literals = []; positions = [] })
+    ∷ (ask pxqx (P₁ ∷ a ∷ P₁ ∷ b ∷ Q₁ ∷ b ∷ []) 100 2 2 ≡ record { answer = Ok (Covered 1 6); literals = 1 ∷ 2 ∷ []; positions = 3 ∷ 5 ∷ [] })
+    ∷ (ask pxqx (P₁ ∷ a ∷ P₁ ∷ b ∷ Q₁ ∷ b ∷ []) 6 0 0 ≡ record { answer = Ok (Covered 1 6); literals = []; positions = [] })
+    ∷ (ask pxqx (P₁ ∷ a ∷ P₁ ∷ b ∷ Q₁ ∷ b ∷ []) 5 0 0 ≡ record { answer = Err (Spent 5); literals = []; positions = [] })
+    ∷ (ask pxqx (P₁ ∷ a ∷ Q₁ ∷ b ∷ []) 100 0 0 ≡ record { answer = Ok (NotCovered 3); literals = []; positions = [] })
     -- P(x,f(y)),P(z,f(f(z))) kept, P(y,f(f(y))): its one literal cannot serve for both; and the other way
-    ∷ (ask (keeping (insert long 1 ∷ [])) short 100 0 0 ≡ record { answer = NotCovered 1; literals = []; positions = [] })
-    ∷ (ask (keeping (insert short 1 ∷ [])) long 100 0 0 ≡ record { answer = Covered 1 2; literals = []; positions = [] })
+    ∷ (ask (keeping (insert long 1 ∷ [])) short 100 0 0 ≡ record { answer = Ok (NotCovered 1); literals = []; positions = [] })
+    ∷ (ask (keeping (insert short 1 ∷ [])) long 100 0 0 ≡ record { answer = Ok (Covered 1 2); literals = []; positions = [] })
     -- P(a) kept, P(x)
-    ∷ (ask (keeping (insert (P₁ ∷ a ∷ []) 1 ∷ [])) (P₁ ∷ x ∷ []) 100 0 0 ≡ record { answer = NotCovered 1; literals = []; positions = [] })
+    ∷ (ask (keeping (insert (P₁ ∷ a ∷ []) 1 ∷ [])) (P₁ ∷ x ∷ []) 100 0 0 ≡ record { answer = Ok (NotCovered 1); literals = []; positions = [] })
     ∷ []

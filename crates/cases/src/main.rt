@@ -2,7 +2,7 @@
 // All other cases are rows of tests/rust/cases, which a Rust test puts to the same calls.
 #![tactic(auto)]
 
-// What a told word holds before a call, which then means nothing.
+// What a told word holds before a call, which then means nothing. (Not an Option: the calls are lent plain words, as C lends them.)
 const UNTOLD: u64 = 0xffff_ffff_ffff_ffff;
 
 // P(x,a,x) and P(x,x,b).
@@ -73,9 +73,9 @@ fn ask(rt: &HostRuntime, tree: &[u64], witness: &mut [u16]) {
     begin(rt, "\nwitness words", witness.len());
     let mut told = [UNTOLD; 3];
     write(rt, codetree::ct_query(tree, &FIRST, 0, witness, &mut told));
-    write(rt, told[0]);
-    write(rt, told[1]);
-    write(rt, told[2]);
+    for value in told {
+        write(rt, value);
+    }
 }
 
 // On an empty tree; then with the clause kept.

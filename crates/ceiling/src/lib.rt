@@ -8,7 +8,6 @@ ghost use Rattle.ceiling.specs.Table.{Sums, LastEntry};
 
 use clause::Clause;
 use tree::{Refusal, Tree};
-use walk::CeilingAnswer;
 
 // An entry of the table, wide enough for the greatest, which is the last.
 type Entry = u32;
@@ -38,15 +37,15 @@ fn sum(table: &Table, q: u64, m: u64) -> u64
 }
 
 // kept × (q + q² + .. + q^m), for kept up to the most clauses, and q and m from 1 to the most literals.
-pub fn ceiling(kept: u64, q: u64, m: u64) -> CeilingAnswer
+pub fn ceiling(kept: u64, q: u64, m: u64) -> Result<u64, Refusal>
     ensures { result ≡ ceiling_call kept q m }
 {
     let most = Clause::LITERALS as u64;
     if kept > Tree::CLAUSES as u64 || q < 1 || q > most || m < 1 || m > most {
-        return CeilingAnswer::NoCeiling(Refusal::BadSize);
+        return Err(Refusal::BadSize);
     }
     // here, past the refusals: a constant is put on the stack where it is used
     let sums = SUMS;
     let highest = kept * sum(&sums, q, m);
-    CeilingAnswer::Ceiling(highest)
+    Ok(highest)
 }

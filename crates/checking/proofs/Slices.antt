@@ -20,8 +20,6 @@ use Rattle.tree.proofs.Words.{region_layout}
 use Rattle.tree.proofs.Laws.{tree_laws}
 use Rattle.readback.specs.Saved.{readable, all_readable, of_clauses}
 use Rattle.readback.specs.Calls.{check, unread, written_out, read_back}
-use Rattle.readback.specs.declared.CheckAnswer.TheVariants.{Passed}
-use Rattle.readback.specs.declared.ReadAnswer.TheVariants.{Read}
 use Rattle.tree.specs.declared.Refusal.TheVariants.{NoSuchNumber}
 use Rattle.readback.proofs.Listed.{length_paths}
 use Rattle.readback.proofs.Laws.{Passing, check_passing, written_is}
@@ -76,7 +74,7 @@ found_readable n (d ∷ es) p r e = go (eqb d.number n) e (found_readable n es p
     go true e ih = let q : d.keys ≡ p = cc in rw q at both.0
     go false e ih = ih both.1 e
 
-module _ (T : List ℕ) (passed : check T ≡ Passed) where
+module _ (T : List ℕ) (passed : check T ≡ Ok tt) where
   passing : Passing T
   passing = check_passing T passed
 
@@ -103,6 +101,6 @@ module _ (T : List ℕ) (passed : check T ≡ Passed) where
     read_none e = sym (found ∙ rw e)
 
     pub read_some : (p : List ℕ) → first_with n (paths_of (decode T)) ≡ some p → (U : List ℕ) (k : ℕ) → Written p W (Ok k) U
-        → record { answer = Read k; output = U } ≡ read_back T n W
+        → record { answer = Ok k; output = U } ≡ read_back T n W
     unfolding written_out
     read_some p e U k (a, b, c) = sym (found ∙ rw (e, c, a))

@@ -9,13 +9,11 @@ ghost use Rattle.tree.specs.Laid.{sized, well_laid, decode};
 ghost use Rattle.tree.specs.Laws.{first_with};
 ghost use Rattle.readback.specs.Saved.{all_readable, of_clauses};
 ghost use Rattle.readback.specs.Calls as calls;
-ghost use Rattle.readback.specs.declared.CheckAnswer.TheVariants.{Passed};
 ghost use Rattle.checking.specs.Inner.Stage.{Gathers};
 
 use clause::Clause;
 use decompiling::{Foreign, is_path, read_off};
 use laid::well_laid;
-use readback::{CheckAnswer, ReadAnswer};
 use tree::{Refusal, Tree};
 
 mod going;
@@ -67,49 +65,47 @@ fn path_to<'p>(pass: &'p mut Pass<'_>, number: u32) -> Option<&'p [u64]>
 }
 
 // Checks a slice of any words: whether it is the tree of some clauses, or of none, under different numbers.
-pub fn check(tree: &[u64]) -> CheckAnswer
+pub fn check(tree: &[u64]) -> Result<(), Refusal>
     ensures { result ≡ calls.check tree.now }
 {
     if !Tree::sized(tree.len()) {
-        return CheckAnswer::Failed(Refusal::BadSlice);
+        return Err(Refusal::BadSlice);
     }
     if !well_laid(tree) {
-        return CheckAnswer::Failed(Refusal::Broken);
+        return Err(Refusal::Broken);
     }
     if !of_clauses(tree) {
-        return CheckAnswer::Failed(Refusal::NoSuchTree);
+        return Err(Refusal::NoSuchTree);
     }
-    CheckAnswer::Passed
+    Ok(())
 }
 
 // Reads the clause with a number back out of a slice that the caller knows to pass the check.
-pub fn read_known(tree: &[u64], number: u32, out: &mut [u16]) -> ReadAnswer
-    requires { (calls.check tree.now ≡ Passed) × (max_words ≤ length out.old) }
+pub fn read_known(tree: &[u64], number: u32, out: &mut [u16]) -> Result<usize, Refusal>
+    requires { (calls.check tree.now ≡ Ok tt) × (max_words ≤ length out.old) }
     ensures { record { answer = result; output = out.new } ≡ calls.read_back tree.now number out.old }
 {
     let mut pass = Pass::over(tree);
     let Some(path) = path_to(&mut pass, number) else {
-        return ReadAnswer::Unread(Refusal::NoSuchNumber);
+        return Err(Refusal::NoSuchNumber);
     };
     let read = read_off(path, out);
     let Ok(count) = read else {
-        return ReadAnswer::Unread(Refusal::NoSuchTree);
+        return Err(Refusal::NoSuchTree);
     };
-    ReadAnswer::Read(count)
+    Ok(count)
 }
 
 // Reads the clause with a number back out of a slice of any words.
-pub fn read_back(tree: &[u64], number: u32, out: &mut [u16]) -> ReadAnswer
+pub fn read_back(tree: &[u64], number: u32, out: &mut [u16]) -> Result<usize, Refusal>
     ensures { record { answer = result; output = out.new } ≡ calls.read_back tree.now number out.old }
 {
     if !Tree::sized(tree.len()) {
-        return ReadAnswer::Unread(Refusal::BadSlice);
+        return Err(Refusal::BadSlice);
     }
     if out.len() < Clause::WORDS {
-        return ReadAnswer::Unread(Refusal::ShortOutput);
+        return Err(Refusal::ShortOutput);
     }
-    match check(tree) {
-        CheckAnswer::Failed(refusal) => ReadAnswer::Unread(refusal),
-        CheckAnswer::Passed => read_known(tree, number, out),
-    }
+    check(tree)?;
+    read_known(tree, number, out)
 }

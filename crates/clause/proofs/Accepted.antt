@@ -1,4 +1,5 @@
 -- A clause is accepted exactly if it is whole literals one after another; a fault's position is the first word that breaks the rules.
+use Rattle.std.specs.Prelude.{Err, Ok, Result, ℕ}
 use mathlib.Core.Path.{◌≡◌, refl, sym, ap, ◌∙◌}
 use mathlib.Core.Logic.{◌↔◌, ◌⊎◌, inl, inr}
 use mathlib.Core.Bool.{Bool, true, false, cond}
@@ -18,11 +19,10 @@ use Rattle.clause.proofs.Literals.{before_head, literals_head, before_inside, li
 use Rattle.clause.proofs.Skip.{first_shaped}
 use Rattle.clause.proofs.Starts.{found}
 use Rattle.clause.specs.declared.Fault.TheVariants.{BadLength, Bad, Ninth}
-use Rattle.clause.specs.declared.Shape.{Shape}
-use Rattle.clause.specs.declared.Shape.TheVariants.{Faulty, Whole}
 use Rattle.clause.proofs.Whole.{literals_scan, whole_literals, literals_whole}
 use Rattle.clause.proofs.Apart.{apart}
 use Rattle.clause.proofs.Faults.{Stops, stops, Meets, meets}
+use Rattle.clause.specs.declared.Fault.{Fault}
 
 -- the shape of 1 to 64 words is what the reading finds
 fits_shape : (ws : List ℕ) → Fits ws → shape ws ≡ scan ws 0 0 0
@@ -30,25 +30,25 @@ unfolding shape
 fits_shape [] F = absurd (omega (arith, F.low))
 fits_shape (w ∷ ws) F = rw (le-ltb max_words (length (w ∷ ws)) F.high)
 
-fits? : (ws : List ℕ) → (Fits ws × (shape ws ≡ scan ws 0 0 0)) ⊎ ((Fits ws → ⊥) × (shape ws ≡ Faulty BadLength))
+fits? : (ws : List ℕ) → (Fits ws × (shape ws ≡ scan ws 0 0 0)) ⊎ ((Fits ws → ⊥) × (shape ws ≡ Err BadLength))
 unfolding shape
 fits? [] = inr (λ F. omega (arith, F.low), refl)
 fits? (w ∷ ws) = go (ltb max_words (length (w ∷ ws))) refl
   where
     go : (b : Bool) → ltb max_words (length (w ∷ ws)) ≡ b
-        → (Fits (w ∷ ws) × (shape (w ∷ ws) ≡ scan (w ∷ ws) 0 0 0)) ⊎ ((Fits (w ∷ ws) → ⊥) × (shape (w ∷ ws) ≡ Faulty BadLength))
+        → (Fits (w ∷ ws) × (shape (w ∷ ws) ≡ scan (w ∷ ws) 0 0 0)) ⊎ ((Fits (w ∷ ws) → ⊥) × (shape (w ∷ ws) ≡ Err BadLength))
     go true e = inr (λ F. omega (arith, F.high, ltb-true max_words (length (w ∷ ws)) e), rw e)
     go false e = inl (record { low = omega arith; high = ltb-false max_words (length (w ∷ ws)) e }, rw e)
 
 -- the reading never finds a bad length
-scan_length : (ws : List ℕ) (need lits p : ℕ) → scan ws need lits p ≡ Faulty BadLength → ⊥
+scan_length : (ws : List ℕ) (need lits p : ℕ) → scan ws need lits p ≡ Err BadLength → ⊥
 unfolding scan scan_word
 scan_length [] zero lits p e = apart cc
 scan_length [] (suc k) lits p e = apart cc
 scan_length (w ∷ ws) need lits p e = go (sort w) need e (scan_length ws)
   where
-    go : (s : Sort) (need : ℕ) → scan_word s (arity w) need lits p (scan ws) ≡ Faulty BadLength
-        → ((need lits p : ℕ) → scan ws need lits p ≡ Faulty BadLength → ⊥) → ⊥
+    go : (s : Sort) (need : ℕ) → scan_word s (arity w) need lits p (scan ws) ≡ Err BadLength
+        → ((need lits p : ℕ) → scan ws need lits p ≡ Err BadLength → ⊥) → ⊥
     go symbol zero e ih = apart cc
     go symbol (suc k) e ih = ih (arity w + k) lits (suc p) e
     go variable zero e ih = apart cc
@@ -58,7 +58,7 @@ scan_length (w ∷ ws) need lits p e = go (sort w) need e (scan_length ws)
     go head (suc k) e ih = apart cc
     go head zero e ih = room (ltb lits max_literals) e
       where
-        room : (b : Bool) → cond b (scan ws (arity w) (suc lits) (suc p)) (Faulty (Ninth p)) ≡ Faulty BadLength → ⊥
+        room : (b : Bool) → cond b (scan ws (arity w) (suc lits) (suc p)) (Err (Ninth p)) ≡ Err BadLength → ⊥
         room true e' = ih (arity w) (suc lits) (suc p) e'
         room false e' = apart cc
 
@@ -72,14 +72,14 @@ some_literals ws n L h = go L.parts L.joined L.count
     go (l ∷ ls) e f = omega arith
 
 -- a head after 8 literals is a ninth
-ninth_scan : (ws : List ℕ) (at : ℕ) → IsNinth ws at → scan ws 0 0 0 ≡ Faulty (Ninth at)
+ninth_scan : (ws : List ℕ) (at : ℕ) → IsNinth ws at → scan ws 0 0 0 ≡ Err (Ninth at)
 unfolding scan scan_word
 ninth_scan ws at N =
     let w : ℕ = get_or ws at 0 in
     let e : take at ws ++ (w ∷ drop (suc at) ws) ≡ ws = ap (λ (l : List ℕ). take at ws ++ l) (sym (drop-cons ws at 0 N.inside)) ∙ take-append-drop at ws in
     let f : scan (take at ws ++ (w ∷ drop (suc at) ws)) 0 0 0 ≡ scan (w ∷ drop (suc at) ws) 0 max_literals (length (take at ws)) =
     literals_scan (take at ws) max_literals N.before (omega arith) (w ∷ drop (suc at) ws) in
-    let g : scan (w ∷ drop (suc at) ws) 0 max_literals at ≡ Faulty (Ninth at) = rw N.top in
+    let g : scan (w ∷ drop (suc at) ws) 0 max_literals at ≡ Err (Ninth at) = rw N.top in
     let h : length (take at ws) ≡ at = length-take-le at ws (omega (arith, N.inside)) in
     ap (λ (l : List ℕ). scan l 0 0 0) (sym e) ∙ f ∙ ap (scan (w ∷ drop (suc at) ws) 0 max_literals) h ∙ g
 
@@ -87,25 +87,25 @@ module _ (ws : List ℕ) where
   accepts : Accepted ws ↔ IsClause ws
   accepts = (λ h. to (fits? ws) h, λ C. (C.count, fits_shape ws C.fits ∙ whole_literals ws C.count C.literals C.high))
     where
-      to : (Fits ws × (shape ws ≡ scan ws 0 0 0)) ⊎ ((Fits ws → ⊥) × (shape ws ≡ Faulty BadLength)) → Accepted ws → IsClause ws
+      to : (Fits ws × (shape ws ≡ scan ws 0 0 0)) ⊎ ((Fits ws → ⊥) × (shape ws ≡ Err BadLength)) → Accepted ws → IsClause ws
       to (inl (F, e)) (n, h) =
           let (L, few) = literals_whole ws n (sym e ∙ h) in
           record { fits = F; count = n; literals = L; low = some_literals ws n L F.low; high = few }
       to (inr (F, e)) (n, h) = apart cc
 
-  bad_length : (shape ws ≡ Faulty BadLength) ↔ (Fits ws → ⊥)
+  bad_length : (shape ws ≡ Err BadLength) ↔ (Fits ws → ⊥)
   bad_length = (to (fits? ws), from (fits? ws))
     where
-      to : (Fits ws × (shape ws ≡ scan ws 0 0 0)) ⊎ ((Fits ws → ⊥) × (shape ws ≡ Faulty BadLength)) → shape ws ≡ Faulty BadLength → Fits ws → ⊥
+      to : (Fits ws × (shape ws ≡ scan ws 0 0 0)) ⊎ ((Fits ws → ⊥) × (shape ws ≡ Err BadLength)) → shape ws ≡ Err BadLength → Fits ws → ⊥
       to (inl (F, e)) h = absurd (scan_length ws 0 0 0 (sym e ∙ h))
       to (inr (F, e)) h = F
 
-      from : (Fits ws × (shape ws ≡ scan ws 0 0 0)) ⊎ ((Fits ws → ⊥) × (shape ws ≡ Faulty BadLength)) → (Fits ws → ⊥) → shape ws ≡ Faulty BadLength
+      from : (Fits ws × (shape ws ≡ scan ws 0 0 0)) ⊎ ((Fits ws → ⊥) × (shape ws ≡ Err BadLength)) → (Fits ws → ⊥) → shape ws ≡ Err BadLength
       from (inl (F, e)) h = absurd (h F)
       from (inr (F, e)) h = e
 
   module _ (at : ℕ) where
-    ninth : (shape ws ≡ Faulty (Ninth at)) ↔ (Fits ws × IsNinth ws at)
+    ninth : (shape ws ≡ Err (Ninth at)) ↔ (Fits ws × IsNinth ws at)
     ninth = (to (fits? ws), λ N. fits_shape ws N.0 ∙ ninth_scan ws at N.1)
       where
         met : Meets ws 0 0 0 at → IsNinth ws at
@@ -113,17 +113,17 @@ module _ (ws : List ℕ) where
             let e : M.i ≡ at = omega (arith, M.place) in
             record { before = (literals_whole (take at ws) max_literals (rw e at M.whole)).0; inside = rw e at M.inside; top = rw e at M.top }
 
-        to : (Fits ws × (shape ws ≡ scan ws 0 0 0)) ⊎ ((Fits ws → ⊥) × (shape ws ≡ Faulty BadLength)) → shape ws ≡ Faulty (Ninth at) → Fits ws × IsNinth ws at
+        to : (Fits ws × (shape ws ≡ scan ws 0 0 0)) ⊎ ((Fits ws → ⊥) × (shape ws ≡ Err BadLength)) → shape ws ≡ Err (Ninth at) → Fits ws × IsNinth ws at
         to (inl (F, e)) h = (F, met (meets ws 0 0 0 at (omega arith) (sym e ∙ h)))
         to (inr (F, e)) h = apart cc
 
-    bad : shape ws ≡ Faulty (Bad at) → Fits ws × Breaks ws at
+    bad : shape ws ≡ Err (Bad at) → Fits ws × Breaks ws at
     bad h = to (fits? ws)
       where
-        rules : Rules ws → scan ws 0 0 0 ≡ Faulty (Bad at) → ⊥
+        rules : Rules ws → scan ws 0 0 0 ≡ Err (Bad at) → ⊥
         rules (n, L, few) e = let f = whole_literals ws n L few in apart cc
 
-        stopped : scan ws 0 0 0 ≡ Faulty (Bad at) → Stops ws 0 0 0 at → Breaks ws at
+        stopped : scan ws 0 0 0 ≡ Err (Bad at) → Stops ws 0 0 0 at → Breaks ws at
         stopped e S = record { before = (S.more, (S.n, L.0, L.1)); there = split (dec_lt at (length ws)) }
           where
             f : S.i ≡ at
@@ -139,7 +139,7 @@ module _ (ws : List ℕ) where
                 more B = let (n, L', few) = B.1 in (rw f at S.broken) l B.0 n (whole_literals (take (suc at) ws ++ B.0) n L' few)
             split (no l) = inr (omega (arith, S.inside, f), λ r. rules r e)
 
-        to : (Fits ws × (shape ws ≡ scan ws 0 0 0)) ⊎ ((Fits ws → ⊥) × (shape ws ≡ Faulty BadLength)) → Fits ws × Breaks ws at
+        to : (Fits ws × (shape ws ≡ scan ws 0 0 0)) ⊎ ((Fits ws → ⊥) × (shape ws ≡ Err BadLength)) → Fits ws × Breaks ws at
         to (inl (F, e)) = (F, stopped (sym e ∙ h) (stops ws 0 0 0 at (sym e ∙ h)))
         to (inr (F, e)) = apart cc
 
@@ -168,8 +168,8 @@ ninth_stops ws q N (more, (n, L, few)) =
     let e : take (suc q) ws ++ more ≡ take q ws ++ (w ∷ more) = take_one ws q more N.inside in
     let f : scan (take q ws ++ (w ∷ more)) 0 0 0 ≡ scan (w ∷ more) 0 max_literals (length (take q ws)) =
     literals_scan (take q ws) max_literals N.before (omega arith) (w ∷ more) in
-    let g : scan (w ∷ more) 0 max_literals (length (take q ws)) ≡ Faulty (Ninth (length (take q ws))) = rw N.top in
-    let h : scan (take q ws ++ (w ∷ more)) 0 0 0 ≡ Whole n = ap (λ (l : List ℕ). scan l 0 0 0) (sym e) ∙ whole_literals (take (suc q) ws ++ more) n L few in
+    let g : scan (w ∷ more) 0 max_literals (length (take q ws)) ≡ Err (Ninth (length (take q ws))) = rw N.top in
+    let h : scan (take q ws ++ (w ∷ more)) 0 0 0 ≡ Ok n = ap (λ (l : List ℕ). scan l 0 0 0) (sym e) ∙ whole_literals (take (suc q) ws ++ more) n L few in
     apart cc
 
 -- two positions
@@ -195,34 +195,34 @@ module _ (ws : List ℕ) (F : Fits ws) (at : ℕ) (B : Breaks ws at) where
       go (inl (l, f, g)) = f (begins_shorter ws (suc at) k h b)
       go (inr (l, f)) = omega arith
 
-  place : (s : Shape) → shape ws ≡ s → shape ws ≡ Faulty (Bad at)
-  place (Faulty BadLength) e = absurd ((bad_length ws).0 e F)
-  place (Whole n) e = go ((accepts ws).0 (n, e)) B.there
+  place : (s : Result ℕ Fault) → shape ws ≡ s → shape ws ≡ Err (Bad at)
+  place (Err BadLength) e = absurd ((bad_length ws).0 e F)
+  place (Ok n) e = go ((accepts ws).0 (n, e)) B.there
     where
       go : IsClause ws → ((at < length ws) × (Begins (take (suc at) ws) → ⊥) × (IsNinth ws at → ⊥)) ⊎ ((at ≡ length ws) × (Rules ws → ⊥))
-          → shape ws ≡ Faulty (Bad at)
+          → shape ws ≡ Err (Bad at)
       go C (inl (l, f, g)) =
           let r : Rules (take (suc at) ws ++ drop (suc at) ws) = rw (take-append-drop (suc at) ws) (C.count, C.literals, C.high) in
           absurd (f (drop (suc at) ws, r))
       go C (inr (l, f)) = absurd (f (C.count, C.literals, C.high))
-  place (Faulty (Ninth q)) e = go (order at q) ((ninth ws q).0 e).1 B.there
+  place (Err (Ninth q)) e = go (order at q) ((ninth ws q).0 e).1 B.there
     where
       go : Order at q → IsNinth ws q → ((at < length ws) × (Begins (take (suc at) ws) → ⊥) × (IsNinth ws at → ⊥)) ⊎ ((at ≡ length ws) × (Rules ws → ⊥))
-          → shape ws ≡ Faulty (Bad at)
+          → shape ws ≡ Err (Bad at)
       go (less h) N t =
           let r : Rules (take q ws ++ []) = rw (append-nil (take q ws)) (max_literals, N.before, omega arith) in
           absurd (not_past q h (omega (arith, N.inside)) ([], r))
       go (same h) N (inl (l, f, g)) = absurd (g (rw h N))
       go (same h) N (inr (l, f)) = absurd (omega (arith, N.inside))
       go (more h) N t = absurd (ninth_stops ws q N (begins_shorter ws (suc q) at h B.before))
-  place (Faulty (Bad q)) e = go (order at q) (bad ws q e).1
+  place (Err (Bad q)) e = go (order at q) (bad ws q e).1
     where
       inside : {p : ℕ} → Breaks ws p → p ≤ length ws
       inside {p} C = elim C.there [ inl t ↦ omega (arith, t.0) | inr t ↦ omega (arith, t.0) ]
 
-      go : Order at q → Breaks ws q → shape ws ≡ Faulty (Bad at)
+      go : Order at q → Breaks ws q → shape ws ≡ Err (Bad at)
       go (less h) C = absurd (not_past q h (inside C) C.before)
-      go (same h) C = e ∙ ap (λ (k : ℕ). Faulty (Bad k)) (sym h)
+      go (same h) C = e ∙ ap (λ (k : ℕ). Err (Bad k)) (sym h)
       go (more h) C = absurd (past C.there)
         where
           past : ((q < length ws) × (Begins (take (suc q) ws) → ⊥) × (IsNinth ws q → ⊥)) ⊎ ((q ≡ length ws) × (Rules ws → ⊥)) → ⊥

@@ -1,4 +1,5 @@
 -- What an accepted clause is: its literals one after another, each a head and the arguments that its arity asks for.
+use Rattle.std.specs.Prelude.{Err, Ok}
 use mathlib.Core.Path.{◌≡◌, refl, sym, ap, ◌∙◌}
 use mathlib.Core.Logic.{◌≢◌}
 use mathlib.Core.Bool.{Bool, true, false, cond}
@@ -14,7 +15,6 @@ use Rattle.clause.specs.Word.{arity, Sort, symbol, variable, head, wrong, sort}
 use Rattle.clause.specs.Clause.{scan_word, scan, shape, Accepted, max_literals, max_words, before, literals, Shaped, end, next_word, Inner, Inside}
 use Rattle.clause.specs.Accepted.{IsLiteral}
 use Rattle.clause.specs.declared.Fault.TheVariants.{BadLength, Ninth}
-use Rattle.clause.specs.declared.Shape.TheVariants.{Faulty, Whole}
 use Rattle.clause.proofs.Apart.{apart}
 
 pub literal_shaped : {l : List ℕ} → IsLiteral l → Shaped 1 l
@@ -86,15 +86,15 @@ read_inside w ws k lits n i r =
       few = r.few;
     }
 
-pub read : (ws : List ℕ) (need lits at n : ℕ) → lits ≤ max_literals → scan ws need lits at ≡ Whole n → Read ws need lits n
+pub read : (ws : List ℕ) (need lits at n : ℕ) → lits ≤ max_literals → scan ws need lits at ≡ Ok n → Read ws need lits n
 unfolding scan before literals scan_word
 read [] zero lits at n h e =
     let z : lits ≡ n = cc in record { rest_shaped = end; rest_inner = none; rest_literals = none; counted = omega arith; few = omega arith }
 read [] (suc k) lits at n h e = apart cc
 read (w ∷ ws) need lits at n h e = go (sort w) need refl e (read ws)
   where
-    go : (s : Sort) (need : ℕ) → sort w ≡ s → scan_word s (arity w) need lits at (scan ws) ≡ Whole n
-        → ((need lits at n : ℕ) → lits ≤ max_literals → scan ws need lits at ≡ Whole n → Read ws need lits n) → Read (w ∷ ws) need lits n
+    go : (s : Sort) (need : ℕ) → sort w ≡ s → scan_word s (arity w) need lits at (scan ws) ≡ Ok n
+        → ((need lits at n : ℕ) → lits ≤ max_literals → scan ws need lits at ≡ Ok n → Read ws need lits n) → Read (w ∷ ws) need lits n
     go symbol zero q e ih = apart cc
     go symbol (suc k) q e ih = read_inside w ws k lits n (rw q tt) (ih (arity w + k) lits (suc at) n h e)
     go variable zero q e ih = apart cc
@@ -104,7 +104,7 @@ read (w ∷ ws) need lits at n h e = go (sort w) need refl e (read ws)
     go head (suc k) q e ih = apart cc
     go head zero q e ih = room (ltb lits max_literals) refl e
       where
-        room : (b : Bool) → ltb lits max_literals ≡ b → cond b (scan ws (arity w) (suc lits) (suc at)) (Faulty (Ninth at)) ≡ Whole n
+        room : (b : Bool) → ltb lits max_literals ≡ b → cond b (scan ws (arity w) (suc lits) (suc at)) (Err (Ninth at)) ≡ Ok n
             → Read (w ∷ ws) 0 lits n
         room true q' e' = read_head w ws lits n q (ih (arity w) (suc lits) (suc at) n (ltb-true lits max_literals q') e')
         room false q' e' = apart cc
@@ -142,9 +142,9 @@ some_literal ws C = go (literals ws) C.whole
 
 pub accepted : (ws : List ℕ) → Accepted ws → Clause ws
 unfolding shape
-accepted [] h = let e : Faulty BadLength ≡ Whole h.0 = h.1 in apart cc
+accepted [] h = let e : Err BadLength ≡ Ok h.0 = h.1 in apart cc
 accepted (w ∷ ws) h = go (ltb max_words (length (w ∷ ws))) refl h.1
   where
-    go : (b : Bool) → ltb max_words (length (w ∷ ws)) ≡ b → cond b (Faulty BadLength) (scan (w ∷ ws) 0 0 0) ≡ Whole h.0 → Clause (w ∷ ws)
+    go : (b : Bool) → ltb max_words (length (w ∷ ws)) ≡ b → cond b (Err BadLength) (scan (w ∷ ws) 0 0 0) ≡ Ok h.0 → Clause (w ∷ ws)
     go true q e = apart cc
     go false q e = scanned (w ∷ ws) h.0 (ltb-false max_words (length (w ∷ ws)) q) cons≢nil (read (w ∷ ws) 0 0 0 h.0 (omega arith) e)

@@ -1,4 +1,5 @@
 -- The reading of whole literals: they are read, and what is read whole is literals.
+use Rattle.std.specs.Prelude.{Ok}
 use mathlib.Core.Path.{◌≡◌, refl, sym, ap, ◌∙◌}
 use mathlib.Core.List.{List, [], ◌∷◌, ◌++◌, flatten, append_assoc, append-nil}
 use Prim.Native.Nat.{ℕ, suc, ◌+◌, ◌≤◌, ◌<◌}
@@ -10,7 +11,6 @@ use Rattle.clause.specs.Word.{arity, Sort, symbol, variable, head, wrong, sort}
 use Rattle.clause.specs.Clause.{scan_word, scan, max_literals, literals, Shaped, end, next_word, Inner, Inside}
 use Rattle.clause.specs.Accepted.{IsLiteral, Literals}
 use Rattle.clause.proofs.Literals.{read, joined, shaped_zero}
-use Rattle.clause.specs.declared.Shape.TheVariants.{Whole}
 
 pub scan_inside : (w : ℕ) (s : Sort) → sort w ≡ s → Inside s → (k lits at : ℕ) (xs : List ℕ)
     → scan (w ∷ xs) (suc k) lits at ≡ scan xs (arity w + k) lits (suc at)
@@ -59,12 +59,12 @@ literals_scan ws n L h rest =
     let g : scan (flatten L.parts ++ rest) 0 0 0 ≡ scan rest 0 n (length ws) = rw (← e, ← f) (scan_literals L.each 0 0 (omega (arith, L.count)) rest) in
     rw L.joined at g
 
-pub whole_literals : (ws : List ℕ) (n : ℕ) → Literals ws n → n ≤ max_literals → scan ws 0 0 0 ≡ Whole n
+pub whole_literals : (ws : List ℕ) (n : ℕ) → Literals ws n → n ≤ max_literals → scan ws 0 0 0 ≡ Ok n
 unfolding scan
 whole_literals ws n L h = rw (append-nil ws) at (literals_scan ws n L h [])
 
 -- what is read whole is literals
-pub literals_whole : (ws : List ℕ) (n : ℕ) → scan ws 0 0 0 ≡ Whole n → Literals ws n × (n ≤ max_literals)
+pub literals_whole : (ws : List ℕ) (n : ℕ) → scan ws 0 0 0 ≡ Ok n → Literals ws n × (n ≤ max_literals)
 literals_whole ws n e =
     let r = read ws 0 0 0 n (omega arith) e in
     let none_before = ap (λ (l : List ℕ). l ++ flatten (literals ws)) (sym (shaped_zero r.rest_shaped refl)) in

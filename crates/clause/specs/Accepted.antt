@@ -1,11 +1,10 @@
 -- What a clause is, without the reading: whole literals one after another; and what the position of a fault means.
-use Rattle.std.specs.Prelude.{◌≡◌, ◌↔◌, ◌⊎◌, ℕ, suc, ◌≤◌, ◌<◌, length, get_or, take, drop}
+use Rattle.std.specs.Prelude.{◌≡◌, ◌↔◌, ◌⊎◌, ℕ, suc, ◌≤◌, ◌<◌, length, get_or, take, drop, Err}
 use mathlib.Core.List.{List, [], ◌∷◌, ◌++◌, flatten}
 use Rattle.clause.specs.Lists.{All}
 use Rattle.clause.specs.Word.{arity, head, sort}
 use Rattle.clause.specs.Clause.{shape, Accepted, max_literals, max_words, literals, term, start_of, Shaped, Inner, IsTerm}
 use Rattle.clause.specs.declared.Fault.TheVariants.{BadLength, Bad, Ninth}
-use Rattle.clause.specs.declared.Shape.TheVariants.{Faulty}
 
 -- a literal: a head, and then as many terms as its arity says, with no head among their words
 pub record IsLiteral (l : List ℕ) : Type 0 where
@@ -61,9 +60,9 @@ pub record Judged (ws : List ℕ) : Type 0 where
   pub accepts : Accepted ws ↔ IsClause ws
   -- whole literals one after another are those that `literals` finds
   pub parts : (n : ℕ) (L : Literals ws n) → literals ws ≡ L.parts
-  pub bad_length : (shape ws ≡ Faulty BadLength) ↔ (Fits ws → ⊥)
-  pub ninth : (at : ℕ) → (shape ws ≡ Faulty (Ninth at)) ↔ (Fits ws × IsNinth ws at)
-  pub bad : (at : ℕ) → (shape ws ≡ Faulty (Bad at)) ↔ (Fits ws × Breaks ws at)
+  pub bad_length : (shape ws ≡ Err BadLength) ↔ (Fits ws → ⊥)
+  pub ninth : (at : ℕ) → (shape ws ≡ Err (Ninth at)) ↔ (Fits ws × IsNinth ws at)
+  pub bad : (at : ℕ) → (shape ws ≡ Err (Bad at)) ↔ (Fits ws × Breaks ws at)
 
 -- the claim
 pub record ClauseLaws : Type 0 where

@@ -1,11 +1,9 @@
 -- Reading a clause: its shape, its literals, the terms in them, replacement of variables (substitution), subsumption.
-use Rattle.std.specs.Prelude.{◌≡◌, cond, List, [], ◌∷◌, ◌++◌, map, ℕ, zero, suc, ◌+◌, ◌<◌, length, get_or, take, drop, ltb}
+use Rattle.std.specs.Prelude.{◌≡◌, cond, List, [], ◌∷◌, ◌++◌, map, ℕ, zero, suc, ◌+◌, ◌<◌, length, get_or, take, drop, ltb, Err, Ok, Result}
 use Rattle.clause.specs.Word.{arity, Sort, symbol, variable, head, wrong, sort, if_head, if_variable}
 use Rattle.clause.specs.Lists.{All, Injective}
 use Rattle.clause.specs.declared.Fault.{Fault}
 use Rattle.clause.specs.declared.Fault.TheVariants.{BadLength, Bad, Ninth}
-use Rattle.clause.specs.declared.Shape.{Shape}
-use Rattle.clause.specs.declared.Shape.TheVariants.{Faulty, Whole}
 
 -- the most words of a clause
 abbrev pub max_words : ℕ
@@ -16,34 +14,29 @@ abbrev pub max_literals : ℕ
 max_literals = 8
 
 -- one word, at a place where `need` terms are still to come: what is found there, or how the reading goes on
-unfoldable pub scan_word : Sort → (arity need lits at : ℕ) → (ℕ → ℕ → ℕ → Shape) → Shape
-scan_word head a zero lits at rest = cond (ltb lits max_literals) (rest a (suc lits) (suc at)) (Faulty (Ninth at))
-scan_word head a (suc k) lits at rest = Faulty (Bad at)
-scan_word symbol a zero lits at rest = Faulty (Bad at)
+unfoldable pub scan_word : Sort → (arity need lits at : ℕ) → (ℕ → ℕ → ℕ → Result ℕ Fault) → Result ℕ Fault
+scan_word head a zero lits at rest = cond (ltb lits max_literals) (rest a (suc lits) (suc at)) (Err (Ninth at))
+scan_word head a (suc k) lits at rest = Err (Bad at)
+scan_word symbol a zero lits at rest = Err (Bad at)
 scan_word symbol a (suc k) lits at rest = rest (a + k) lits (suc at)
-scan_word variable a zero lits at rest = Faulty (Bad at)
+scan_word variable a zero lits at rest = Err (Bad at)
 scan_word variable a (suc k) lits at rest = rest (a + k) lits (suc at)
-scan_word wrong a need lits at rest = Faulty (Bad at)
+scan_word wrong a need lits at rest = Err (Bad at)
 
 -- the reading from a place where `need` terms of the literal are still to come, `lits` literals have begun and `at` words are read
-unfoldable pub scan : List ℕ → (need lits at : ℕ) → Shape
-scan [] zero lits at = Whole lits
-scan [] (suc k) lits at = Faulty (Bad at)
+unfoldable pub scan : List ℕ → (need lits at : ℕ) → Result ℕ Fault
+scan [] zero lits at = Ok lits
+scan [] (suc k) lits at = Err (Bad at)
 scan (w ∷ ws) need lits at = scan_word (sort w) (arity w) need lits at (scan ws)
 
 -- the shape of a clause of 1 to max_words words
-unfoldable pub shape : List ℕ → Shape
-shape [] = Faulty BadLength
-shape (w ∷ ws) = cond (ltb max_words (length (w ∷ ws))) (Faulty BadLength) (scan (w ∷ ws) 0 0 0)
-
--- the fault of a shape that has one
-abbrev pub fault_of : Shape → Fault
-fault_of (Faulty f) = f
-fault_of (Whole n) = BadLength
+unfoldable pub shape : List ℕ → Result ℕ Fault
+shape [] = Err BadLength
+shape (w ∷ ws) = cond (ltb max_words (length (w ∷ ws))) (Err BadLength) (scan (w ∷ ws) 0 0 0)
 
 -- an accepted clause
 abbrev pub Accepted : List ℕ → Type 0
-Accepted ws = (n : ℕ) × (shape ws ≡ Whole n)
+Accepted ws = (n : ℕ) × (shape ws ≡ Ok n)
 
 -- the words before the first head
 unfoldable pub before : List ℕ → List ℕ

@@ -4,9 +4,6 @@
 mod tables;
 mod word;
 
-ghost use Rattle.std.specs.Prelude.{◌≡◌};
-ghost use Rattle.clause.specs.Clause.{fault_of};
-
 pub use word::arity;
 
 // What is wrong with a clause: its length (code 3), a word or the end that breaks the rules (4) or a ninth head (5), each with its position.
@@ -15,25 +12,6 @@ pub enum Fault {
     BadLength,
     Bad(usize),
     Ninth(usize),
-}
-
-// What the reading of a clause finds: a fault, or a whole clause with its number of literals.
-#[derive(Drop)]
-pub enum Shape {
-    Faulty(Fault),
-    Whole(usize),
-}
-
-impl Shape {
-    // The fault, of a shape that has one.
-    pub fn fault(self) -> Fault
-        ensures { result ≡ fault_of self }
-    {
-        match self {
-            Shape::Faulty(fault) => fault,
-            Shape::Whole(_) => Fault::BadLength,
-        }
-    }
 }
 
 // An accepted clause's tables: where each literal starts, where the term at each position ends, how many right siblings it has,

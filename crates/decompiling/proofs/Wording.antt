@@ -1,4 +1,5 @@
 -- The words that keys stand for, written one after another.
+use Rattle.std.specs.Prelude.{Err, Ok, Result, ℕ}
 use mathlib.Core.Path.{◌≡◌, refl, sym, ap, ◌∙◌}
 use mathlib.Core.Logic.{◌≢◌}
 use mathlib.Core.Bool.{Bool, true, false, ◌&&◌}
@@ -12,8 +13,6 @@ use lib.Seq.{take_all, take-append_seam, sets, sets-eq}
 use borrow.Author.Tests.{lt-ltb}
 use Rattle.clause.specs.Lists.{alike}
 use Rattle.clause.specs.declared.Fault.{Fault}
-use Rattle.clause.specs.declared.Shape.{Shape}
-use Rattle.clause.specs.declared.Shape.TheVariants.{Faulty, Whole}
 use Rattle.clause.specs.Clause.{shape, max_words}
 use Rattle.machine.specs.Instr.{Down, Right, Put, Push, Pop, Check, Compare, Instr, First, Do, Success, instr_of}
 use Rattle.machine.specs.Compile.{keys}
@@ -201,7 +200,7 @@ narrow_given [] h = refl
 narrow_given (x ∷ l) h = rw (lt-ltb x (2 ^ 16) (h 0)) (narrow_given l (λ i. h (suc i)))
 
 module _ (c p : List ℕ) where
-  pub keys_faulty : (s : Shape) (f : Fault) → s ≡ shape c → s ≡ Faulty f → false ≡ has_keys c p
+  pub keys_faulty : (s : Result ℕ Fault) (f : Fault) → s ≡ shape c → s ≡ Err f → false ≡ has_keys c p
   unfolding has_keys
   keys_faulty s f e g = rw (← e, g) (go (narrow c))
     where
@@ -209,6 +208,6 @@ module _ (c p : List ℕ) where
       go true = refl
       go false = refl
 
-  pub keys_whole : (s : Shape) (q : ℕ) → s ≡ shape c → s ≡ Whole q → ((i : ℕ) → get_or c i 0 < 2 ^ 16) → alike (keys c) p ≡ has_keys c p
+  pub keys_whole : (s : Result ℕ Fault) (q : ℕ) → s ≡ shape c → s ≡ Ok q → ((i : ℕ) → get_or c i 0 < 2 ^ 16) → alike (keys c) p ≡ has_keys c p
   unfolding has_keys
   keys_whole s q e g h = rw (← e, g, narrow_given c h)

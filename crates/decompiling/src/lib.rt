@@ -1,35 +1,24 @@
 // The clause read off the keys of a path, and whether some clause has these keys: the way back from `compiling`.
 #![tactic(auto)]
 
-ghost use Rattle.std.specs.Prelude.{◌≡◌, ◌≤◌, suc, length};
+ghost use Rattle.std.specs.Prelude.{◌≡◌, ◌≤◌, length};
 ghost use Rattle.clause.specs.Clause.{max_words};
-ghost use Rattle.machine.specs.Machine.{slots};
 ghost use Rattle.readback.specs.Readback.{instructions};
 ghost use Rattle.readback.specs.Saved.{has_keys, readable};
 ghost use Rattle.decompiling.specs.Inner.Reader.{Own, Origins, Counts, Names, Written};
 
-use clause::{Clause, Shape};
+use clause::Clause;
 use machine::{Key, Sequence};
 
 // That no clause has some keys.
 #[derive(Clone, Copy)]
-pub struct Foreign {}
+pub struct Foreign;
 
-// The operations of a key that tell the words of a clause.
-#[derive(Drop)]
-struct Operation {}
-
-impl Operation {
-    const PUT: u64 = Key::PUT / Key::OPERANDS;
-
-    const CHECK: u64 = Key::CHECK / Key::OPERANDS;
-
-    const COMPARE: u64 = Key::COMPARE / Key::OPERANDS;
-}
+// How many entries the table of the first puts has: one for each put, and one for all of them.
+const COUNTS: usize = Sequence::NUMBERS + 1;
 
 // Each put is its own origin at first, the first put of its variable.
-fn start_origins(origins: &mut [u64])
-    requires { length origins.old ≡ slots }
+fn start_origins(origins: &mut [u64; Sequence::NUMBERS])
     ensures { Own origins.new }
 {
     for k in 0..Sequence::NUMBERS {
@@ -38,13 +27,13 @@ fn start_origins(origins: &mut [u64])
 }
 
 // Notes for each put the one that the first Compare of it names.
-fn note_origins(keys: &[u64], origins: &mut [u64])
-    requires { (length origins.old ≡ slots) × Own origins.old }
+fn note_origins(keys: &[u64], origins: &mut [u64; Sequence::NUMBERS])
+    requires { Own origins.old }
     ensures { Origins (instructions keys.now) origins.new }
 {
     for i in (0..keys.len()).rev() {
         let x = keys[i];
-        if x / Key::OPERANDS == Operation::COMPARE {
+        if Key::COMPARE <= x && x < Key::END {
             let k = (x % Key::PAIR) as usize;
             if k < Sequence::NUMBERS {
                 origins[k] = x % Key::OPERANDS / Key::PAIR;
@@ -54,8 +43,7 @@ fn note_origins(keys: &[u64], origins: &mut [u64])
 }
 
 // Counts the puts that are the first of their variable.
-fn note_counts(origins: &[u64], counts: &mut [u64])
-    requires { (length origins.now ≡ slots) × (length counts.old ≡ suc slots) }
+fn note_counts(origins: &[u64; Sequence::NUMBERS], counts: &mut [u64; COUNTS])
     ensures { Counts origins.now counts.new }
 {
     let mut firsts = 0;
@@ -69,51 +57,53 @@ fn note_counts(origins: &[u64], counts: &mut [u64])
 }
 
 // The word that a key stands for, if it does: a Check's own, and for a Put the variable numbered by how many new ones stand before the first put of it.
-fn word_of(x: u64, origins: &[u64], counts: &[u64]) -> Result<Option<u16>, Foreign>
-    requires { (length origins.now ≡ slots) × (length counts.now ≡ suc slots) × Counts origins.now counts.now }
+fn word_of(
+    x: u64,
+    origins: &[u64; Sequence::NUMBERS],
+    counts: &[u64; COUNTS],
+) -> Result<Option<u16>, Foreign>
+    requires { Counts origins.now counts.now }
     ensures { Names origins.now counts.now x result }
 {
-    let op = x / Key::OPERANDS;
     let operand = x % Key::OPERANDS;
-    if op == Operation::CHECK {
-        if operand < Clause::VALUES {
-            let word = operand as u16;
-            return Ok(Some(word));
+    match x {
+        Key::CHECK..Key::COMPARE => {
+            if operand >= Clause::VALUES {
+                return Err(Foreign);
+            }
+            Ok(Some(operand as u16))
         }
-        return Err(Foreign {});
+        Key::PUT..Key::PUSH => {
+            if operand >= Sequence::NUMBERS as u64 {
+                return Err(Foreign);
+            }
+            let m = origins[operand as usize];
+            if m >= Sequence::NUMBERS as u64 {
+                return Err(Foreign);
+            }
+            let number = counts[m as usize];
+            let variable = Clause::VARIABLE + number;
+            Ok(Some(variable as u16))
+        }
+        _ => Ok(None),
     }
-    if op == Operation::PUT {
-        if operand >= Sequence::NUMBERS as u64 {
-            return Err(Foreign {});
-        }
-        let m = origins[operand as usize];
-        if m >= Sequence::NUMBERS as u64 {
-            return Err(Foreign {});
-        }
-        let number = counts[m as usize];
-        let variable = Clause::VARIABLE + number;
-        let word = variable as u16;
-        return Ok(Some(word));
-    }
-    Ok(None)
 }
 
 // Writes the words that the keys stand for.
 fn write_words(
     keys: &[u64],
-    origins: &[u64],
-    counts: &[u64],
+    origins: &[u64; Sequence::NUMBERS],
+    counts: &[u64; COUNTS],
     out: &mut [u16],
 ) -> Result<usize, Foreign>
-    requires { (length origins.now ≡ slots) × (length counts.now ≡ suc slots) × Origins (instructions keys.now) origins.now × Counts origins.now counts.now
-        × (max_words ≤ length out.old) }
+    requires { Origins (instructions keys.now) origins.now × Counts origins.now counts.now × (max_words ≤ length out.old) }
     ensures { Written keys.now out.old result out.new }
 {
     let mut count = 0;
     for &key in keys {
         if let Some(word) = word_of(key, origins, counts)? {
             if count >= Clause::WORDS {
-                return Err(Foreign {});
+                return Err(Foreign);
             }
             out[count] = word;
             count += 1;
@@ -128,7 +118,7 @@ pub fn read_off(keys: &[u64], out: &mut [u16]) -> Result<usize, Foreign>
     ensures { Written keys.now out.old result out.new }
 {
     let mut origins = [0u64; Sequence::NUMBERS];
-    let mut counts = [0u64; Sequence::NUMBERS + 1];
+    let mut counts = [0u64; COUNTS];
     start_origins(&mut origins);
     note_origins(keys, &mut origins);
     note_counts(&origins, &mut counts);
@@ -140,8 +130,7 @@ fn has_keys(words: &[u16], keys: &[u64]) -> bool
     requires { length words.now ≤ max_words }
     ensures { result ≡ has_keys words.now keys.now }
 {
-    let shape = reading::read(words);
-    let Shape::Whole(_) = shape else {
+    let Ok(_) = reading::read(words) else {
         return false;
     };
     let mut compiled = [0u64; Sequence::KEYS];

@@ -1,12 +1,13 @@
 -- A block record by record: what the functions leave is what the definition says, byte after byte.
 use mathlib.Core.Path.{◌≡◌, refl, sym, ap, ◌∙◌}
 use mathlib.Core.Bool.{Bool, true, false, cond}
-use mathlib.Core.List.{List, [], ◌++◌}
-use Prim.Native.Nat.{ℕ, ◌+◌, ◌-◌, ◌*◌, ◌^◌, ◌≤◌, ◌<◌}
+use mathlib.Core.List.{List, [], ◌++◌, append_assoc, append-nil}
+use Prim.Native.Nat.{ℕ, ◌+◌, ◌*◌, ◌^◌, ◌≤◌, ◌<◌}
 use native.Mathlib.Omega.{arith}
 use lib.Dec.{ltb}
-use lib.ListN.{length, get_or, take, drop}
-use lib.Seq.{take-add, take-take, take_all, length-take-le}
+use lib.ListN.{length, get_or, take, drop, length-append}
+use lib.Seq.{length-take-le}
+use Rattle.std.proofs.lemmas.List.{take-append-drop}
 use Rattle.clause.specs.Clause.{max_words}
 use Rattle.clause.specs.Word.{Words}
 use Rattle.clause.proofs.Lists.{all_below, all_take}
@@ -153,11 +154,6 @@ ends v x t m e = ap (λ (z : Next). proceeding v z t m) e
 
 -- ---- some bytes after others
 
--- some bytes more
-feed_on : (v : Setting) (input : List ℕ) (i k : ℕ) (s : Session) (m : Store)
-    → feed v s m (take (i + k) input) ≡ feed_then (feed v s m (take i input)) (λ s' m'. feed v s' m' (take k (drop i input)))
-feed_on v input i k s m = rw (take-add i k input) (feed_append v (take i input) (take k (drop i input)) s m)
-
 -- what was fed, and then more, put into the output
 pub placed_then : (f : Fed) (k : Session → Store → Fed) (o : List ℕ) (at : ℕ) {s : Session} {m : Store} {w : Written}
     → ◌≡◌ {A = FedInto} (record { session = s; store = m; printed = w }) (fed_into f o at)
@@ -177,79 +173,77 @@ text_of {f} {o = o} t h =
 
 -- ---- the loop over a block
 
--- what was fed so far, and how far that is
-pub record Feeding (v : Setting) (s₀ : Session) (m₀ : Store) (input o₀ : List ℕ) (s : Session) (m : Store) (o : List ℕ) (i at : ℕ) : Type 0 where
-  pub took : Took (feed v s₀ m₀ (take i input)) i 0 s₀.totals o₀ s m (record { next = at; output = o })
-  pub inside : i ≤ length input
+-- what was fed so far, and what is left
+pub record Feeding (v : Setting) (s₀ : Session) (m₀ : Store) (input o₀ : List ℕ) (s : Session) (m : Store) (o rest : List ℕ) (at : ℕ) : Type 0 where
+  pub done : List ℕ
+  pub split : input ≡ done ++ rest
+  pub took : Took (feed v s₀ m₀ done) (length done) 0 s₀.totals o₀ s m (record { next = at; output = o })
   pub output : length o ≡ length o₀
   pub words : length m.words ≡ length m₀.words
-  pub slice : length m.slice ≡ length m₀.slice
-  pub marks : length m.marks ≡ length m₀.marks
   pub counters : length m.counters ≡ length m₀.counters
 
 pub feeding_none : (v : Setting) (s : Session) (m : Store) (input o : List ℕ) → Steady m.slice m.marks → s.totals.kept ≡ kept_in m.slice
-    → Feeding v s m input o s m o 0 0
+    → Feeding v s m input o s m o input 0
 unfolding feed longest_text
 feeding_none v s m input o h e =
     record {
+      done = [];
+      split = refl;
       took =
           record {
             placed = refl;
             stays = record { steady = h; kept = e; counts = λ k l w. within_fewer (omega arith) w };
             short = omega arith;
           };
-      inside = omega arith;
       output = refl;
       words = refl;
-      slice = refl;
-      marks = refl;
       counters = refl;
     }
 
-module _ (v : Setting) (s₀ : Session) (m₀ : Store) (input o₀ : List ℕ) {s : Session} {m : Store} {o : List ℕ} {i at : ℕ} (f : Feeding v s₀ m₀ input o₀ s m o i at) where
+module _ (v : Setting) (s₀ : Session) (m₀ : Store) (input o₀ : List ℕ) {s : Session} {m : Store} {o rest : List ℕ} {at : ℕ}
+    (f : Feeding v s₀ m₀ input o₀ s m o rest at) where
+  pub feeding_long : length input ≡ length f.done + length rest
+  feeding_long = ap length f.split ∙ length-append f.done rest
+
   -- there is room for one record more
-  pub feeding_room : i < length input → longest_text (length input) s₀.totals.kept ≤ length o₀ → at + longest_text 1 s.totals.kept ≤ length o
+  pub feeding_room : 0 < length rest → longest_text (length input) s₀.totals.kept ≤ length o₀ → at + longest_text 1 s.totals.kept ≤ length o
   unfolding longest_text
-  feeding_room h r = omega (arith, f.took.short, f.output)
+  feeding_room h r = omega (arith, f.took.short, f.output, feeding_long)
 
   -- one step more: some bytes are read, and then the reading goes on or a record is ended
-  pub feeding_more : {x : Portion} {ws : List ℕ} {s' : Session} {m' : Store} {o' : List ℕ} {at' : ℕ}
-      → Stepped s (take (length input - i) (drop i input)) m.words x ws → i + x.taken ≤ length input
+  pub feeding_more : {x : Portion} {ws rest' : List ℕ} {s' : Session} {m' : Store} {o' : List ℕ} {at' : ℕ}
+      → Stepped s rest m.words x ws
       → Took (proceeding v x.next s.totals (store_of ws m.slice m.marks m.counters)) 1 at s.totals o s' m' (record { next = at'; output = o' })
-      → length o' ≡ length o → length m'.words ≡ length m.words → length m'.slice ≡ length m.slice → length m'.marks ≡ length m.marks
-      → length m'.counters ≡ length m.counters
-      → Feeding v s₀ m₀ input o₀ s' m' o' (i + x.taken) at'
+      → length o' ≡ length o → length m'.words ≡ length m.words → length m'.counters ≡ length m.counters
+      → rest' ≡ drop x.taken rest → Feeding v s₀ m₀ input o₀ s' m' o' rest' at'
   unfolding longest_text
-  feeding_more {x} {ws} r h t lo lw ls lm lc =
+  feeding_more {x} {ws} r t lo lw lc e =
       let k : ℕ = x.taken in
-      let bs : List ℕ = take k (drop i input) in
-      let e : take k (take (length input - i) (drop i input)) ≡ bs = take-take k (length input - i) (drop i input) (omega arith) in
-      let q : proceeding v x.next s.totals (store_of ws m.slice m.marks m.counters) ≡ feed v s m bs =
-      sym (r.feeds v m.slice m.marks m.counters) ∙ ap (feed v s m) e in
+      let bs : List ℕ = take k rest in
+      let q : proceeding v x.next s.totals (store_of ws m.slice m.marks m.counters) ≡ feed v s m bs = sym (r.feeds v m.slice m.marks m.counters) in
+      let l : length (f.done ++ bs) ≡ length f.done + k = length-append f.done bs ∙ ap (λ (i : ℕ). length f.done + i) (length-take-le k rest r.inside) in
       record {
+        done = f.done ++ bs;
+        split = f.split ∙ ap (λ (y : List ℕ). f.done ++ y) (sym (take-append-drop k rest)) ∙ sym (append_assoc f.done bs (drop k rest)) ∙ ap (λ (y : List ℕ). (f.done ++ bs) ++ y) (sym e);
         took =
-            took_as (feed_on v input i k s₀ m₀)
+            took_as (feed_append v f.done bs s₀ m₀)
             (record {
-              placed = t.placed ∙ ap (λ (y : Fed). fed_into y o at) q ∙ placed_then (feed v s₀ m₀ (take i input)) (λ s'' m''. feed v s'' m'' bs) o₀ 0 f.took.placed;
+              placed = t.placed ∙ ap (λ (y : Fed). fed_into y o at) q ∙ placed_then (feed v s₀ m₀ f.done) (λ s'' m''. feed v s'' m'' bs) o₀ 0 f.took.placed;
               stays =
                   record {
                     steady = t.stays.steady;
                     kept = t.stays.kept;
-                    counts = λ j l w. t.stays.counts j l (within_fewer (omega (arith, r.some)) (f.took.stays.counts (k + j) l (within_fewer (omega arith) w)));
+                    counts = λ j n w. t.stays.counts j n (within_fewer (omega (arith, r.some)) (f.took.stays.counts (k + j) n (within_fewer (omega (arith, l)) w)));
                   };
-              short = omega (arith, t.short, f.took.short, r.some);
+              short = omega (arith, t.short, f.took.short, r.some, l);
             });
-        inside = h;
         output = lo ∙ f.output;
         words = lw ∙ f.words;
-        slice = ls ∙ f.slice;
-        marks = lm ∙ f.marks;
         counters = lc ∙ f.counters;
       }
 
   -- nothing is left
-  pub feeding_done : length input ≤ i → Took (feed v s₀ m₀ input) (length input) 0 s₀.totals o₀ s m (record { next = at; output = o })
-  feeding_done h =
-      let e : take i input ≡ input = take_all i input h in
-      let n : i ≡ length input = omega (arith, f.inside) in
-      rw (e, n) at f.took
+  pub feeding_done : rest ≡ [] → Took (feed v s₀ m₀ input) (length input) 0 s₀.totals o₀ s m (record { next = at; output = o })
+  feeding_done e =
+      let d : input ≡ f.done = f.split ∙ rw e (append-nil f.done) in
+      rw d f.took

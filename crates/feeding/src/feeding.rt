@@ -5,48 +5,44 @@ ghost use Rattle.index.specs.Inner.Heads.{Indexed};
 ghost use Rattle.record.specs.Answer.{list_words};
 ghost use Rattle.record.specs.Counters.{most_counted};
 ghost use Rattle.record.specs.Output.{counted};
-ghost use Rattle.answering.specs.Inner.Steady.{Steady, CameOut};
+ghost use Rattle.answering.specs.Inner.Steady.{CameOut};
 ghost use Rattle.intake.specs.Feed.{store_of, finishing, record_ended, proceeding, WholeInput};
-ghost use Rattle.feeding.specs.Inner.Blocks.{Within, Feedable, Took};
+ghost use Rattle.answering.specs.Inner.Books.{Ready, SameWords};
+ghost use Rattle.feeding.specs.Inner.Blocks.{store_with, Within, Feedable, Took};
 ghost use Rattle.intake.specs.Feed.{feed as Feed·feed};
 
 use crate::Turn;
-use answering::answer;
+use answering::Book;
 use clause::{Clause, Fault};
 use intake::{Half, Heading, Next, Session, Stage, read_some};
-use lines::{put_line, put_removals};
-use machine::Sequence;
+use lines::Page;
 use record::{Came, Outcome, Setting, Totals};
 use tallying::count_strike;
 use tree::{Refusal, Tree};
 
 // The totals with one more record, by its outcome and how many clauses it takes out.
-fn count_outcome(totals: Totals, outcome: Outcome, removed: u64) -> Totals
-    requires { Within totals 1 most_counted × (removed ≤ totals.kept) }
-    ensures { result ≡ counted outcome removed totals }
+fn count_outcome(totals: Totals, came: &Came) -> Totals
+    requires { Within totals 1 most_counted × (came.now.removed ≤ totals.kept) }
+    ensures { result ≡ counted came.now.outcome came.now.removed totals }
 {
     let records = totals.records + 1;
-    match outcome {
+    let removed = came.removed as u64;
+    match came.outcome {
         Outcome::Kept(_) => Totals {
-            records: records,
+            records,
             kept: totals.kept + 1 - removed,
-            struck: totals.struck,
-            refused: totals.refused,
             removed: totals.removed + removed,
+            ..totals
         },
         Outcome::Struck(_, _) => Totals {
-            records: records,
-            kept: totals.kept,
+            records,
             struck: totals.struck + 1,
-            refused: totals.refused,
-            removed: totals.removed,
+            ..totals
         },
         Outcome::Refused(_) => Totals {
-            records: records,
-            kept: totals.kept,
-            struck: totals.struck,
+            records,
             refused: totals.refused + 1,
-            removed: totals.removed,
+            ..totals
         },
     }
 }
@@ -55,18 +51,15 @@ fn count_outcome(totals: Totals, outcome: Outcome, removed: u64) -> Totals
 fn outcome_of(
     setting: Setting,
     heading: Heading,
-    tree: &mut [u64],
-    marks: &mut [u8],
-    heads: &mut [u16],
-    keys: &mut [u64; Sequence::KEYS],
+    book: &mut Book<'_>,
     list: &mut [u32],
     words: &[u16],
 ) -> Came
-    requires { Steady tree.old marks.old × Indexed tree.old heads.old × (length list.old ≡ list_words)
-        × (length words.now ≡ max_words) }
-    ensures came { CameOut (finishing setting heading.number heading.count words.now tree.old) heading.number
-        marks.old result list.new tree.new marks.new }
-    ensures indexed { Indexed tree.new heads.new }
+    requires { Ready book.old × (length list.old ≡ list_words) × (length words.now ≡ max_words) }
+    ensures lent { SameWords book.old book.new }
+    ensures came { CameOut (finishing setting heading.number heading.count words.now book.old.tree.now) heading.number
+        book.old.marks.now result list.new book.new.tree.now book.new.marks.now }
+    ensures indexed { Indexed book.new.tree.now book.new.heads.now }
 {
     let end = heading.count as usize;
     if end > Clause::WORDS {
@@ -75,16 +68,7 @@ fn outcome_of(
             removed: 0,
         };
     }
-    answer(
-        setting,
-        tree,
-        marks,
-        heads,
-        keys,
-        list,
-        &words[..end],
-        heading.number,
-    )
+    book.answer(setting, list, &words[..end], heading.number)
 }
 
 // Ends a whole record: what becomes of it, the tally, its lines, the totals.
@@ -92,41 +76,38 @@ fn finish(
     setting: Setting,
     heading: Heading,
     turn: Turn,
-    tree: &mut [u64],
-    marks: &mut [u8],
-    heads: &mut [u16],
+    book: &mut Book<'_>,
     counters: &mut [u64],
-    keys: &mut [u64; Sequence::KEYS],
     list: &mut [u32],
     words: &[u16],
     output: &mut [u8],
 ) -> Turn
-    requires { Feedable (store_of words.now tree.old marks.old counters.old) turn.session.totals 1 turn.next output.old
-        × Indexed tree.old heads.old × (length list.old ≡ list_words) }
+    requires { Feedable (store_with words.now book.old counters.old) turn.session.totals 1 turn.next output.old
+        × Indexed book.old.tree.now book.old.heads.now × (length list.old ≡ list_words) }
+    ensures lent { SameWords book.old book.new }
     ensures took { Took
-        (record_ended setting heading.number heading.count turn.session.totals
-        (store_of words.now tree.old marks.old counters.old)) 1
-        turn.next turn.session.totals output.old result.session
-        (store_of words.now tree.new marks.new counters.new)
+        (record_ended setting heading.number heading.count turn.session.totals (store_with words.now book.old counters.old)) 1
+        turn.next turn.session.totals output.old result.session (store_with words.now book.new counters.new)
         (record { next = result.next; output = output.new }) }
-    ensures indexed { Indexed tree.new heads.new }
+    ensures indexed { Indexed book.new.tree.now book.new.heads.now }
 {
-    let came = outcome_of(setting, heading, tree, marks, heads, keys, list, words);
-    let outcome = came.outcome;
-    let removed = came.removed;
-    count_strike(counters, outcome);
-    let place = put_removals(output, turn.next, heading.number, &list[..removed]);
-    let next = put_line(output, place, heading.number, outcome);
-    let before = turn.session;
-    let totals = before.totals;
-    let after = count_outcome(totals, outcome, removed as u64);
+    let came = outcome_of(setting, heading, book, list, words);
+    count_strike(counters, came.outcome);
+    let mut page = Page {
+        bytes: output,
+        at: turn.next,
+    };
+    page.put_removals(heading.number, &list[..came.removed]);
+    page.put_line(heading.number, came.outcome);
+    let next = page.at;
+    let totals = count_outcome(turn.session.totals, &came);
     Turn {
         session: Session {
             half: Half::Even,
             stage: Stage::AtNumber,
-            totals: after,
+            totals,
         },
-        next: next,
+        next,
     }
 }
 
@@ -135,41 +116,31 @@ fn proceed(
     setting: Setting,
     next: Next,
     turn: Turn,
-    tree: &mut [u64],
-    marks: &mut [u8],
-    heads: &mut [u16],
+    book: &mut Book<'_>,
     counters: &mut [u64],
-    keys: &mut [u64; Sequence::KEYS],
     list: &mut [u32],
     words: &[u16],
     output: &mut [u8],
 ) -> Turn
-    requires { Feedable (store_of words.now tree.old marks.old counters.old) turn.session.totals 1 turn.next output.old
-        × Indexed tree.old heads.old × (length list.old ≡ list_words) }
+    requires { Feedable (store_with words.now book.old counters.old) turn.session.totals 1 turn.next output.old
+        × Indexed book.old.tree.now book.old.heads.now × (length list.old ≡ list_words) }
+    ensures lent { SameWords book.old book.new }
     ensures took { Took
-        (proceeding setting next turn.session.totals
-        (store_of words.now tree.old marks.old counters.old)) 1
-        turn.next turn.session.totals output.old result.session
-        (store_of words.now tree.new marks.new counters.new)
+        (proceeding setting next turn.session.totals (store_with words.now book.old counters.old)) 1
+        turn.next turn.session.totals output.old result.session (store_with words.now book.new counters.new)
         (record { next = result.next; output = output.new }) }
-    ensures indexed { Indexed tree.new heads.new }
+    ensures indexed { Indexed book.new.tree.now book.new.heads.now }
 {
     match next {
-        Next::Reads(half, stage) => {
-            let before = turn.session;
-            let totals = before.totals;
-            Turn {
-                session: Session {
-                    half: half,
-                    stage: stage,
-                    totals: totals,
-                },
-                next: turn.next,
-            }
-        }
-        Next::Ends(heading) => finish(
-            setting, heading, turn, tree, marks, heads, counters, keys, list, words, output,
-        ),
+        Next::Reads(half, stage) => Turn {
+            session: Session {
+                half,
+                stage,
+                ..turn.session
+            },
+            ..turn
+        },
+        Next::Ends(heading) => finish(setting, heading, turn, book, counters, list, words, output),
     }
 }
 
@@ -196,22 +167,16 @@ pub fn feed(
     ensures indexed { Indexed tree.new heads.new }
     ensures whole { WholeInput }
 {
-    let mut keys = [0u64; Sequence::KEYS];
     let mut list = [0u32; Tree::CLAUSES];
-    let mut turn = Turn {
-        session: session,
-        next: 0,
-    };
-    let mut taken = 0;
-    while taken < input.len() {
-        let here = turn.session;
-        let step = read_some(&input[taken..], here, words);
-        taken += step.taken;
-        let next = step.next;
-        let after = proceed(
-            setting, next, turn, tree, marks, heads, counters, &mut keys, &mut list, words, output,
+    let mut book = Book { tree, marks, heads };
+    let mut turn = Turn { session, next: 0 };
+    let mut rest = input;
+    while !rest.is_empty() {
+        let step = read_some(rest, turn.session, words);
+        rest = &rest[step.taken..];
+        turn = proceed(
+            setting, step.next, turn, &mut book, counters, &mut list, words, output,
         );
-        turn = after;
     }
     turn
 }

@@ -1,4 +1,5 @@
 -- The heads of a tree, by its paths: every sequence begins with First and the Check of the clause's first word.
+use Rattle.std.specs.Prelude.{Err, Ok, Result, ℕ}
 use mathlib.Core.Path.{◌≡◌, refl, sym, ap, ◌∙◌}
 use mathlib.Core.Logic.{◌≢◌}
 use mathlib.Core.Bool.{Bool, true, false, cond}
@@ -12,8 +13,6 @@ use Rattle.clause.specs.Lists.{also}
 use Rattle.clause.specs.Word.{Sort, symbol, variable, head, wrong, sort, arity, Words}
 use Rattle.clause.specs.Clause.{Accepted, max_words, shape, scan, scan_word}
 use Rattle.clause.specs.declared.Fault.TheVariants.{BadLength}
-use Rattle.clause.specs.declared.Shape.{Shape}
-use Rattle.clause.specs.declared.Shape.TheVariants.{Faulty, Whole}
 use Rattle.clause.proofs.Apart.{apart}
 use Rattle.machine.specs.Instr.{First, instr, key}
 use Rattle.machine.specs.Compile.{keys, sequence, sequence_from, opening, act}
@@ -22,12 +21,13 @@ use Rattle.tree.specs.Forest.{Forest, empty, node, size, Formed, Has, deeper, fu
 use Rattle.tree.proofs.Paths.{front, some_path, Through, ends, dives, passes, through, has_none, has_below}
 use Rattle.index.specs.Inner.Heads.{entry_count, place_of, top_row, head_at, Checks, Headed, nothing, headed}
 use Rattle.index.proofs.Places.{place_here, place_later}
+use Rattle.clause.specs.declared.Fault.{Fault}
 
 -- ---- a clause's sequence
 
 -- the first word of an accepted clause is a head
-module _ (a n : ℕ) (rest : ℕ → ℕ → ℕ → Shape) where
-  only_head : (b : Bool) (s : Sort) → cond b (Faulty BadLength) (scan_word s a 0 0 0 rest) ≡ Whole n → s ≡ head
+module _ (a n : ℕ) (rest : ℕ → ℕ → ℕ → Result ℕ Fault) where
+  only_head : (b : Bool) (s : Sort) → cond b (Err BadLength) (scan_word s a 0 0 0 rest) ≡ Ok n → s ≡ head
   unfolding scan_word
   only_head true s e = apart cc
   only_head false symbol e = apart cc

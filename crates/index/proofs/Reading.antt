@@ -1,4 +1,5 @@
 -- What the reading of a query says, by its test.
+use Rattle.std.specs.Prelude.{Err, Ok, Result, ℕ}
 use mathlib.Core.Path.{◌≡◌, refl, sym, ap, ◌∙◌}
 use mathlib.Core.Bool.{Bool, true, false}
 use mathlib.Core.List.{List}
@@ -6,32 +7,24 @@ use Prim.Native.Nat.{ℕ}
 use lib.ListN.{replicate}
 use Rattle.clause.specs.Clause.{Accepted, shape}
 use Rattle.clause.specs.declared.Fault.{Fault}
-use Rattle.clause.specs.declared.Shape.{Shape}
-use Rattle.clause.specs.declared.Shape.TheVariants.{Faulty, Whole}
 use Rattle.clause.proofs.Apart.{apart}
 use Rattle.reading.specs.Inner.Whole.{is_whole}
 use Rattle.tree.specs.declared.Refusal.{Refusal}
 use Rattle.tree.specs.Laid.{sized}
-use Rattle.walk.specs.declared.QueryAnswer.TheVariants.{Unanswered}
+use Rattle.tree.specs.declared.Refusal.TheVariants.{BadClause}
+use Rattle.walk.specs.declared.Verdict.{Verdict}
 use Rattle.walk.specs.Query.{witness_words, Asked, query}
-use Rattle.query.specs.Inner.Telling.{refusal_of}
 use Rattle.query.proofs.Asking.{query_fault}
 
 -- a clause is whole and so accepted, or it has a fault
 pub whole_accepted : (d : List ℕ) {w : Bool} → w ≡ is_whole (shape d) → w ≡ true → Accepted d
 whole_accepted d e t = go (shape d) (sym e ∙ t)
   where
-    go : (s : Shape) → is_whole s ≡ true → (n : ℕ) × (s ≡ Whole n)
-    go (Faulty f) e = apart cc
-    go (Whole n) e = (n, refl)
-
-faulty_fault : (s : Shape) → is_whole s ≡ false → (f : Fault) × (s ≡ Faulty f)
-faulty_fault (Faulty f) e = (f, refl)
-faulty_fault (Whole n) e = apart cc
+    go : (s : Result ℕ Fault) → is_whole s ≡ true → (n : ℕ) × (s ≡ Ok n)
+    go (Err f) e = apart cc
+    go (Ok n) e = (n, refl)
 
 -- which it is refused with, whatever the witness
-pub undecided : (T d : List ℕ) (b : ℕ) → sized T ≡ true → {w : Bool} → w ≡ is_whole (shape d) → w ≡ false → {s : Shape} {r : Refusal} → s ≡ shape d → r ≡ refusal_of s
-    → Unanswered r ≡ (query T d b (replicate witness_words 0)).answer
-undecided T d b z e n h g =
-    let (f, i) = faulty_fault (shape d) (sym e ∙ n) in
-    ap (λ (x : Asked). x.answer) (query_fault T d b (replicate witness_words 0) (sym z) refl (h ∙ i) h g)
+pub undecided : (T d : List ℕ) (b : ℕ) → sized T ≡ true → {s : Result ℕ Fault} {f : Fault} {r : Result Verdict Refusal}
+    → s ≡ Err f → s ≡ shape d → r ≡ Err (BadClause f) → r ≡ (query T d b (replicate witness_words 0)).answer
+undecided T d b z g h e = ap (λ (x : Asked). x.answer) (query_fault T d b (replicate witness_words 0) (sym z) refl g h e)

@@ -26,6 +26,5 @@ pub fn renew(tree: &[u64], heads: &mut [u16])
     requires { (sized tree.now ≡ true) × (well_laid tree.now ≡ true) × Renewable tree.now heads.old }
     ensures { Indexed tree.now heads.new }
 {
-    let end = Tree::used(tree[0]) + 1;
-    note(&tree[1..end], heads);
+    note(Tree::region(tree), heads);
 }

@@ -8,17 +8,17 @@ ghost use Rattle.walk.specs.Query.{witness_words};
 use crate::by_head::walk_heads;
 use cells::Path;
 use clause::Clause;
-use query::{refusal, told};
-use tree::Tree;
-use walk::QueryAnswer;
+use query::told;
+use tree::{Refusal, Tree};
+use walk::Verdict;
 
 // What a query answers, without a witness: the caller's slice is the tree of some clauses, with the index of its heads.
-pub fn query_indexed(tree: &[u64], heads: &[u16], words: &[u16], budget: u64) -> QueryAnswer
+pub fn query_indexed(tree: &[u64], heads: &[u16], words: &[u16], budget: u64) -> Result<Verdict, Refusal>
     requires { (sized tree.now ≡ true) × (well_laid tree.now ≡ true) × Indexed tree.now heads.now }
     ensures { result ≡ (q.query tree.now words.now budget (replicate witness_words 0)).answer }
 {
     if !reading::is_whole(words) {
-        return QueryAnswer::Unanswered(refusal(reading::read(words)));
+        reading::read(words)?;
     }
     let clause = Clause::of(words);
     let tables = clause.tables;

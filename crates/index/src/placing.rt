@@ -9,7 +9,7 @@ ghost use Rattle.index.specs.Inner.Following.{Leading};
 
 use insertion::{insert_new, insert_placed};
 use merging::{Place, follow};
-use tree::{CallAnswer, Tree, extent};
+use tree::{Done, Refusal, Tree, extent};
 
 // Where the keys lead from below the Check of the second key on, whose place the caller knows from the index.
 fn place_below(words: &[u64], keys: &[u64], at: usize) -> Place
@@ -21,7 +21,7 @@ fn place_below(words: &[u64], keys: &[u64], at: usize) -> Place
 
 // Inserts a sequence under a number that no Success has, by the entry of the index for its first head: 0 where it leads nowhere.
 // The caller holds the slice well laid, and knows the numbers in it.
-pub fn insert_below(tree: &mut [u64], keys: &[u64], number: u32, at: usize) -> CallAnswer
+pub fn insert_below(tree: &mut [u64], keys: &[u64], number: u32, at: usize) -> Result<Done, Refusal>
     requires { Mergeable tree.old keys.now × (locate (region tree.old) number 0 0 0 ≡ none) × (1 ≤ at → Leading (region tree.old) keys.now at) }
     ensures { record { answer = result; slice = tree.new }
         ≡ insert_by_words tree.old (record { number = number; keys = keys.now }) }
@@ -29,7 +29,6 @@ pub fn insert_below(tree: &mut [u64], keys: &[u64], number: u32, at: usize) -> C
     if at == 0 {
         return insert_new(tree, keys, number);
     }
-    let end = Tree::used(tree[0]) + 1;
-    let place = place_below(&tree[1..end], keys, at);
+    let place = place_below(Tree::region(tree), keys, at);
     insert_placed(tree, keys, number, place)
 }

@@ -2,22 +2,16 @@
 use mathlib.Core.Path.{◌≡◌, refl, sym, ap, ap₂, ◌∙◌}
 use mathlib.Core.Option.{Option, none, some}
 use mathlib.Core.List.{List}
-use Prim.Native.Nat.{ℕ, ◌-◌, ◌≤◌, ◌<◌}
-use lib.ListN.{get_or, take, drop}
+use Prim.Native.Nat.{ℕ, ◌≤◌, ◌<◌}
+use lib.ListN.{get_or}
 use borrow.Author.Tests.{le-leb, lt-leb}
 use Rattle.tree.specs.Laid.{max_kept, kept_of, region}
 use Rattle.tree.specs.Entries.{Entry}
 use Rattle.tree.specs.Inner.Cut.{Span, locate}
 use Rattle.tree.specs.Calls.{Called, refused}
 use Rattle.tree.specs.Inner.ByWords.{insert_at, insert_unless, insert_by_words}
-use Rattle.merging.specs.Inner.Inserting.{Mergeable, LeadsTo}
-use Rattle.merging.specs.declared.Place.{Place}
 use Rattle.tree.specs.declared.Refusal.TheVariants.{NumberTaken, Held, ListFull}
-use Rattle.merging.proofs.Putting.{slice_parts, end_of, way}
-
--- the place that was found in the part of the used words
-pub in_region : {T cs : List ℕ} {q : Place} → Mergeable T cs → LeadsTo (take (end_of T - 1) (drop 1 T)) cs q → LeadsTo (region T) cs q
-in_region r h = rw (slice_parts r).part at h
+use Rattle.merging.proofs.Putting.{way}
 
 -- a number and its keys
 abbrev pub entry_of : ℕ → List ℕ → Entry

@@ -11,38 +11,36 @@ ghost use Rattle.tree.specs.Inner.ByWords.{insert_by_words};
 ghost use Rattle.merging.specs.Inner.Inserting.{LeadsTo, Mergeable};
 ghost use Rattle.insertion.specs.Inner.Taken.{is_some};
 
-use clause::Shape;
 use compiling::compile;
 use laid::well_laid;
 use machine::Sequence;
 use merging::{Place, insert_at, place_of};
 use reading::read;
-use tree::{CallAnswer, Refusal, Tree, key};
+use tree::{Done, Refusal, Tree, key};
 
 // Inserts a sequence whose place is found, under a number that no Success has.
 // The caller (insert_new; in the crate index insert_below) holds the slice well laid, and knows the numbers in it.
-pub fn insert_placed(tree: &mut [u64], keys: &[u64], number: u32, place: Place) -> CallAnswer
+pub fn insert_placed(tree: &mut [u64], keys: &[u64], number: u32, place: Place) -> Result<Done, Refusal>
     requires { Mergeable tree.old keys.now × (locate (region tree.old) number 0 0 0 ≡ none) × LeadsTo (region tree.old) keys.now place }
     ensures { record { answer = result; slice = tree.new }
         ≡ insert_by_words tree.old (record { number = number; keys = keys.now }) }
 {
     if let Some(held) = place.holder {
-        return CallAnswer::Refused(Refusal::Held(held));
+        return Err(Refusal::Held(held));
     }
     if Tree::kept(tree[0]) >= Tree::CLAUSES {
-        return CallAnswer::Refused(Refusal::ListFull);
+        return Err(Refusal::ListFull);
     }
     insert_at(tree, keys, number, place.at, place.shared)
 }
 
 // Inserts a sequence under a number that no Success has: the caller holds the slice well laid, and knows the numbers in it.
-pub fn insert_new(tree: &mut [u64], keys: &[u64], number: u32) -> CallAnswer
+pub fn insert_new(tree: &mut [u64], keys: &[u64], number: u32) -> Result<Done, Refusal>
     requires { Mergeable tree.old keys.now × (locate (region tree.old) number 0 0 0 ≡ none) }
     ensures { record { answer = result; slice = tree.new }
         ≡ insert_by_words tree.old (record { number = number; keys = keys.now }) }
 {
-    let end = Tree::used(tree[0]) + 1;
-    let place = place_of(&tree[1..end], keys);
+    let place = place_of(Tree::region(tree), keys);
     insert_placed(tree, keys, number, place)
 }
 
@@ -59,24 +57,23 @@ fn taken(tree: &[u64], number: u32) -> bool
     requires { (sized tree.now ≡ true) × (well_laid tree.now ≡ true) }
     ensures { result ≡ is_some (locate (region tree.now) number 0 0 0) }
 {
-    let end = Tree::used(tree[0]) + 1;
-    has_number(&tree[1..end], number)
+    has_number(Tree::region(tree), number)
 }
 
 // Inserts a sequence under any number. The caller holds the slice well laid.
-fn insert_laid(tree: &mut [u64], keys: &[u64], number: u32) -> CallAnswer
+fn insert_laid(tree: &mut [u64], keys: &[u64], number: u32) -> Result<Done, Refusal>
     requires { Mergeable tree.old keys.now }
     ensures { record { answer = result; slice = tree.new }
         ≡ insert_by_words tree.old (record { number = number; keys = keys.now }) }
 {
     if taken(tree, number) {
-        return CallAnswer::Refused(Refusal::NumberTaken);
+        return Err(Refusal::NumberTaken);
     }
     insert_new(tree, keys, number)
 }
 
 // Inserts an accepted clause under a number: the caller has read it, and holds the slice well laid.
-fn insert_read(tree: &mut [u64], words: &[u16], number: u32) -> CallAnswer
+fn insert_read(tree: &mut [u64], words: &[u16], number: u32) -> Result<Done, Refusal>
     requires { (sized tree.old ≡ true) × (well_laid tree.old ≡ true) × Accepted words.now }
     ensures { record { answer = result; slice = tree.new } ≡ insertion tree.old words.now number }
 {
@@ -86,18 +83,15 @@ fn insert_read(tree: &mut [u64], words: &[u16], number: u32) -> CallAnswer
 }
 
 // Inserts a clause under a number into a slice of any words.
-pub fn insert(tree: &mut [u64], words: &[u16], number: u32) -> CallAnswer
+pub fn insert(tree: &mut [u64], words: &[u16], number: u32) -> Result<Done, Refusal>
     ensures { record { answer = result; slice = tree.new } ≡ insertion tree.old words.now number }
 {
     if !Tree::sized(tree.len()) {
-        return CallAnswer::Refused(Refusal::BadSlice);
+        return Err(Refusal::BadSlice);
     }
-    let shape = read(words);
-    let Shape::Whole(_) = shape else {
-        return CallAnswer::Refused(Refusal::BadClause(shape.fault()));
-    };
+    read(words)?;
     if !well_laid(tree) {
-        return CallAnswer::Refused(Refusal::Broken);
+        return Err(Refusal::Broken);
     }
     insert_read(tree, words, number)
 }

@@ -1,4 +1,5 @@
 -- Whatever becomes of a record, the slice keeps its length.
+use Rattle.std.specs.Prelude.{Err, Ok, Result, ℕ}
 use mathlib.Core.Path.{◌≡◌, refl, ◌∙◌}
 use mathlib.Core.Option.{Option, none, some}
 use mathlib.Core.List.{List, [], ◌∷◌}
@@ -9,28 +10,27 @@ use lib.Dec.{leb, eqb}
 use lib.ListN.{length, take, replicate}
 use borrow.Author.Tests.{leb-false}
 use Rattle.clause.specs.Clause.{shape}
-use Rattle.clause.specs.declared.Shape.{Shape}
-use Rattle.clause.specs.declared.Shape.TheVariants.{Faulty, Whole}
 use Rattle.tree.specs.Forest.{Forest, empty, node, size, leaves, ins, find, trim, del, holder}
 use Rattle.tree.specs.Laid.{max_kept, sized, well_laid, decode}
 use Rattle.tree.specs.Entries.{Entry, entry}
 use Rattle.tree.specs.Changes.{refuse, change, insert_into, remove_from}
 use Rattle.tree.specs.Calls.{refused, changed, insert_as, insertion, removal}
 use Rattle.tree.specs.declared.Refusal.TheVariants.{BadSlice, Broken, NumberTaken, Held, NoSuchNumber, ListFull, NoRoom}
-use Rattle.tree.specs.declared.CallAnswer.{CallAnswer}
-use Rattle.tree.specs.declared.CallAnswer.TheVariants as call
+use Rattle.tree.specs.declared.Done.{Done}
+use Rattle.tree.specs.declared.Done.TheVariants as call
 use Rattle.tree.proofs.Words.{length_layout}
 use Rattle.tree.proofs.Grow.{laid_decode, sized_high}
-use Rattle.walk.specs.declared.QueryAnswer.{QueryAnswer}
-use Rattle.walk.specs.declared.QueryAnswer.TheVariants.{Unanswered, Covered, NotCovered}
+use Rattle.walk.specs.declared.Verdict.{Verdict}
+use Rattle.walk.specs.declared.Verdict.TheVariants.{Covered, NotCovered}
 use Rattle.walk.specs.Query.{witness_words, query}
 use Rattle.backward.specs.Calls.{backward}
-use Rattle.backward.specs.declared.BackAnswer.{BackAnswer}
-use Rattle.backward.specs.declared.BackAnswer.TheVariants.{Unlisted, Listed}
+use Rattle.backward.specs.declared.Listed.{Listed}
 use Rattle.book.specs.Book.{Call, insert, remove, after}
 use Rattle.record.specs.Answer.{budget, list_words, Record, removals, entered_as, entered, unless_taken, replaced_as, replaced, answer_as, answer_to}
 use Rattle.record.specs.declared.Setting.{Setting}
 use Rattle.record.specs.declared.Setting.TheVariants.{Plain, Back}
+use Rattle.tree.specs.declared.Refusal.{Refusal}
+use Rattle.clause.specs.declared.Fault.{Fault}
 
 -- ---- a call
 
@@ -43,7 +43,7 @@ insertion_length T c n = top (sized T) (shape c)
     e = entry (record { number = n; clause = c })
 
     inside : (f : Option (List ℕ)) (o : Option ℕ) (s t : Bool) → leb (length T) (size (ins e.keys e.number (decode T))) ≡ t
-        → length (changed T call.Kept (elim f [
+        → length (changed T (Ok call.Kept) (elim f [
           | some cs ↦ refuse NumberTaken
           | none ↦ elim o [
             | some m ↦ refuse (Held m)
@@ -56,15 +56,15 @@ insertion_length T c n = top (sized T) (shape c)
     inside none none false true q = refl
     inside none none false false q = length_layout (length T) (ins e.keys e.number (decode T)) (leb-false (length T) (size (ins e.keys e.number (decode T))) q)
 
-    laid : (w : Bool) → length (cond w (changed T call.Kept (insert_into (length T) (decode T) e)) (refused Broken T)).slice ≡ length T
+    laid : (w : Bool) → length (cond w (changed T (Ok call.Kept) (insert_into (length T) (decode T) e)) (refused Broken T)).slice ≡ length T
     laid false = refl
     laid true =
         inside (find e.number (decode T)) (holder e.keys (decode T)) (leb max_kept (leaves (decode T))) (leb (length T) (size (ins e.keys e.number (decode T)))) refl
 
-    top : (s : Bool) (x : Shape) → length (cond s (insert_as x T c n) (refused BadSlice T)).slice ≡ length T
+    top : (s : Bool) (x : Result ℕ Fault) → length (cond s (insert_as x T c n) (refused BadSlice T)).slice ≡ length T
     top false x = refl
-    top true (Faulty f) = refl
-    top true (Whole q) = laid (well_laid T)
+    top true (Err f) = refl
+    top true (Ok q) = laid (well_laid T)
 
 -- a tree is no larger without a number
 trim_size : (i : ℕ) (B R : Forest) → size (trim i B R) ≤ suc (size B + size R)
@@ -88,7 +88,7 @@ unfolding removal remove_from
 removal_length T n = go (sized T) refl (well_laid T) refl (find n (decode T))
   where
     go : (s : Bool) → sized T ≡ s → (w : Bool) → well_laid T ≡ w → (o : Option (List ℕ))
-        → length (cond s (cond w (changed T call.Removed (elim o [ some cs ↦ change (del n (decode T)) | none ↦ refuse NoSuchNumber ])) (refused Broken T)) (refused BadSlice T)).slice
+        → length (cond s (cond w (changed T (Ok call.Removed) (elim o [ some cs ↦ change (del n (decode T)) | none ↦ refuse NoSuchNumber ])) (refused Broken T)) (refused BadSlice T)).slice
         ≡ length T
     go false e w f o = refl
     go true e false f o = refl
@@ -116,11 +116,11 @@ entered_length ns T x = go (insertion (after T (removals ns)) x.words x.number).
     same : length S ≡ length T
     same = insertion_length (after T (removals ns)) x.words x.number ∙ after_length (removals ns) T
 
-    go : (a : CallAnswer) → length (entered_as a ns S T).slice ≡ length T
-    go (call.Refused r) = refl
-    go call.Ready = same
-    go call.Kept = same
-    go call.Removed = same
+    go : (a : Result Done Refusal) → length (entered_as a ns S T).slice ≡ length T
+    go (Err r) = refl
+    go (Ok call.Ready) = same
+    go (Ok call.Kept) = same
+    go (Ok call.Removed) = same
 
 -- one that takes the place of others
 replaced_length : (T : List ℕ) (x : Record) → length (replaced T x).slice ≡ length T
@@ -134,17 +134,17 @@ replaced_length T x = go (backward T x.words budget (replicate list_words 0)).an
     free (some keys) ns = refl
     free none ns = entered_length ns T x
 
-    go : (a : BackAnswer) → length (replaced_as a L T x).slice ≡ length T
-    go (Unlisted r) = refl
-    go (Listed n k) = free (find x.number (decode T)) (take n L)
+    go : (a : Result Listed Refusal) → length (replaced_as a L T x).slice ≡ length T
+    go (Err r) = refl
+    go (Ok l) = free (find x.number (decode T)) (take l.count L)
 
 -- any record
 pub answered_length : (v : Setting) (T : List ℕ) (x : Record) → length (answer_to v T x).slice ≡ length T
 unfolding answer_to
 answered_length v T x = go v (query T x.words budget (replicate witness_words 0)).answer
   where
-    go : (v : Setting) (a : QueryAnswer) → length (answer_as v a T x).slice ≡ length T
-    go v (Unanswered r) = refl
-    go v (Covered m k) = refl
-    go Plain (NotCovered k) = entered_length [] T x
-    go Back (NotCovered k) = replaced_length T x
+    go : (v : Setting) (a : Result Verdict Refusal) → length (answer_as v a T x).slice ≡ length T
+    go v (Err r) = refl
+    go v (Ok (Covered m k)) = refl
+    go Plain (Ok (NotCovered k)) = entered_length [] T x
+    go Back (Ok (NotCovered k)) = replaced_length T x

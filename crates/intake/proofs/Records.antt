@@ -1,4 +1,5 @@
 -- Byte by byte or record by record: what is printed is the same.
+use Rattle.std.specs.Prelude.{Err}
 use mathlib.Core.Path.{◌≡◌, refl, sym, ap, ap₂, ◌∙◌}
 use mathlib.Core.List.{List, [], ◌∷◌, ◌++◌, append_assoc}
 use mathlib.Core.Bool.{Bool, true, false}
@@ -10,7 +11,6 @@ use lib.ListN.{length, take, drop, length-drop, length-replicate}
 use lib.Seq.{sets, sets-eq, length-sets, take_at, length-take-le}
 use borrow.Author.Tests.{le-leb, lt-leb, lt-ltb, le-ltb}
 use Rattle.clause.specs.Clause.{max_words, shape}
-use Rattle.clause.specs.declared.Shape.TheVariants.{Faulty}
 use Rattle.clause.specs.declared.Fault.TheVariants.{BadLength}
 use Rattle.walk.specs.Query.{query}
 use Rattle.book.specs.Book.{after}
@@ -79,7 +79,7 @@ cut v (w ∷ ws) n count i t m h = rw (at_word v t m w n count i refl (omega ari
 -- ---- a whole record
 
 -- a clause of more than 64 words
-long_shape : (c : List ℕ) → max_words < length c → shape c ≡ Faulty BadLength
+long_shape : (c : List ℕ) → max_words < length c → shape c ≡ Err BadLength
 unfolding shape
 long_shape [] h = absurd (omega arith)
 long_shape (w ∷ c) h = rw (lt-ltb max_words (length (w ∷ c)) h)

@@ -1,4 +1,5 @@
 -- Lists of calls that C makes are lists of calls, and its queries and listings say what these answer.
+use Rattle.std.specs.Prelude.{Err, Ok, Result, ℕ, ⊤}
 use mathlib.Core.Path.{◌≡◌, refl, sym, ap, ap₂, ◌∙◌}
 use mathlib.Core.Logic.{◌↔◌, ◌⊎◌, inl, inr}
 use mathlib.Core.List.{List, [], ◌∷◌, ◌++◌, map}
@@ -8,21 +9,17 @@ use lib.ListN.{length, replicate, length-replicate}
 use Rattle.tree.specs.Entries.{Pair}
 use Rattle.tree.specs.Calls.{fresh}
 use Rattle.tree.specs.declared.Refusal.TheVariants.{Spent, ShortList}
-use Rattle.tree.specs.declared.CallAnswer.{CallAnswer}
-use Rattle.tree.specs.declared.CallAnswer.TheVariants.{Ready, Kept, Removed}
+use Rattle.tree.specs.declared.Done.{Done}
+use Rattle.tree.specs.declared.Done.TheVariants.{Ready, Kept, Removed}
 use Rattle.readback.specs.Calls.{check, read_back}
-use Rattle.readback.specs.declared.CheckAnswer.{CheckAnswer}
-use Rattle.readback.specs.declared.CheckAnswer.TheVariants.{Failed, Passed}
-use Rattle.readback.specs.declared.ReadAnswer.{ReadAnswer}
 use Rattle.backward.specs.Calls.{Backed, unlisted, backward}
 use Rattle.backward.specs.Laws.{SpentAt, FullAt, ListsKept, queried, tries_of}
-use Rattle.backward.specs.declared.BackAnswer.{BackAnswer}
-use Rattle.backward.specs.declared.BackAnswer.TheVariants.{Listed}
+use Rattle.backward.specs.declared.Listed.{Listed}
 use Rattle.walk.specs.Ceiling.{full_budget, enough_budget}
 use Rattle.walk.specs.Query.{witness_words, query}
 use Rattle.walk.specs.Covering.{IsCovered, IsNotCovered, IsSpent, Answers}
-use Rattle.walk.specs.declared.QueryAnswer.{QueryAnswer}
-use Rattle.walk.specs.declared.QueryAnswer.TheVariants.{Unanswered, Covered, NotCovered}
+use Rattle.walk.specs.declared.Verdict.{Verdict}
+use Rattle.walk.specs.declared.Verdict.TheVariants.{Covered, NotCovered}
 use Rattle.walk.proofs.Covering.{decided_fits}
 use Rattle.book.specs.Table.{said_call, said_query, said_check, said_read, given_back, backed}
 use Rattle.book.specs.Book.{Call, insert, remove, call, done, after, slice_of, book_of, tree_of}
@@ -41,6 +38,7 @@ use Rattle.interface.specs.Claims.{Says, SaysCovered, SaysNot, SaysSpent, needed
 use Rattle.interface.specs.Claims.{CtChecked, CtReadsBook, CtSavedIsMade, Lists, ListsSpent, ListsFull, CtLists, CtListsBook}
 use Rattle.interface.proofs.Differ.{Freshened, ready, bad_slice, Inserted, kept, refusal, Taken, removed, broken, no_such}
 use Rattle.interface.proofs.Differ.{fresh_answers, insert_answers, remove_answers, code_some, query_apart}
+use Rattle.tree.specs.declared.Refusal.{Refusal}
 
 -- ---- the words, and the numbers returned
 
@@ -58,20 +56,20 @@ unfolding ct_fresh
 tree_words_lem T xs = after_words (fresh T).slice xs
 
 -- 0 is returned where the call is done
-returned : CallAnswer → ℕ
+returned : Result Done Refusal → ℕ
 returned a = number_of (said_call a).title
 
-fresh_done : {a : CallAnswer} → Freshened a → returned a ≡ 0 → a ≡ Ready
+fresh_done : {a : Result Done Refusal} → Freshened a → returned a ≡ 0 → a ≡ Ok Ready
 unfolding returned
 fresh_done ready e = refl
 fresh_done bad_slice e = absurd (omega arith)
 
-insert_done : {a : CallAnswer} → Inserted a → returned a ≡ 0 → a ≡ Kept
+insert_done : {a : Result Done Refusal} → Inserted a → returned a ≡ 0 → a ≡ Ok Kept
 unfolding returned
 insert_done kept e = refl
 insert_done (refusal r) e = absurd (code_some r e)
 
-remove_done : {a : CallAnswer} → Taken a → returned a ≡ 0 → a ≡ Removed
+remove_done : {a : Result Done Refusal} → Taken a → returned a ≡ 0 → a ≡ Ok Removed
 unfolding returned
 remove_done removed e = refl
 remove_done bad_slice e = absurd (omega arith)
@@ -101,7 +99,7 @@ ct_reach T xs R =
 -- ---- what a query says
 
 module _ (T d : List ℕ) (b : ℕ) (W ts : List ℕ) (long : 3 ≤ length ts) where
-  says : (a : QueryAnswer)
+  says : (a : Result Verdict Refusal)
       → Says (ct_query T d b W ts) ts (replied (said_query a) []).number (shown_as (said_query a).title (said_query a).values) ↔ ((query T d b W).answer ≡ a)
   unfolding ct_query
   says a = (
@@ -112,19 +110,19 @@ module _ (T d : List ℕ) (b : ℕ) (W ts : List ℕ) (long : 3 ≤ length ts) w
 module _ {K : List Pair} {T d : List ℕ} {b : ℕ} {W : List ℕ} (A : Answers K (tree_of K) T d b W) where
   module _ (ts : List ℕ) (long : 3 ≤ length ts) (enough : needed K d ≤ enough_budget) where
     says_covered : IsCovered T d b W → SaysCovered (ct_query T d b W ts) ts (needed K d)
-    says_covered u = let (n, c, e) = u in (n, (says T d b W ts long (Covered n (needed K d))).1 (rw (← A.counts n c e) e))
+    says_covered u = let (n, c, e) = u in (n, (says T d b W ts long (Ok (Covered n (needed K d)))).1 (rw (← A.counts n c e) e))
 
     says_not : IsNotCovered T d b W → SaysNot (ct_query T d b W ts) ts (needed K d)
-    says_not u = let (c, e) = u in (says T d b W ts long (NotCovered (needed K d))).1 (rw (← A.counts_not c e) e)
+    says_not u = let (c, e) = u in (says T d b W ts long (Ok (NotCovered (needed K d)))).1 (rw (← A.counts_not c e) e)
 
-    said_covered : (n : ℕ) → Says (ct_query T d b W ts) ts 0 (1 ∷ n ∷ needed K d ∷ []) → (query T d b W).answer ≡ Covered n (needed K d)
-    said_covered n s = (says T d b W ts long (Covered n (needed K d))).0 s
+    said_covered : (n : ℕ) → Says (ct_query T d b W ts) ts 0 (1 ∷ n ∷ needed K d ∷ []) → (query T d b W).answer ≡ Ok (Covered n (needed K d))
+    said_covered n s = (says T d b W ts long (Ok (Covered n (needed K d)))).0 s
 
-    said_not : SaysNot (ct_query T d b W ts) ts (needed K d) → (query T d b W).answer ≡ NotCovered (needed K d)
-    said_not s = (says T d b W ts long (NotCovered (needed K d))).0 s
+    said_not : SaysNot (ct_query T d b W ts) ts (needed K d) → (query T d b W).answer ≡ Ok (NotCovered (needed K d))
+    said_not s = (says T d b W ts long (Ok (NotCovered (needed K d)))).0 s
 
     said_spent : SaysSpent (ct_query T d b W ts) ts b ↔ IsSpent T d b W
-    said_spent = says T d b W ts long (Unanswered (Spent b))
+    said_spent = says T d b W ts long (Err (Spent b))
 
     ct_kinds : IsCovered T d b W ⊎ (IsNotCovered T d b W ⊎ IsSpent T d b W)
         → SaysCovered (ct_query T d b W ts) ts (needed K d) ⊎ (SaysNot (ct_query T d b W ts) ts (needed K d) ⊎ SaysSpent (ct_query T d b W ts) ts b)
@@ -170,8 +168,8 @@ ct_demand2 T xs R d W ts P b =
 -- covered at the full budget
 ct_covered : (T d W ts : List ℕ) → 3 ≤ length ts → CtCovered T d W ts ↔ IsCovered T d full_budget W
 ct_covered T d W ts long = (
-  λ u. let (c, (n, s)) = u in (n, c, (says T d full_budget W ts long (Covered n c)).0 s),
-  λ u. let (n, c, e) = u in (c, (n, (says T d full_budget W ts long (Covered n c)).1 e)),
+  λ u. let (c, (n, s)) = u in (n, c, (says T d full_budget W ts long (Ok (Covered n c))).0 s),
+  λ u. let (n, c, e) = u in (c, (n, (says T d full_budget W ts long (Ok (Covered n c))).1 e)),
 )
 
 ct_same : {S T d : List ℕ} {b : ℕ} → Same S T d b → CtSame S T d b
@@ -179,7 +177,7 @@ unfolding ct_query
 ct_same {S} {T} {d} {b} s =
     let Z : List ℕ = replicate witness_words 0 in
     let z : witness_words ≤ length Z = omega (arith, length-replicate {A = ℕ} witness_words 0) in
-    let a : QueryAnswer = (query S d b Z).answer in
+    let a : (Result Verdict Refusal) = (query S d b Z).answer in
     let one : (U : List ℕ) → witness_words ≤ length U → (query S d b U).answer ≡ a = λ U l. s.answer U Z l z ∙ sym (s.answer Z Z z z) in
     let other : (U : List ℕ) → witness_words ≤ length U → (query T d b U).answer ≡ a = λ U l. sym (s.answer Z U z l) in
     record {
@@ -224,19 +222,19 @@ module _ (T : List ℕ) (xs : List Call) (d : List ℕ) (b : ℕ) (W ts : List �
   r = ct_query S d b W ts
 
   ct_decided : IsCovered S d b W ⊎ IsNotCovered S d b W → ((c : ℕ) × SaysCovered r ts c) ⊎ ((c : ℕ) × SaysNot r ts c)
-  ct_decided (inl (n, c, e)) = inl (c, (n, (says S d b W ts long (Covered n c)).1 e))
-  ct_decided (inr (c, e)) = inr (c, (says S d b W ts long (NotCovered c)).1 e)
+  ct_decided (inl (n, c, e)) = inl (c, (n, (says S d b W ts long (Ok (Covered n c))).1 e))
+  ct_decided (inr (c, e)) = inr (c, (says S d b W ts long (Ok (NotCovered c))).1 e)
 
-  ct_less : IsSpent S d b W ⊎ ((n : ℕ) × (c : ℕ) × ((query S d b W).answer ≡ Covered n c) × (c ≤ b))
+  ct_less : IsSpent S d b W ⊎ ((n : ℕ) × (c : ℕ) × ((query S d b W).answer ≡ Ok (Covered n c)) × (c ≤ b))
       → SaysSpent r ts b ⊎ ((c : ℕ) × (c ≤ b) × SaysCovered r ts c)
-  ct_less (inl s) = inl ((says S d b W ts long (Unanswered (Spent b))).1 s)
-  ct_less (inr (n, c, e, l)) = inr (c, l, (n, (says S d b W ts long (Covered n c)).1 e))
+  ct_less (inl s) = inl ((says S d b W ts long (Err (Spent b))).1 s)
+  ct_less (inr (n, c, e, l)) = inr (c, l, (n, (says S d b W ts long (Ok (Covered n c))).1 e))
 
   ct_exact : CtExact d b ts r
   ct_exact =
       record {
-        exact = λ c s. E.exact c ((says S d b W ts long (NotCovered c)).0 s);
-        at_most = λ c s. E.at_most s.0 c ((says S d b W ts long (Covered s.0 c)).0 s.1);
+        exact = λ c s. E.exact c ((says S d b W ts long (Ok (NotCovered c))).0 s);
+        at_most = λ c s. E.at_most s.0 c ((says S d b W ts long (Ok (Covered s.0 c))).0 s.1);
         enough = λ h. ct_decided (E.enough h);
         less = λ h. ct_less (E.less h);
       }
@@ -248,9 +246,9 @@ ct_exact_count T xs R some units d W ts P b =
 
 -- ---- saved trees
 
-check_done : (a : CheckAnswer) → number_of (said_check a).title ≡ 0 → a ≡ Passed
-check_done (Failed r) e = absurd (code_some r e)
-check_done Passed e = refl
+check_done : (a : Result ⊤ Refusal) → number_of (said_check a).title ≡ 0 → a ≡ Ok tt
+check_done (Err r) e = absurd (code_some r e)
+check_done (Ok tt) e = refl
 
 pub ct_checked : CtChecked
 unfolding ct_check
@@ -263,7 +261,7 @@ ct_reads_book T xs R W room ts =
     let r : Run T ys = run_of T xs R in
     let S : List ℕ = slice_of T ys in
     let B : ReadsKept S (book_of (length T) ys) W = reads_book T ys r W room in
-    let number : ReadAnswer → ℕ = λ a. number_of (said_read a).title in
+    let number : Result ℕ Refusal → ℕ = λ a. number_of (said_read a).title in
     record {
       passes = rw (tree_words_lem T xs) ((ct_checked S).1 (_, reach_saved T ys r));
       each = λ p m. rw (tree_words_lem T xs) (ap (λ g. handed (given_back g) ts) (B.each p m));
@@ -296,6 +294,11 @@ ct_saved_is_made T K I xs f =
 
 -- ---- listing backward
 
+-- the same answer, by other names of its numbers
+answer_for : {a : Result Listed Refusal} {m n j k : ℕ} → a ≡ Ok (record { count = m; candidates = j }) → m ≡ n → j ≡ k
+    → a ≡ Ok (record { count = n; candidates = k })
+answer_for e f g = rw (sym f, sym g) e
+
 module _ {T : List ℕ} {K : List Pair} {c : List ℕ} {b : ℕ} {L : List ℕ} (B : ListsKept T K c b L) (ts : List ℕ) where
   abbrev listing : Backed
   listing = backward T c b L
@@ -308,10 +311,10 @@ module _ {T : List ℕ} {K : List Pair} {c : List ℕ} {b : ℕ} {L : List ℕ} 
 
   -- what comes out
 
-  lists : (n k : ℕ) → listing.answer ≡ Listed n k → Lists out L ts B.numbers tries
+  lists : (n k : ℕ) → listing.answer ≡ Ok (record { count = n; candidates = k }) → Lists out L ts B.numbers tries
   lists n k e =
       let (r, m, f, g) = (B.answered n k).0 e in
-      ap₂ (λ (a : BackAnswer) (l : List ℕ). handed (backed (record { answer = a; list = l })) ts) (e ∙ ap₂ Listed f g) (B.list n k e)
+      ap₂ (λ (a : Result Listed Refusal) (l : List ℕ). handed (backed (record { answer = a; list = l })) ts) (answer_for e f g) (B.list n k e)
 
   lists_spent : listing ≡ unlisted (Spent b) L → ListsSpent out L ts b
   lists_spent e = ap (λ y. handed (backed y) ts) e
@@ -325,7 +328,7 @@ module _ {T : List ℕ} {K : List Pair} {c : List ℕ} {b : ℕ} {L : List ℕ} 
   number_of_lem e = ap (λ (y : Handed). y.number) e
 
   abbrev Kinds : Type 0
-  Kinds = ((n : ℕ) × (k : ℕ) × (listing.answer ≡ Listed n k)) ⊎ ((listing ≡ unlisted (Spent b) L) ⊎ (listing ≡ unlisted ShortList L))
+  Kinds = ((n : ℕ) × (k : ℕ) × (listing.answer ≡ Ok (record { count = n; candidates = k }))) ⊎ ((listing ≡ unlisted (Spent b) L) ⊎ (listing ≡ unlisted ShortList L))
 
   was_listed : Kinds → out.number ≡ 0 → (length B.numbers ≤ length L) × (tries ≤ b)
   was_listed (inl (n, k, a)) e = let (r, m, f, g) = (B.answered n k).0 a in (r, m)

@@ -5,7 +5,7 @@ use Rattle.walk.specs.Query.{query}
 use Rattle.walk.specs.Ceiling.{ceiling_call}
 use Rattle.readback.specs.Calls.{check, read_back}
 use Rattle.backward.specs.Calls.{backward}
-use Rattle.book.specs.Table.{Result, said_ceiling, said_check, called, asked, given_back, backed}
+use Rattle.book.specs.Table.{Returned, said_ceiling, said_check, called, asked, given_back, backed}
 use Rattle.interface.specs.Told.{number_of, Reply, replied}
 
 -- the number returned, and the words of the tree, the witness, the output or the list afterwards
@@ -20,11 +20,11 @@ pub record Handed : Type 0 where
   pub told : List ℕ
 
 -- of how a call comes out
-abbrev pub left : Result → Left
+abbrev pub left : Returned → Left
 left r = record { number = number_of r.said.title; words = r.words }
 
 -- the same with its values told
-abbrev pub handed : Result → (told : List ℕ) → Handed
+abbrev pub handed : Returned → (told : List ℕ) → Handed
 handed r ts = record { number = (replied r.said ts).number; words = r.words; told = (replied r.said ts).told }
 
 -- fresh

@@ -8,6 +8,8 @@ use native.Mathlib.Numerals.{add-one}
 use lib.ListN.{length, take, drop, get_or, length-append, drop_of_length-le, set}
 use lib.Seq.{sets, sets-eq, length-sets, take_at, drop-cons}
 use Rattle.record.specs.Text.{decimal, Written, put_at}
+use Rattle.lines.specs.declared.Page.{Page}
+use Rattle.lines.specs.Inner.Page.{Puts, HasRoom}
 use Rattle.record.specs.Line.{named, says_removed, removal_line, removal_lines, removed_total}
 use Rattle.record.specs.declared.Setting.{Setting}
 use Rattle.record.specs.declared.Setting.TheVariants.{Plain, Back}
@@ -36,34 +38,35 @@ text_there t o h e =
     ap (λ (w : Written). take w.next w.output) e
     ∙ rw (sets-eq t o 0 (omega arith)) (take_at t (drop (0 + length t) o) (0 + length t) (omega arith))
 
--- ---- a text copied over a part
+-- ---- on a page
 
+module _ {p q : Page} where
+  -- the place after some text, and the length of the page
+  pub on_page : (t : List ℕ) → Puts t p q → (q.at ≡ p.at + length t) × (length q.bytes.now ≡ length p.bytes.now)
+  on_page t e = placed t p.bytes.now p.at e.put
+
+  -- some text and a number of at most k + 1 digits after it: how far on the place after them is, and the length of the page
+  pub named_put : (t : List ℕ) (k n : ℕ) → n < 10 ^ suc k → Puts (named t n) p q → (q.at ≤ p.at + length t + suc k) × (length q.bytes.now ≡ length p.bytes.now)
+  named_put t k n h e = let z = on_page (named t n) e in (omega (arith, length-append t (decimal n), decimal_length k n h, z.0), z.1)
+
+  -- after the first piece there is room for the rest
+  pub rest_fits : (s t : List ℕ) → HasRoom (length (s ++ t)) p → Puts s p q → HasRoom (length t) q
+  rest_fits s t h e = omega (arith, length-append s t, on_page s e)
+
+  -- the first piece and then the rest is the whole
+  pub joined : (s t : List ℕ) {r : Page} → Puts s p q → Puts t q r → Puts (s ++ t) p r
+  joined s t e f =
+      record { same = f.same ∙ e.same; put = f.put ∙ ap (λ (v : Written). put_at t v.output v.next) e.put ∙ sym (put_at_append s t p.bytes.now p.at) }
+
+-- no text
+pub put_nothing : (p : Page) → Puts [] p p
+put_nothing p = record { same = refl; put = sym (put_none p.bytes.now p.at) }
+
+-- a text copied over a part
 pub put_part : (t o : List ℕ) (at : ℕ) → at + length t ≤ length o → put_mid at (at + length t - at) o t ≡ sets o at t
 put_part t o at h = rw (Post-is at (at + length t) o (omega arith), sets-eq t o at h, append_assoc)
 
--- ---- a text in pieces
-
--- room for the whole is room for the first piece
-pub first_fits : (s t : List ℕ) (at n : ℕ) → at + length (s ++ t) ≤ n → at + length s ≤ n
-first_fits s t at n h = omega (arith, length-append s t)
-
--- and after it for the rest
-pub rest_fits : (s t o : List ℕ) (at : ℕ) {r : ℕ} {p : List ℕ} → at + length (s ++ t) ≤ length o
-    → ◌≡◌ {A = Written} (record { next = r; output = p }) (put_at s o at) → r + length t ≤ length p
-rest_fits s t o at h e =
-    omega (arith, length-append s t, placed s o at e)
-
--- the first piece and then the rest is the whole
-pub joined : (s t o : List ℕ) (at : ℕ) {r : ℕ} {p : List ℕ} {w : Written} → ◌≡◌ {A = Written} (record { next = r; output = p }) (put_at s o at)
-    → w ≡ put_at t p r → w ≡ put_at (s ++ t) o at
-joined s t o at e f = f ∙ ap (λ (v : Written). put_at t v.output v.next) e ∙ sym (put_at_append s t o at)
-
 -- ---- how long a text with a number is
-
--- some text and a number of at most k + 1 digits after it: how far on the place after them is, and the output's length
-pub named_put : (t : List ℕ) (k n : ℕ) → n < 10 ^ suc k → (o : List ℕ) (at : ℕ) {r : ℕ} {p : List ℕ}
-    → ◌≡◌ {A = Written} (record { next = r; output = p }) (put_at (named t n) o at) → (r ≤ at + length t + suc k) × (length p ≡ length o)
-named_put t k n h o at e = let q = placed (named t n) o at e in (omega (arith, length-append t (decimal n), decimal_length k n h, q.0), q.1)
 
 -- how many were removed, at the end of the line of totals, takes at most 29 bytes
 pub removed_total_length : (s : Setting) (n : ℕ) → n < 10 ^ 20 → length (removed_total s n) ≤ 29
@@ -73,14 +76,15 @@ removed_total_length Back n h = omega (arith, length-append says_removed (decima
 -- ---- a number, digit after digit
 
 -- the only digit
-pub put_only : (n : ℕ) (o : List ℕ) (at : ℕ) → n < 10 → ◌≡◌ {A = Written} (record { next = at + 1; output = set o at (48 + n) }) (put_at (decimal n) o at)
-put_only n o at h = rw (decimal_small n h)
+pub put_only : (n : ℕ) (p q : Page) → n < 10 → q.bytes.ghost_name ≡ p.bytes.ghost_name → q.bytes.now ≡ set p.bytes.now p.at (48 + n % 10) → q.at ≡ p.at + 1 → Puts (decimal n) p q
+put_only n p q h e f g = let r : n % 10 ≡ n = omega arith in record { same = e; put = rw (f, g, r, decimal_small n h) }
 
 -- the digits before the last one, and then the last one
-pub put_last : (n : ℕ) (o : List ℕ) (at : ℕ) {r : ℕ} {p : List ℕ} → 10 ≤ n
-    → ◌≡◌ {A = Written} (record { next = r; output = p }) (put_at (decimal (n / 10)) o at)
-    → ◌≡◌ {A = Written} (record { next = r + 1; output = set p r (48 + n % 10) }) (put_at (decimal n) o at)
-put_last n o at h e = rw (decimal_large n h) (joined (decimal (n / 10)) ((48 + n % 10) ∷ []) o at e refl)
+pub put_last : (n : ℕ) {o : Page} (p q : Page) → 10 ≤ n → Puts (decimal (n / 10)) o p → q.bytes.ghost_name ≡ p.bytes.ghost_name → q.bytes.now ≡ set p.bytes.now p.at (48 + n % 10)
+    → q.at ≡ p.at + 1 → Puts (decimal n) o q
+put_last n p q h w e f g =
+    let l : Puts ((48 + n % 10) ∷ []) p q = record { same = e; put = rw (f, g) } in
+    rw (decimal_large n h) (joined (decimal (n / 10)) ((48 + n % 10) ∷ []) w l)
 
 -- ---- the lines of removals, one after another
 
@@ -89,7 +93,10 @@ pub removals_more : (by : ℕ) (ns o : List ℕ) (at i : ℕ) {r : ℕ} {p : Lis
     → ◌≡◌ {A = Written} (record { next = r; output = p }) (put_at (removal_line by (get_or ns i 0)) o at)
     → put_at (removal_lines by (drop i ns)) o at ≡ put_at (removal_lines by (drop (i + 1) ns)) p r
 unfolding removal_lines
-removals_more by ns o at i h e = rw (drop-cons ns i 0 h, add-one) (sym (joined (removal_line by (get_or ns i 0)) (removal_lines by (drop (suc i) ns)) o at e refl))
+removals_more by ns o at i h e =
+    rw (drop-cons ns i 0 h, add-one)
+    (put_at_append (removal_line by (get_or ns i 0)) (removal_lines by (drop (suc i) ns)) o at
+    ∙ ap (λ (w : Written). put_at (removal_lines by (drop (suc i) ns)) w.output w.next) (sym e))
 
 -- none is left
 pub removals_all : (by : ℕ) (ns o : List ℕ) (at i : ℕ) → length ns ≤ i → put_at (removal_lines by (drop i ns)) o at ≡ record { next = at; output = o }

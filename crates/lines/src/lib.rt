@@ -1,13 +1,16 @@
-// The lines of the output, put into lent bytes.
+// The lines of the output, put on a page of lent bytes.
 #![tactic(auto)]
 
 mod line;
 mod removals;
 mod text;
 
-pub use line::{put_line, put_totals};
-pub use removals::put_removals;
-pub use text::{put_decimal, put_named, put_text};
+// The output: the lent bytes, and the place after what was put into them.
+#[derive(Drop)]
+pub struct Page<'a> {
+    pub bytes: &'a mut [u8],
+    pub at: usize,
+}
 
 // The most bytes of a line.
 #[derive(Drop)]

@@ -1,36 +1,40 @@
-// Text put into lent output.
-ghost use Rattle.std.specs.Prelude.{◌≡◌, ◌++◌, ◌+◌, ◌≤◌, length};
-ghost use Rattle.record.specs.Text.{decimal, put_at};
+// Text put on a page.
+ghost use Rattle.std.specs.Prelude.{◌++◌, length};
+ghost use Rattle.record.specs.Text.{decimal};
+ghost use Rattle.lines.specs.Inner.Page.{Puts, HasRoom};
 
-// Puts the digits of a number in base ten at a place of the output, and gives the place after them.
-pub fn put_decimal(output: &mut [u8], at: usize, number: u64) -> usize
-    requires { at + length (decimal number) ≤ length output.old }
-    ensures { record { next = result; output = output.new } ≡ put_at (decimal number) output.old at }
-{
-    if number < 10 {
-        output[at] = b'0' + number as u8;
-        return at + 1;
+use crate::Page;
+
+impl<'a> Page<'a> {
+    // Puts some text.
+    pub fn put_text(&mut self, text: &[u8])
+        requires { HasRoom (length text.now) self.old }
+        ensures { Puts text.now self.old self.new }
+    {
+        let end = self.at + text.len();
+        self.bytes[self.at..end].copy_from_slice(text);
+        self.at = end;
     }
-    let last = put_decimal(output, at, number / 10);
-    output[last] = b'0' + (number % 10) as u8;
-    last + 1
-}
 
-// Puts some text at a place of the output, and gives the place after it.
-pub fn put_text(output: &mut [u8], at: usize, text: &[u8]) -> usize
-    requires { at + length text.now ≤ length output.old }
-    ensures { record { next = result; output = output.new } ≡ put_at text.now output.old at }
-{
-    let end = at + text.len();
-    output[at..end].copy_from_slice(text);
-    end
-}
+    // Puts the digits of a number in base ten: those before the last one, and then the last one.
+    // std's own digits (`InlineText::of`) are promised only up to a cut, and are no promise of these bytes.
+    pub fn put_decimal(&mut self, number: u64)
+        requires { HasRoom (length (decimal number)) self.old }
+        ensures { Puts (decimal number) self.old self.new }
+    {
+        if number >= 10 {
+            self.put_decimal(number / 10);
+        }
+        self.bytes[self.at] = b'0' + (number % 10) as u8;
+        self.at += 1;
+    }
 
-// Puts some text and a number after it at a place of the output, and gives the place after both.
-pub fn put_named(output: &mut [u8], at: usize, text: &[u8], number: u64) -> usize
-    requires { at + length (text.now ++ decimal number) ≤ length output.old }
-    ensures { record { next = result; output = output.new } ≡ put_at (text.now ++ decimal number) output.old at }
-{
-    let next = put_text(output, at, text);
-    put_decimal(output, next, number)
+    // Puts some text and a number after it.
+    pub fn put_named(&mut self, text: &[u8], number: u64)
+        requires { HasRoom (length (text.now ++ decimal number)) self.old }
+        ensures { Puts (text.now ++ decimal number) self.old self.new }
+    {
+        self.put_text(text);
+        self.put_decimal(number);
+    }
 }

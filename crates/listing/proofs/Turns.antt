@@ -8,7 +8,7 @@ use native.Mathlib.Omega.{arith}
 use native.Mathlib.Numerals.{add-one}
 use lib.ListN.{length, get_or, take, drop, set, replicate, length-set, length-replicate, drop_of_length-le}
 use lib.Seq.{drop-cons, take-suc-set}
-use Rattle.std.specs.Prelude.{Some, Ok, Err, slice_get}
+use Rattle.std.specs.Prelude.{Some, Ok, Err, slice_get, Result}
 use Rattle.std.proofs.lemmas.Option.{slice_get_within, get_or_from_slice_get}
 use Rattle.clause.specs.Lists.{All}
 use Rattle.clause.specs.Word.{Words}
@@ -23,12 +23,12 @@ use Rattle.tree.specs.Calls.{Called, insertion}
 use Rattle.tree.specs.Entries.{Pair}
 use Rattle.tree.specs.declared.Refusal.{Refusal}
 use Rattle.tree.specs.declared.Refusal.TheVariants.{Spent, ShortList}
-use Rattle.tree.specs.declared.CallAnswer.{CallAnswer}
+use Rattle.tree.specs.declared.Done.{Done}
 use Rattle.walk.specs.Walk.{Answer, covered, not_covered}
 use Rattle.walk.specs.Walk as walk
 use Rattle.walk.specs.Query.{witness_words, Asked, answer_by, query}
-use Rattle.walk.specs.declared.QueryAnswer.{QueryAnswer}
-use Rattle.walk.specs.declared.QueryAnswer.TheVariants.{Unanswered, NotCovered, Covered}
+use Rattle.walk.specs.declared.Verdict.{Verdict}
+use Rattle.walk.specs.declared.Verdict.TheVariants.{NotCovered, Covered}
 use Rattle.backward.specs.Listing.{lone, tried, Listing, listed, overfull, spent, with_number, found, goes_on, list_from}
 use Rattle.backward.proofs.Lone.{Tries, subsuming, other, beyond, lone_mirrors, lone_leaves, lone_size, lone_insertion, lone_query, lone_tries}
 use Rattle.shelving.specs.Inner.Shelf.{AcceptedPair}
@@ -54,19 +54,19 @@ no_numbers (m ∷ ns) l f = ap (with_number m) (no_numbers ns l f) ∙ f m
 
 -- ---- the answer to a query, and the walk's
 
-covered_is : (b : ℕ) (W : List ℕ) (x : Answer State) {n k : ℕ} → Covered n k ≡ (answer_by b W x).answer → (s : State) × (x ≡ covered n s k)
+covered_is : (b : ℕ) (W : List ℕ) (x : Answer State) {n k : ℕ} → Ok (Covered n k) ≡ (answer_by b W x).answer → (s : State) × (x ≡ covered n s k)
 covered_is b W (covered m s j) {n = n} {k = k} e = let p : m ≡ n = cc in let q : j ≡ k = cc in (s, rw (p, q))
 covered_is b W (not_covered j) e = apart cc
 covered_is b W walk.spent e = apart cc
 covered_is b W walk.broken e = apart cc
 
-not_covered_is : (b : ℕ) (W : List ℕ) (x : Answer State) {k : ℕ} → NotCovered k ≡ (answer_by b W x).answer → x ≡ not_covered k
+not_covered_is : (b : ℕ) (W : List ℕ) (x : Answer State) {k : ℕ} → Ok (NotCovered k) ≡ (answer_by b W x).answer → x ≡ not_covered k
 not_covered_is b W (covered m s j) e = apart cc
 not_covered_is b W (not_covered j) {k = k} e = let q : j ≡ k = cc in rw q
 not_covered_is b W walk.spent e = apart cc
 not_covered_is b W walk.broken e = apart cc
 
-unanswered_is : {c d : List ℕ} (b : ℕ) (W : List ℕ) {x : Answer State} → Tries c d b x → {r : Refusal} → Unanswered r ≡ (answer_by b W x).answer → x ≡ walk.spent
+unanswered_is : {c d : List ℕ} (b : ℕ) (W : List ℕ) {x : Answer State} → Tries c d b x → {r : Refusal} → Err r ≡ (answer_by b W x).answer → x ≡ walk.spent
 unanswered_is b W (subsuming u p h) e = apart cc
 unanswered_is b W (other u p h) e = apart cc
 unanswered_is b W (beyond h) e = refl
@@ -93,7 +93,7 @@ pub record Asking (c : List ℕ) (K : List Pair) (T : List ℕ) : Type 0 where
   pub tree : T ≡ layout 322 (lone c)
 
 -- the tree that the insertion makes
-pub lone_made : (c : List ℕ) → Accepted c → Words c → {r : CallAnswer} {T : List ℕ}
+pub lone_made : (c : List ℕ) → Accepted c → Words c → {r : Result Done Refusal} {T : List ℕ}
     → ◌≡◌ {A = Called} (record { answer = r; slice = T }) (insertion (replicate 322 0) c 0) → T ≡ layout 322 (lone c)
 lone_made c C w e = ap (λ (x : Called). x.slice) (e ∙ lone_insertion c C w 322 (omega arith) (omega arith) (omega (arith, lone_size c C w)))
 
@@ -120,7 +120,7 @@ trying_first b room ns l a =
 
 module _ {c : List ℕ} {b : ℕ} {K : List Pair} {T : List ℕ} {room : ℕ} {ns : List ℕ} {many k i : ℕ} (g : Trying c b K T room ns many k i) where
   -- none is left
-  pub trying_end : i ≤ length K → length K ≤ i → CameTo b room (list_from c b K room 0) (Ok (many, k)) ns
+  pub trying_end : i ≤ length K → length K ≤ i → CameTo b room (list_from c b K room 0) (Ok (record { count = many; candidates = k })) ns
   unfolding list_from
   trying_end l h = (
     omega (arith, g.fewer, g.places, g.asking.few),
@@ -158,7 +158,7 @@ module _ {c : List ℕ} {b : ℕ} {K : List Pair} {T : List ℕ} {room : ℕ} {n
           clause_accepted,
         )
 
-    module _ {r : QueryAnswer} (q : r ≡ (query T p.clause (b - k) (replicate witness_words 0)).answer) where
+    module _ {r : Result Verdict Refusal} (q : r ≡ (query T p.clause (b - k) (replicate witness_words 0)).answer) where
       answered : r ≡ (answer_by (b - k) (replicate witness_words 0) outcome).answer
       unfolding outcome
       answered =
@@ -181,7 +181,7 @@ module _ {c : List ℕ} {b : ℕ} {K : List Pair} {T : List ℕ} {room : ℕ} {n
       goes_as e = goes ∙ ap (λ x. with_numbers (take many ns) (goes_on p.number (room - many) k x (list_from c b (drop (i + 1) K)))) e
 
       -- the budget is not enough
-      pub trying_spent : {e : Refusal} → r ≡ Unanswered e → CameTo b room (list_from c b K room 0) (Err (Spent b)) ns
+      pub trying_spent : {e : Refusal} → r ≡ Err e → CameTo b room (list_from c b K room 0) (Err (Spent b)) ns
       trying_spent u =
           inr (
             goes_as (unanswered_is (b - k) (replicate witness_words 0) outcome_tries (sym u ∙ answered)) ∙ no_numbers (take many ns) spent (λ n. refl),
@@ -189,7 +189,7 @@ module _ {c : List ℕ} {b : ℕ} {K : List Pair} {T : List ℕ} {room : ℕ} {n
           )
 
       -- it is not subsumed
-      module _ {j : ℕ} (u : r ≡ NotCovered j) where
+      module _ {j : ℕ} (u : r ≡ Ok (NotCovered j)) where
         is_other : outcome ≡ not_covered j
         is_other = not_covered_is (b - k) (replicate witness_words 0) outcome (sym u ∙ answered)
 
@@ -208,7 +208,7 @@ module _ {c : List ℕ} {b : ℕ} {K : List Pair} {T : List ℕ} {room : ℕ} {n
             }
 
       -- it is
-      module _ {m j : ℕ} (u : r ≡ Covered m j) where
+      module _ {m j : ℕ} (u : r ≡ Ok (Covered m j)) where
         is_found : (s : State) × (outcome ≡ covered m s j)
         is_found = covered_is (b - k) (replicate witness_words 0) outcome (sym u ∙ answered)
 

@@ -6,17 +6,14 @@ ghost use Rattle.std.specs.Prelude.{◌≡◌, length};
 ghost use Rattle.clause.specs.Clause.{Accepted};
 ghost use Rattle.clause.specs.Lists.{All};
 ghost use Rattle.readback.specs.Calls as calls;
-ghost use Rattle.readback.specs.declared.CheckAnswer.TheVariants.{Passed};
 ghost use Rattle.backward.specs.Calls as back;
 ghost use Rattle.backward.specs.Calls.{listed_in};
 ghost use Rattle.backward.specs.Listing.{list_from};
 ghost use Rattle.shelving.specs.Inner.Shelf.{AcceptedPair};
 
-use backward::BackAnswer;
+use backward::Listed;
 use checking::check;
-use clause::Shape;
 use machine::Sequence;
-use readback::CheckAnswer;
 use reading::read;
 use shelving::{Shelf, shelve_tree};
 use tree::{Refusal, Tree};
@@ -35,24 +32,21 @@ impl Lone {
 }
 
 // Lists the clauses on a shelf that an accepted one subsumes.
-fn list_shelf(clause: &[u16], budget: u64, shelf: &Shelf, list: &mut [u32]) -> BackAnswer
+fn list_shelf(clause: &[u16], budget: u64, shelf: &Shelf, list: &mut [u32]) -> Result<Listed, Refusal>
     requires { Accepted clause.now × All AcceptedPair shelf.now }
     ensures { record { answer = result; list = list.new }
         ≡ listed_in budget list.old (list_from clause.now budget shelf.now (length list.old) 0) }
 {
     let mut numbers = [0u32; Tree::CLAUSES];
-    match try_all(clause, budget, shelf, list.len(), &mut numbers) {
-        Ok((many, candidates)) => {
-            list[..many].copy_from_slice(&numbers[..many]);
-            BackAnswer::Listed(many, candidates)
-        }
-        Err(refusal) => BackAnswer::Unlisted(refusal),
-    }
+    let listed = try_all(clause, budget, shelf, list.len(), &mut numbers)?;
+    let count = listed.count;
+    list[..count].copy_from_slice(&numbers[..count]);
+    Ok(listed)
 }
 
 // Lists the kept clauses that an accepted one subsumes, in a slice that the caller knows to pass the check.
-pub fn list_known(tree: &[u64], clause: &[u16], budget: u64, list: &mut [u32]) -> BackAnswer
-    requires { (calls.check tree.now ≡ Passed) × Accepted clause.now }
+pub fn list_known(tree: &[u64], clause: &[u16], budget: u64, list: &mut [u32]) -> Result<Listed, Refusal>
+    requires { (calls.check tree.now ≡ Ok tt) × Accepted clause.now }
     ensures { record { answer = result; list = list.new }
         ≡ back.backward tree.now clause.now budget list.old }
 {
@@ -62,19 +56,14 @@ pub fn list_known(tree: &[u64], clause: &[u16], budget: u64, list: &mut [u32]) -
 }
 
 // Lists the kept clauses that a clause subsumes, in a slice of any words.
-pub fn backward(tree: &[u64], clause: &[u16], budget: u64, list: &mut [u32]) -> BackAnswer
+pub fn backward(tree: &[u64], clause: &[u16], budget: u64, list: &mut [u32]) -> Result<Listed, Refusal>
     ensures { record { answer = result; list = list.new }
         ≡ back.backward tree.now clause.now budget list.old }
 {
     if !Tree::sized(tree.len()) {
-        return BackAnswer::Unlisted(Refusal::BadSlice);
+        return Err(Refusal::BadSlice);
     }
-    let shape = read(clause);
-    let Shape::Whole(_) = shape else {
-        return BackAnswer::Unlisted(Refusal::BadClause(shape.fault()));
-    };
-    match check(tree) {
-        CheckAnswer::Failed(refusal) => BackAnswer::Unlisted(refusal),
-        CheckAnswer::Passed => list_known(tree, clause, budget, list),
-    }
+    read(clause)?;
+    check(tree)?;
+    list_known(tree, clause, budget, list)
 }

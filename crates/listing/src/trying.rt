@@ -6,11 +6,12 @@ ghost use Rattle.shelving.specs.Inner.Shelf.{AcceptedPair};
 ghost use Rattle.listing.specs.Inner.Queries.{CameTo};
 
 use crate::Lone;
+use backward::Listed;
 use insertion::insert;
 use query::decide;
 use shelving::Shelf;
 use tree::{Refusal, Tree};
-use walk::QueryAnswer;
+use walk::Verdict;
 
 // Queries the clauses on a shelf, until the budget is spent or one number more is found than there is room for: their numbers are noted, and it tells
 // how many they are, and the candidates in all.
@@ -20,24 +21,24 @@ pub(crate) fn try_all(
     shelf: &Shelf,
     room: usize,
     numbers: &mut [u32; Tree::CLAUSES],
-) -> Result<(usize, u64), Refusal>
+) -> Result<Listed, Refusal>
     requires { Accepted clause.now × All AcceptedPair shelf.now }
     ensures { CameTo budget room (list_from clause.now budget shelf.now room 0) result numbers.new }
 {
     let mut lone = [0u64; Lone::WORDS];
-    insert(&mut lone, clause, 0);
+    let _ = insert(&mut lone, clause, 0);
     let mut many = 0;
     let mut tried = 0;
     for place in 0..shelf.len() {
         let (number, kept) = shelf.at(place);
-        match decide(&lone, kept, budget - tried) {
-            QueryAnswer::Unanswered(_) => {
-                return Err(Refusal::Spent(budget));
-            }
-            QueryAnswer::NotCovered(count) => {
+        let Ok(verdict) = decide(&lone, kept, budget - tried) else {
+            return Err(Refusal::Spent(budget));
+        };
+        match verdict {
+            Verdict::NotCovered(count) => {
                 tried += count;
             }
-            QueryAnswer::Covered(_, count) => {
+            Verdict::Covered(_, count) => {
                 tried += count;
                 if many >= room {
                     return Err(Refusal::ShortList);
@@ -47,5 +48,8 @@ pub(crate) fn try_all(
             }
         }
     }
-    Ok((many, tried))
+    Ok(Listed {
+        count: many,
+        candidates: tried,
+    })
 }

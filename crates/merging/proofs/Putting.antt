@@ -1,4 +1,5 @@
 -- The words of a sequence put in at a place of a well-laid slice T, or no room for them.
+use Rattle.std.specs.Prelude.{Ok}
 use mathlib.Core.Path.{◌≡◌, sym, ap, ap₂, ◌∙◌}
 use mathlib.Core.List.{List, ◌∷◌, ◌++◌}
 use Prim.Native.Nat.{ℕ, ◌+◌, ◌-◌, ◌≤◌, ◌<◌}
@@ -13,7 +14,7 @@ use Rattle.tree.specs.Calls.{Called, refused}
 use Rattle.tree.specs.Inner.ByWords.{insert_at}
 use Rattle.merging.specs.Inner.Inserting.{Mergeable}
 use Rattle.tree.specs.declared.Refusal.TheVariants.{NoRoom}
-use Rattle.tree.specs.declared.CallAnswer.TheVariants.{Kept}
+use Rattle.tree.specs.declared.Done.TheVariants.{Kept}
 use Rattle.merging.proofs.UsedWords.{Parts, parts}
 use Rattle.merging.proofs.Fitted.{fitted}
 
@@ -87,7 +88,7 @@ module _ {T cs : List ℕ} {p : ℕ} (n k : ℕ) (r : Mergeable T cs) (within : 
         → B ≡ new_words (rest_of cs k) n ++ take (length (part_at T cs L p k) - (length (rest_of cs k) + 1)) (part_at T cs L p k)
         → ◌≡◌ {A = Called}
         (record {
-          answer = Kept;
+          answer = Ok Kept;
           slice = set (put_mid (p + 1) (end_of T + new_of cs k - (p + 1)) (back_in T L) B) 0 (one_more (get_or T 0 0) (new_of cs k));
         })
         (inserted_at T n cs p k)
@@ -103,4 +104,4 @@ module _ {T cs : List ℕ} {p : ℕ} (n k : ℕ) (r : Mergeable T cs) (within : 
         fitted L (tail_of T) N p m (omega (arith, long, within)) far (get_or T 0 0) v (end_of T + m) (back_in T L) B
         (omega (arith, long, P.many)) whole (rw (rest_keys, same) at back) in
         rw (same, le-ltb (length T) (end_of T + m) room)
-        (ap (λ (l : List ℕ). record { answer = Kept; slice = l }) (done ∙ ap₂ (λ (l z : List ℕ). v ∷ (splice l p N ++ z)) up tail))
+        (ap (λ (l : List ℕ). record { answer = Ok Kept; slice = l }) (done ∙ ap₂ (λ (l z : List ℕ). v ∷ (splice l p N ++ z)) up tail))

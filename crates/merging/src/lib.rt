@@ -8,7 +8,7 @@ ghost use Rattle.tree.specs.Inner.ByWords.{insert_at};
 ghost use Rattle.merging.specs.Inner.Inserting.{holder_of, Nested, LeadsTo, Descending, Mergeable, Writable};
 
 use machine::Key;
-use tree::{CallAnswer, Refusal, Tree, extent, key, word};
+use tree::{Done, Refusal, Tree, extent, key, word};
 
 // Where the words of a sequence go, how many of its keys have a word on the way there, and the number of the clause that keeps it, if one does.
 #[derive(Clone, Copy)]
@@ -35,6 +35,7 @@ fn first_success(words: &[u64], at: usize, end: usize) -> Option<u32>
 }
 
 // Follows the keys from `known` on down the tree: in each row it hops over the siblings with smaller keys, and goes below the one with the key.
+// A hop is as long as an extent, so no `for` counts `at`.
 // The caller (place_of; in the crate index place_below) has come to the row from `from` up to `to`.
 pub fn follow(words: &[u64], keys: &[u64], from: usize, to: usize, known: usize) -> Place
     requires { Descending words.now keys.now from to known }
@@ -77,7 +78,7 @@ pub fn place_of(words: &[u64], keys: &[u64]) -> Place
     follow(words, keys, 0, words.len(), 0)
 }
 
-// Raises the extents on the way of the keys by `new`.
+// Raises the extents on the way of the keys by `new`. It walks as `follow` does, but writes: one walk for both would need each turn's outcome as a value.
 // The caller's words are the used ones of a well-laid slice, and the slice has room for `new` more.
 fn raise(words: &mut [u64], keys: &[u64], new: u64)
     requires { Nested words.old × (new < most_words) }
@@ -138,7 +139,7 @@ pub fn insert_at(
     number: u32,
     at: usize,
     shared: usize,
-) -> CallAnswer
+) -> Result<Done, Refusal>
     requires { Mergeable tree.old keys.now × (at ≤ length (region tree.old)) × (shared ≤ length keys.now) }
     ensures { record { answer = result; slice = tree.new }
         ≡ insert_at tree.old number at (drop shared keys.now) (from_top (region tree.old) keys.now).raised }
@@ -147,12 +148,12 @@ pub fn insert_at(
     let end = Tree::used(header) + 1;
     let new = keys.len() - shared + 1;
     if end + new > tree.len() {
-        return CallAnswer::Refused(Refusal::NoRoom);
+        return Err(Refusal::NoRoom);
     }
     raise(&mut tree[1..end], keys, new as u64);
     let from = at + 1;
     let to = end + new;
     put_in(&mut tree[from..to], &keys[shared..], number);
     tree[0] = Tree::one_more(header, new);
-    CallAnswer::Kept
+    Ok(Done::Kept)
 }

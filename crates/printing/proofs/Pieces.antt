@@ -1,10 +1,11 @@
 -- What is printed, handed on piece after piece.
 use mathlib.Core.Path.{◌≡◌, refl, sym, ap, subst, ◌∙◌}
+use mathlib.Core.Bool.{true, false, false≢true}
 use mathlib.Core.List.{List, [], ◌++◌, append_assoc, append-nil}
-use Prim.Native.Nat.{ℕ, ◌+◌, ◌-◌, ◌*◌, ◌%◌, ◌≤◌, ◌<◌}
+use Prim.Native.Nat.{ℕ, ◌+◌, ◌-◌, ◌*◌, ◌≤◌, ◌<◌}
 use native.Mathlib.Omega.{arith}
-use lib.ListN.{length, get_or, set, take, length-set, length-append}
-use lib.Seq.{get_or-set_same, get_or-set_other, take-append_seam, drop-append_seam}
+use lib.ListN.{length, take, length-append}
+use lib.Seq.{take-append_seam, drop-append_seam}
 use Rattle.record.specs.Text.{Written, put_at}
 use Rattle.record.specs.Line.{longest_tally, totals_line, records_line}
 use Rattle.record.specs.Marks.{number_count}
@@ -14,53 +15,32 @@ use Rattle.intake.specs.Feed.{fed_whole, printed_of}
 use Rattle.lines.proofs.Writing.{placed, text_there}
 use Rattle.tallying.proofs.Rows.{shown_zero, shown_append}
 use Rattle.printing.specs.Blocks.{block_numbers}
-use Rattle.printing.specs.Handed.{meter_count, bytes_handed, write_failed, StandsAt, NextPiece, HandedOn, SheetNext}
+use Rattle.printing.specs.declared.Meters.{Meters}
+use Rattle.printing.specs.Handed.{StandsAt, NextPiece, HandedOn, SheetNext}
 
 -- ---- the meters
 
-module _ {m : List ℕ} (l : length m ≡ meter_count) where
-  -- the bytes handed on are so many more
-  pub handed_more : (n : ℕ) → write_failed m ≤ 0 → HandedOn m n (set m 2 (bytes_handed m + n))
-  handed_more n h =
-      let other : (i : ℕ) → (i ≡ 2 → ⊥) → get_or (set m 2 (bytes_handed m + n)) i 0 ≡ get_or m i 0 = λ i e. get_or-set_other m 2 i (bytes_handed m + n) 0 e in
-      let e : get_or (set m 2 (bytes_handed m + n)) 2 0 ≡ bytes_handed m + n = get_or-set_same m 2 (bytes_handed m + n) 0 (omega (arith, l)) in
-      record {
-        long = length-set m _ _;
-        read = other 0 (λ i. absurd (omega (arith, i)));
-        reads = other 1 (λ i. absurd (omega (arith, i)));
-        ended = other 4 (λ i. absurd (omega (arith, i)));
-        stopped = λ k. absurd (omega (arith, h, k));
-        all = λ k. (omega arith, e);
-        most = omega (arith, e);
-      }
+-- the bytes handed on are so many more
+pub handed_more : (m : Meters) (n : ℕ) → m.failed ≡ false → HandedOn m n (record m { handed = m.handed + n })
+handed_more m n h =
+    record { read = refl; reads = refl; ended = refl; stopped = λ k. absurd (false≢true (sym h ∙ k)); all = λ _. (h, refl); most = omega arith }
 
-  -- a write has failed
-  pub handed_failed : (n : ℕ) → write_failed m ≤ 0 → HandedOn m n (set m 3 1)
-  handed_failed n h =
-      let other : (i : ℕ) → (i ≡ 3 → ⊥) → get_or (set m 3 1) i 0 ≡ get_or m i 0 = λ i e. get_or-set_other m 3 i 1 0 e in
-      let e : get_or (set m 3 1) 3 0 ≡ 1 = get_or-set_same m 3 1 0 (omega (arith, l)) in
-      record {
-        long = length-set m _ _;
-        read = other 0 (λ i. absurd (omega (arith, i)));
-        reads = other 1 (λ i. absurd (omega (arith, i)));
-        ended = other 4 (λ i. absurd (omega (arith, i)));
-        stopped = λ k. absurd (omega (arith, h, k));
-        all = λ k. absurd (omega (arith, e, k));
-        most = omega (arith, other 2 (λ i. absurd (omega (arith, i))));
-      }
+-- a write has failed
+pub handed_failed : (m : Meters) (n : ℕ) → m.failed ≡ false → HandedOn m n (record m { failed = true })
+handed_failed m n h =
+    record { read = refl; reads = refl; ended = refl; stopped = λ k. absurd (false≢true (sym h ∙ k)); all = λ k. absurd (false≢true (sym k)); most = omega arith }
 
 -- nothing handed on, and some bytes after others
-pub handed_none : (m : List ℕ) → HandedOn m 0 m
-handed_none m = record { long = refl; read = refl; reads = refl; ended = refl; stopped = λ _. refl; all = λ h. (h, omega arith); most = omega arith }
+pub handed_none : (m : Meters) → HandedOn m 0 m
+handed_none m = record { read = refl; reads = refl; ended = refl; stopped = λ _. refl; all = λ h. (h, omega arith); most = omega arith }
 
-pub handed_append : {l m n : List ℕ} {a b : ℕ} → HandedOn l a m → HandedOn m b n → HandedOn l (a + b) n
+pub handed_append : {l m n : Meters} {a b : ℕ} → HandedOn l a m → HandedOn m b n → HandedOn l (a + b) n
 handed_append g h =
     record {
-      long = h.long ∙ g.long;
       read = h.read ∙ g.read;
       reads = h.reads ∙ g.reads;
       ended = h.ended ∙ g.ended;
-      stopped = λ k. h.stopped (subst (λ (x : List ℕ). 0 < write_failed x) (sym (g.stopped k)) k) ∙ g.stopped k;
+      stopped = λ k. h.stopped (ap (λ (x : Meters). x.failed) (g.stopped k) ∙ k) ∙ g.stopped k;
       all = λ f. let (e, i) = h.all f in let (d, j) = g.all e in (d, omega (arith, i, j));
       most = omega (arith, h.most, g.most);
     }
@@ -79,14 +59,13 @@ pub stands_after : (a t b : List ℕ) {n : ℕ} {w : List ℕ} → n ≡ length 
 stands_after a t b e f = rw (e, f, drop-append_seam a (t ++ b)) (take-append_seam t b)
 
 -- a piece of the tally sheet, once what stands before it was handed on
-pub sheet_piece : {m c : List ℕ} {k : ℕ} {M N : List ℕ} (a t b : List ℕ) → SheetNext m c k M → HandedOn M (length a) N → shown_sheet m c k ≡ a ++ (t ++ b)
+pub sheet_piece : {m c : List ℕ} {k : ℕ} {M N : Meters} (a t b : List ℕ) → SheetNext m c k M → HandedOn M (length a) N → shown_sheet m c k ≡ a ++ (t ++ b)
     → NextPiece N t
 sheet_piece {m} {c} {k} a t b s h e =
     let f = fed_whole s.setting s.bytes in
     let l = f.text ++ totals_line s.setting f.session.totals in
     let w : printed_of s.setting s.bytes ≡ (l ++ a) ++ (t ++ b) = rw (s.marked, s.counted, s.recorded, e) (sym (append_assoc l a (t ++ b))) in
     record {
-      long = h.long ∙ s.long;
       setting = s.setting;
       bytes = s.bytes;
       many = h.read ∙ s.many;
@@ -96,72 +75,74 @@ sheet_piece {m} {c} {k} a t b s h e =
 -- ---- block after block
 
 module _ (m c : List ℕ) where
-  -- the rows of the numbers below one were handed on
-  pub record Printing (M o₀ : List ℕ) (N o : List ℕ) (n : ℕ) : Type 0 where
+  -- the rows of so many blocks were handed on
+  pub record Printing (M : Meters) (o₀ : List ℕ) (N : Meters) (o : List ℕ) (k : ℕ) : Type 0 where
     pub output : length o ≡ length o₀
-    pub whole : n % block_numbers ≡ 0
-    pub inside : n ≤ number_count
-    pub handed : HandedOn M (length (tally_lines (shown_from m c 0 n))) N
-    pub short : length (tally_lines (shown_from m c 0 n)) ≤ n * longest_tally
+    pub inside : k * block_numbers ≤ number_count
+    pub handed : HandedOn M (length (tally_lines (shown_from m c 0 (k * block_numbers)))) N
+    pub short : length (tally_lines (shown_from m c 0 (k * block_numbers))) ≤ k * block_numbers * longest_tally
 
   -- none yet
-  pub printing_none : (M o : List ℕ) → Printing M o M o 0
+  pub printing_none : (M : Meters) (o : List ℕ) → Printing M o M o 0
   printing_none M o =
       record {
         output = refl;
-        whole = refl;
         inside = omega arith;
         handed = subst (λ (t : List ℕ). HandedOn M (length t) M) (sym (shown_zero m c 0)) (handed_none M);
         short = omega (arith, ap length (shown_zero m c 0));
       }
 
   -- the rows of a block may be handed on
-  pub rows_next : {k n : ℕ} {M N o₀ o : List ℕ} → SheetNext m c k M → Printing M o₀ N o n → n < number_count
-      → NextPiece N (tally_lines (shown_from m c n block_numbers))
+  pub rows_next : {i k : ℕ} {M N : Meters} {o₀ o : List ℕ} → SheetNext m c i M → Printing M o₀ N o k → k * block_numbers < number_count
+      → NextPiece N (tally_lines (shown_from m c (k * block_numbers) block_numbers))
   unfolding shown_sheet
-  rows_next {k} {n} s p h =
+  rows_next {i} {k} s p h =
+      let n : ℕ = k * block_numbers in
       let r : ℕ = number_count - (n + block_numbers) in
-      let e : number_count ≡ n + (block_numbers + r) = omega (arith, p.whole, h) in
+      let e : number_count ≡ n + (block_numbers + r) = omega (arith, h) in
       let z : 0 + n ≡ n = omega arith in
       let rows : ℕ → ℕ → List ℕ = λ i j. tally_lines (shown_from m c i j) in
       let first = rw z at (shown_append m c 0 n (block_numbers + r)) in
       let all : rows 0 number_count ≡ rows 0 n ++ (rows n block_numbers ++ rows (n + block_numbers) r) =
       ap (rows 0) e ∙ first ∙ ap (λ (t : List ℕ). rows 0 n ++ t) (shown_append m c n block_numbers r) in
-      sheet_piece (rows 0 n) (rows n block_numbers) (rows (n + block_numbers) r ++ records_line k) s p.handed
-      (ap (λ (t : List ℕ). t ++ records_line k) all ∙ append_assoc (rows 0 n) (rows n block_numbers ++ rows (n + block_numbers) r) (records_line k)
-      ∙ ap (λ (t : List ℕ). rows 0 n ++ t) (append_assoc (rows n block_numbers) (rows (n + block_numbers) r) (records_line k)))
+      sheet_piece (rows 0 n) (rows n block_numbers) (rows (n + block_numbers) r ++ records_line i) s p.handed
+      (ap (λ (t : List ℕ). t ++ records_line i) all ∙ append_assoc (rows 0 n) (rows n block_numbers ++ rows (n + block_numbers) r) (records_line i)
+      ∙ ap (λ (t : List ℕ). rows 0 n ++ t) (append_assoc (rows n block_numbers) (rows (n + block_numbers) r) (records_line i)))
 
   -- one block more
-  pub printing_more : {M N N' o₀ o p : List ℕ} {n : ℕ} → Printing M o₀ N o n → n < number_count → length p ≡ length o
-      → length (tally_lines (shown_from m c n block_numbers)) ≤ block_numbers * longest_tally
-      → HandedOn N (length (tally_lines (shown_from m c n block_numbers))) N'
-      → Printing M o₀ N' p (n + block_numbers)
-  printing_more {M} {N' = N'} {n = n} r h l k g =
+  pub printing_more : {M N N' : Meters} {o₀ o p : List ℕ} {k : ℕ} → Printing M o₀ N o k → k * block_numbers < number_count → length p ≡ length o
+      → length (tally_lines (shown_from m c (k * block_numbers) block_numbers)) ≤ block_numbers * longest_tally
+      → HandedOn N (length (tally_lines (shown_from m c (k * block_numbers) block_numbers))) N'
+      → Printing M o₀ N' p (k + 1)
+  printing_more {M} {N' = N'} {k = k} r h l s g =
+      let n : ℕ = k * block_numbers in
       let z : 0 + n ≡ n = omega arith in
-      let e =
-      ap length (rw z at (shown_append m c 0 n block_numbers))
+      let y : (k + 1) * block_numbers ≡ n + block_numbers = omega arith in
+      let e : length (tally_lines (shown_from m c 0 ((k + 1) * block_numbers)))
+      ≡ length (tally_lines (shown_from m c 0 n)) + length (tally_lines (shown_from m c n block_numbers)) =
+      ap (λ (j : ℕ). length (tally_lines (shown_from m c 0 j))) y
+      ∙ ap length (rw z at (shown_append m c 0 n block_numbers))
       ∙ length-append (tally_lines (shown_from m c 0 n)) (tally_lines (shown_from m c n block_numbers)) in
       record {
         output = l ∙ r.output;
-        whole = omega (arith, r.whole);
-        inside = omega (arith, r.whole, h);
+        inside = omega (arith, h);
         handed = subst (λ (i : ℕ). HandedOn M i N') (sym e) (handed_append r.handed g);
-        short = omega (arith, e, r.short, k);
+        short = omega (arith, e, r.short, s);
       }
 
   -- the last line may be handed on
-  pub records_next : {k n : ℕ} {M N o₀ o : List ℕ} → SheetNext m c k M → Printing M o₀ N o n → number_count ≤ n → NextPiece N (records_line k)
+  pub records_next : {i k : ℕ} {M N : Meters} {o₀ o : List ℕ} → SheetNext m c i M → Printing M o₀ N o k → number_count ≤ k * block_numbers → NextPiece N (records_line i)
   unfolding shown_sheet
-  records_next {k} {n} s p h =
-      let i : n ≡ number_count = omega (arith, p.inside) in
-      sheet_piece (tally_lines (shown_from m c 0 number_count)) (records_line k) [] s (rw i at p.handed)
-      (ap (λ (t : List ℕ). tally_lines (shown_from m c 0 number_count) ++ t) (sym (append-nil (records_line k))))
+  records_next {i} {k} s p h =
+      let e : k * block_numbers ≡ number_count = omega (arith, p.inside) in
+      sheet_piece (tally_lines (shown_from m c 0 number_count)) (records_line i) [] s (rw e at p.handed)
+      (ap (λ (t : List ℕ). tally_lines (shown_from m c 0 number_count) ++ t) (sym (append-nil (records_line i))))
 
   -- all of it
-  pub printing_done : (k : ℕ) {n : ℕ} {M N N' o₀ o : List ℕ} → Printing M o₀ N o n → number_count ≤ n → HandedOn N (length (records_line k)) N'
-      → HandedOn M (length (shown_sheet m c k)) N'
+  pub printing_done : (i : ℕ) {k : ℕ} {M N N' : Meters} {o₀ o : List ℕ} → Printing M o₀ N o k → number_count ≤ k * block_numbers
+      → HandedOn N (length (records_line i)) N' → HandedOn M (length (shown_sheet m c i)) N'
   unfolding shown_sheet
-  printing_done k {n} {M} {N' = N'} r h g =
-      let i : n ≡ number_count = omega (arith, r.inside) in
-      let e = sym (length-append (tally_lines (shown_from m c 0 number_count)) (records_line k)) in
-      subst (λ (j : ℕ). HandedOn M j N') e (handed_append (rw i at r.handed) g)
+  printing_done i {k} {M} {N' = N'} r h g =
+      let d : k * block_numbers ≡ number_count = omega (arith, r.inside) in
+      let e = sym (length-append (tally_lines (shown_from m c 0 number_count)) (records_line i)) in
+      subst (λ (j : ℕ). HandedOn M j N') e (handed_append (rw d at r.handed) g)

@@ -7,27 +7,28 @@ mod writing;
 pub use tally::write_tally;
 pub use writing::{hand_on, report};
 
-// The meters of a run, lent to every function that reads or writes: only those beside the system's calls move them.
-#[derive(Drop)]
-pub struct Meter {}
+// Why the reads of a run have ended.
+#[derive(Clone, Copy)]
+pub enum End {
+    // One said that there is no more.
+    NoMore,
+    // One failed.
+    Unread,
+}
 
-impl Meter {
+// The meters of a run, lent to every function that reads or writes: only those beside the system's calls move them.
+#[derive(Clone, Copy, Default)]
+pub struct Meters {
     // The bytes that the reads delivered.
-    pub const READ: usize = 0;
+    pub read: u64,
     // The reads that were made.
-    pub const READS: usize = 1;
+    pub reads: u64,
     // The bytes that were handed on to be written.
-    pub const HANDED: usize = 2;
+    pub handed: u64,
     // Whether a write has failed.
-    pub const FAILED: usize = 3;
-    // Whether the reads have ended, and why.
-    pub const ENDED: usize = 4;
-    // How many there are.
-    pub const WORDS: usize = 5;
-    // They ended with one that said that there is no more.
-    pub const NO_MORE: u64 = 1;
-    // They ended with one that failed.
-    pub const UNREAD: u64 = 2;
+    pub failed: bool,
+    // Why the reads have ended, once they have.
+    pub ended: Option<End>,
 }
 
 // A block of the tally sheet.

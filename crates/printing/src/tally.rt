@@ -8,7 +8,7 @@ ghost use Rattle.printing.specs.Blocks.{block_numbers};
 ghost use Rattle.printing.specs.Handed.{Holds, NextPiece, HandedOn, SheetNext};
 
 use crate::writing::hand_on;
-use crate::{Block, Meter};
+use crate::{Block, Meters};
 use tallying::{put_records, put_rows};
 
 // Puts a block of the tally sheet into the output, the rows of the numbers from one on, and hands it on.
@@ -18,7 +18,7 @@ fn write_rows(
     counters: &[u64],
     from: usize,
     output: &mut [u8],
-    meters: &mut [u64; Meter::WORDS],
+    meters: &mut Meters,
 )
     requires { Showable marks.now counters.now from block_numbers 0 output.old
         × NextPiece meters.old (tally_lines (shown_from marks.now counters.now from block_numbers))
@@ -38,15 +38,13 @@ pub fn write_tally(
     marks: &[u8],
     counters: &[u64],
     output: &mut [u8],
-    meters: &mut [u64; Meter::WORDS],
+    meters: &mut Meters,
 )
     requires { Showable marks.now counters.now 0 block_numbers 0 output.old × SheetNext marks.now counters.now records meters.old }
     ensures { HandedOn meters.old (length (shown_sheet marks.now counters.now records)) meters.new }
 {
-    let mut from: usize = 0;
-    while from < marks.len() {
-        write_rows(rt, marks, counters, from, output, meters);
-        from += Block::NUMBERS;
+    for block in 0..marks.len() / Block::NUMBERS {
+        write_rows(rt, marks, counters, block * Block::NUMBERS, output, meters);
     }
     let end = put_records(output, records);
     hand_on(rt, &output[..end], meters);

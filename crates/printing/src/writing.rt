@@ -2,23 +2,23 @@
 ghost use Rattle.std.specs.Prelude.{length};
 ghost use Rattle.printing.specs.Handed.{Holds, NextPiece, HandedOn};
 
-use crate::Meter;
+use crate::Meters;
 use std::fmt::InlineText;
 use std::io::Error;
 
 // Hands the next piece of the output on to be written, unless a write has failed. One that fails is reported.
-pub fn hand_on(rt: &HostRuntime, text: &[u8], meters: &mut [u64; Meter::WORDS])
+pub fn hand_on(rt: &HostRuntime, text: &[u8], meters: &mut Meters)
     requires { NextPiece meters.old text.now × Holds (length text.now) meters.old }
     ensures { HandedOn meters.old (length text.now) meters.new }
 {
-    if meters[Meter::FAILED] > 0 {
+    if meters.failed {
         return;
     }
     match rt.write_all(text) {
-        Ok(()) => meters[Meter::HANDED] += text.len() as u64,
+        Ok(()) => meters.handed += text.len() as u64,
         Err(error) => {
             report(rt, "writing standard output", error);
-            meters[Meter::FAILED] = 1;
+            meters.failed = true;
         }
     }
 }
@@ -32,8 +32,6 @@ pub fn report(rt: &HostRuntime, what: &str, error: Error) {
 
 // The system's words for an error, without the number that std puts behind them.
 fn words_of(said: &str) -> &str {
-    match said.split_once(" (os error ") {
-        Some((words, _)) => words,
-        None => said,
-    }
+    said.split_once(" (os error ")
+        .map_or(said, |(words, _)| words)
 }

@@ -1,4 +1,5 @@
 -- The query by the tests of the code, and its walk from the state before the first candidate.
+use Rattle.std.specs.Prelude.{Err, Ok, Result, ℕ}
 use Prim.Native.Nat.{ℕ, ◌+◌, ◌-◌, ◌≤◌, ◌<◌}
 use mathlib.Core.Path.{◌≡◌, refl, sym, ap, ◌∙◌}
 use mathlib.Core.Bool.{Bool, true, false}
@@ -10,21 +11,19 @@ use borrow.Author.Tests.{lt-ltb, le-ltb}
 use Rattle.clause.specs.Clause.{Accepted, shape}
 use Rattle.clause.proofs.Tests.{and_l, and_r}
 use Rattle.clause.specs.declared.Fault.{Fault}
-use Rattle.clause.specs.declared.Shape.{Shape}
-use Rattle.clause.specs.declared.Shape.TheVariants.{Faulty, Whole}
 use Rattle.machine.specs.Machine.{State, initial, unfilled}
 use Rattle.machine.proofs.Safe.{initial_safe}
 use Rattle.tree.specs.declared.Refusal.{Refusal}
-use Rattle.tree.specs.declared.Refusal.TheVariants.{BadSlice, Broken, ShortWitness}
+use Rattle.tree.specs.declared.Refusal.TheVariants.{BadSlice, Broken, BadClause, ShortWitness}
 use Rattle.tree.specs.Laid.{used_of, region, sized, well_laid}
 use Rattle.tree.proofs.Grow.{sized_low, laid_room}
-use Rattle.walk.specs.declared.QueryAnswer.{QueryAnswer}
+use Rattle.walk.specs.declared.Verdict.{Verdict}
 use Rattle.walk.specs.Walk.{Answer, covered, not_covered, spent, broken, up_to}
 use Rattle.walk.specs.Words.{walk_words}
 use Rattle.walk.specs.Query.{witness_words, machine, Asked, unanswered, answer_by, walk_slice, query_as, query}
 use Rattle.cells.specs.Inner.Cells.{count_at, cell_count, no_position, position_in, placed, state_of, Tables, Walkable}
 use Rattle.walking.specs.Inner.Findings.{Out, seen}
-use Rattle.query.specs.Inner.Telling.{told_out, refusal_of}
+use Rattle.query.specs.Inner.Telling.{told_out}
 
 -- the cells before the first candidate
 abbrev pub fresh : List ℕ
@@ -69,11 +68,11 @@ module _ (S d : List ℕ) (b : ℕ) (W : List ℕ) where
     pub some_words : 2 ≤ length S
     some_words = let t : T (sized S) = rw (sym size ∙ good) tt in leb→le 2 (length S) (search (and_l, and_r))
 
-    pub query_fault : {s : Shape} {f : Fault} {r : Refusal} → s ≡ Faulty f → s ≡ shape d → r ≡ refusal_of s → unanswered r W ≡ query S d b W
-    unfolding refusal_of
-    query_fault g h e = rw (query_sized, e, sym h ∙ g, g)
+    pub query_fault : {s : Result ℕ Fault} {f : Fault} {r : Result Verdict Refusal} → s ≡ Err f → s ≡ shape d → r ≡ Err (BadClause f)
+        → record { answer = r; witness = W } ≡ query S d b W
+    query_fault g h e = rw (query_sized, e, sym h ∙ g)
 
-    module _ {n : ℕ} (whole : shape d ≡ Whole n) where
+    module _ {n : ℕ} (whole : shape d ≡ Ok n) where
       pub query_witness : length W < witness_words → unanswered ShortWitness W ≡ query S d b W
       query_witness h = rw (query_sized, whole, lt-ltb (length W) witness_words h)
 
@@ -87,7 +86,7 @@ module _ (S d : List ℕ) (b : ℕ) (W : List ℕ) where
 -- an accepted clause on a well-laid slice passes all tests
 pub decided : (T d : List ℕ) (b : ℕ) → sized T ≡ true → well_laid T ≡ true → Accepted d → {e : ℕ} → e ≡ used_of (get_or T 0 0) + 1
     → {o : Out} → o ≡ seen (walk_words (machine d) (up_to b) (take (e - 1) (drop 1 T)) (state_of no_position fresh) 0)
-    → {r : QueryAnswer} → r ≡ (told_out b (replicate witness_words 0) o).answer → r ≡ (query T d b (replicate witness_words 0)).answer
+    → {r : Result Verdict Refusal} → r ≡ (told_out b (replicate witness_words 0) o).answer → r ≡ (query T d b (replicate witness_words 0)).answer
 decided T d b s l A e f g =
     let W : List ℕ = replicate witness_words 0 in
     let low = sized_low T s in

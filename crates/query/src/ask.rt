@@ -5,15 +5,15 @@ ghost use Rattle.clause.specs.Clause.{Accepted};
 ghost use Rattle.tree.specs.Laid.{used_of, sized, well_laid};
 ghost use Rattle.cells.specs.Inner.Cells.{cell_count, no_position, state_of};
 ghost use Rattle.walking.specs.Inner.Findings.{out_by};
-ghost use Rattle.query.specs.Inner.Telling.{refusal_of, told_out};
+ghost use Rattle.query.specs.Inner.Telling.{told_out};
 ghost use Rattle.walk.specs.Query as q;
 ghost use Rattle.walk.specs.Query.{witness_words};
 
 use crate::top::walk_top;
 use cells::{Path, wide};
-use clause::{Clause, Shape};
+use clause::Clause;
 use tree::{Refusal, Tree};
-use walk::{QueryAnswer, Witness};
+use walk::{Verdict, Witness};
 use walking::{End, Finding};
 
 // A cell as a witness word.
@@ -49,27 +49,17 @@ fn show(cells: &[u8; Path::CELLS], witness: &mut [u16])
     }
 }
 
-// What a reading that finds no whole clause is refused with. The caller is query, or in the crate index query_indexed.
-pub fn refusal(shape: Shape) -> Refusal
-    ensures { result ≡ refusal_of shape }
-{
-    match shape {
-        Shape::Faulty(fault) => Refusal::BadClause(fault),
-        Shape::Whole(_) => Refusal::Broken,
-    }
-}
-
 // The answer that a finding comes to, without a witness. The caller is a query of this crate, or in the crate index query_indexed.
-pub fn told(finding: Finding, budget: u64) -> QueryAnswer
+pub fn told(finding: Finding, budget: u64) -> Result<Verdict, Refusal>
     ensures { (W cells : List ℕ) → result ≡ (told_out budget W (out_by finding.end finding.count cells)).answer }
 {
     let end = finding.end;
     let count = finding.count;
     match end {
-        End::Missed => QueryAnswer::NotCovered(count),
-        End::Found(number) => QueryAnswer::Covered(number, count),
-        End::Broken => QueryAnswer::Unanswered(Refusal::Broken),
-        End::Spent => QueryAnswer::Unanswered(Refusal::Spent(budget)),
+        End::Missed => Ok(Verdict::NotCovered(count)),
+        End::Found(number) => Ok(Verdict::Covered(number, count)),
+        End::Broken => Err(Refusal::Broken),
+        End::Spent => Err(Refusal::Spent(budget)),
     }
 }
 
@@ -79,7 +69,7 @@ fn answer(
     budget: u64,
     cells: &[u8; Path::CELLS],
     witness: &mut [u16],
-) -> QueryAnswer
+) -> Result<Verdict, Refusal>
     requires { (length cells.now ≡ cell_count) × (witness_words ≤ length witness.old) }
     ensures { record { answer = result; witness = witness.new }
         ≡ told_out budget witness.old (out_by finding.end finding.count cells.now) }
@@ -93,7 +83,7 @@ fn answer(
 }
 
 // Walks the used words of a slice from the state before the first candidate, and answers.
-fn search(tree: &[u64], words: &[u16], budget: u64, witness: &mut [u16]) -> QueryAnswer
+fn search(tree: &[u64], words: &[u16], budget: u64, witness: &mut [u16]) -> Result<Verdict, Refusal>
     requires { Accepted words.now × (1 ≤ length tree.now) × (used_of (get_or tree.now 0 0) ≤ length tree.now - 1)
         × (witness_words ≤ length witness.old) }
     ensures { record { answer = result; witness = witness.new }
@@ -110,7 +100,7 @@ fn search(tree: &[u64], words: &[u16], budget: u64, witness: &mut [u16]) -> Quer
 }
 
 // What a query of an accepted clause answers, without a witness: the caller has read it, and holds the slice well laid.
-pub fn decide(tree: &[u64], words: &[u16], budget: u64) -> QueryAnswer
+pub fn decide(tree: &[u64], words: &[u16], budget: u64) -> Result<Verdict, Refusal>
     requires { (sized tree.now ≡ true) × (well_laid tree.now ≡ true) × Accepted words.now }
     ensures { result ≡ (q.query tree.now words.now budget (replicate witness_words 0)).answer }
 {
@@ -124,23 +114,20 @@ pub fn decide(tree: &[u64], words: &[u16], budget: u64) -> QueryAnswer
 }
 
 // Whether a kept clause covers the words: the clause's number and the count, with the witness, or the count, or a refusal.
-pub fn query(tree: &[u64], words: &[u16], budget: u64, witness: &mut [u16]) -> QueryAnswer
+pub fn query(tree: &[u64], words: &[u16], budget: u64, witness: &mut [u16]) -> Result<Verdict, Refusal>
     ensures { record { answer = result; witness = witness.new }
         ≡ q.query tree.now words.now budget witness.old }
 {
     if !Tree::sized(tree.len()) {
-        return QueryAnswer::Unanswered(Refusal::BadSlice);
+        return Err(Refusal::BadSlice);
     }
-    let shape = reading::read(words);
-    let Shape::Whole(_) = shape else {
-        return QueryAnswer::Unanswered(refusal(shape));
-    };
+    reading::read(words)?;
     if witness.len() < Witness::WORDS {
-        return QueryAnswer::Unanswered(Refusal::ShortWitness);
+        return Err(Refusal::ShortWitness);
     }
     let header = Tree::header(tree[0]);
     if header.used > tree.len() - 1 {
-        return QueryAnswer::Unanswered(Refusal::Broken);
+        return Err(Refusal::Broken);
     }
     search(tree, words, budget, witness)
 }

@@ -4,4 +4,4 @@
 mod ask;
 mod top;
 
-pub use ask::{decide, query, refusal, told};
+pub use ask::{decide, query, told};

@@ -1,4 +1,5 @@
 -- The claims of specs/Laws.
+use Rattle.std.specs.Prelude.{Err, Ok, Result, ⊤}
 use mathlib.Core.Path.{◌≡◌, refl, sym, ap, ◌∙◌}
 use mathlib.Core.Logic.{◌↔◌, ◌≢◌}
 use mathlib.Core.Bool.{Bool, true, false, cond}
@@ -27,8 +28,6 @@ use Rattle.readback.specs.Readback.{normal, clause_of}
 use Rattle.readback.specs.Saved.{IsTreeOf, IsSaved, pairs_of, readable, of_clauses}
 use Rattle.readback.specs.Calls.{Given, check, over, unread, written_out, read_back}
 use Rattle.readback.specs.Laws.{Good, ReadsBack, IsRead, ReadsKept, ReadbackLaws}
-use Rattle.readback.specs.declared.CheckAnswer.TheVariants.{Failed, Passed}
-use Rattle.readback.specs.declared.ReadAnswer.TheVariants.{Read}
 use Rattle.readback.proofs.Normal.{reads_back, path_readable}
 use Rattle.readback.proofs.Saved.{readable_iff, sound_good, same_keys, right_size, laid, of_clauses_lem, is_tree, only, finds}
 
@@ -64,31 +63,35 @@ pub record Passing (T : List ℕ) : Type 0 where
   pub laid : well_laid T ≡ true
   pub of_clauses_lem : of_clauses (decode T) ≡ true
 
-pub check_passing : (T : List ℕ) → check T ≡ Passed → Passing T
+-- what a check answers that refuses nothing
+abbrev pub passes : Result ⊤ Refusal
+passes = Ok tt
+
+pub check_passing : (T : List ℕ) → check T ≡ Ok tt → Passing T
 unfolding check
 check_passing T e = go (sized T) refl (well_laid T) refl (of_clauses (decode T)) refl e
   where
     go : (a : Bool) → sized T ≡ a → (b : Bool) → well_laid T ≡ b → (c : Bool) → of_clauses (decode T) ≡ c
-        → cond a (cond b (cond c Passed (Failed NoSuchTree)) (Failed Broken)) (Failed BadSlice) ≡ Passed → Passing T
+        → cond a (cond b (cond c passes (Err NoSuchTree)) (Err Broken)) (Err BadSlice) ≡ Ok tt → Passing T
     go false a b l c k e = apart cc
     go true a false l c k e = apart cc
     go true a true l false k e = apart cc
     go true a true l true k e = record { right_size = a; laid = l; of_clauses_lem = k }
 
-pub passing_check : (T : List ℕ) → Passing T → check T ≡ Passed
+pub passing_check : (T : List ℕ) → Passing T → check T ≡ Ok tt
 unfolding check
 passing_check T p = rw (p.right_size, p.laid, p.of_clauses_lem)
 
 -- and one that is refused fails one of them
-pub check_bad : (T : List ℕ) → sized T ≡ false → check T ≡ Failed BadSlice
+pub check_bad : (T : List ℕ) → sized T ≡ false → check T ≡ Err BadSlice
 unfolding check
 check_bad T e = rw e
 
-pub check_broken : (T : List ℕ) → sized T ≡ true → well_laid T ≡ false → check T ≡ Failed Broken
+pub check_broken : (T : List ℕ) → sized T ≡ true → well_laid T ≡ false → check T ≡ Err Broken
 unfolding check
 check_broken T e f = rw (e, f)
 
-pub check_foreign : (T : List ℕ) → sized T ≡ true → well_laid T ≡ true → of_clauses (decode T) ≡ false → check T ≡ Failed NoSuchTree
+pub check_foreign : (T : List ℕ) → sized T ≡ true → well_laid T ≡ true → of_clauses (decode T) ≡ false → check T ≡ Err NoSuchTree
 unfolding check
 check_foreign T e f g = rw (e, f, g)
 
@@ -114,11 +117,11 @@ pub read_short : (T : List ℕ) (n : ℕ) (W : List ℕ) → sized T ≡ true �
 unfolding read_back
 read_short T n W e h = rw (e, lt-leb max_words (length W) h)
 
-pub read_failed : (T : List ℕ) (n : ℕ) (W : List ℕ) (r : Refusal) → sized T ≡ true → max_words ≤ length W → check T ≡ Failed r → read_back T n W ≡ unread r W
+pub read_failed : (T : List ℕ) (n : ℕ) (W : List ℕ) (r : Refusal) → sized T ≡ true → max_words ≤ length W → check T ≡ Err r → read_back T n W ≡ unread r W
 unfolding check read_back
 read_failed T n W r e room f = rw (e, le-leb max_words (length W) room) (go (well_laid T) (of_clauses (decode T)) (rw e at f))
   where
-    go : (b c : Bool) → cond b (cond c Passed (Failed NoSuchTree)) (Failed Broken) ≡ Failed r
+    go : (b c : Bool) → cond b (cond c passes (Err NoSuchTree)) (Err Broken) ≡ Err r
         → cond b (cond c (written_out (find n (decode T)) W) (unread NoSuchTree W)) (unread Broken W) ≡ unread r W
     go false c q = let s : Broken ≡ r = cc in rw s
     go true false q = let s : NoSuchTree ≡ r = cc in rw s
@@ -128,7 +131,7 @@ module _ (T : List ℕ) (K : List Pair) (I : IsTreeOf T K) (W : List ℕ) (room 
   passing : Passing T
   passing = saved_passing T K I
 
-  each : (p : Pair) → Memᴰ p K → read_back T p.number W ≡ record { answer = Read (length p.clause); output = over (normal p.clause) W }
+  each : (p : Pair) → Memᴰ p K → read_back T p.number W ≡ record { answer = Ok (length p.clause); output = over (normal p.clause) W }
   unfolding written_out
   each p m =
       let t = all_mem I.sound m in
@@ -150,12 +153,12 @@ module _ (T : List ℕ) (K : List Pair) (I : IsTreeOf T K) (W : List ℕ) (room 
           go (some cs) e = let (p, m, q, r) = only T K I n l cs e in absurd (h p m (sym r))
 
 -- what is read is the clause of a path of the tree
-reads : (T : List ℕ) (n : ℕ) (W : List ℕ) (k : ℕ) → n < first_key → (read_back T n W).answer ≡ Read k → IsRead T n W k
+reads : (T : List ℕ) (n : ℕ) (W : List ℕ) (k : ℕ) → n < first_key → (read_back T n W).answer ≡ Ok k → IsRead T n W k
 unfolding read_back written_out
 reads T n W k l e = go (sized T) refl (leb max_words (length W)) refl (well_laid T) refl (of_clauses (decode T)) refl (find n (decode T)) refl e
   where
     tested : sized T ≡ true → leb max_words (length W) ≡ true → well_laid T ≡ true → of_clauses (decode T) ≡ true → (cs : List ℕ) → find n (decode T) ≡ some cs
-        → Read (length (clause_of cs)) ≡ Read k → IsRead T n W k
+        → (written_out (some cs) W).answer ≡ Ok k → IsRead T n W k
     tested a b c d cs f e =
         let K = pairs_of (decode T) in
         let I = is_tree T a c d in
@@ -174,7 +177,7 @@ reads T n W k l e = go (sized T) refl (leb max_words (length W)) refl (well_laid
 
     go : (a : Bool) → sized T ≡ a → (b : Bool) → leb max_words (length W) ≡ b → (c : Bool) → well_laid T ≡ c → (d : Bool) → of_clauses (decode T) ≡ d
         → (o : Option (List ℕ)) → find n (decode T) ≡ o
-        → (cond a (cond b (cond c (cond d (written_out o W) (unread NoSuchTree W)) (unread Broken W)) (unread ShortOutput W)) (unread BadSlice W)).answer ≡ Read k
+        → (cond a (cond b (cond c (cond d (written_out o W) (unread NoSuchTree W)) (unread Broken W)) (unread ShortOutput W)) (unread BadSlice W)).answer ≡ Ok k
         → IsRead T n W k
     go false a b l c k d m o f e = apart cc
     go true a false l c k d m o f e = apart cc
@@ -209,5 +212,5 @@ readback_laws =
     }
 
 -- a slice passes exactly if it is the tree of some clauses, or of none
-pub passed_saved : (T : List ℕ) → (check T ≡ Passed) ↔ IsSaved T
+pub passed_saved : (T : List ℕ) → (check T ≡ Ok tt) ↔ IsSaved T
 passed_saved T = (λ e. (pairs_of (decode T), passing_tree T (check_passing T e)), λ I. passing_check T (saved_passing T I.0 I.1))

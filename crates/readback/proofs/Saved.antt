@@ -1,4 +1,5 @@
 -- A slice passes exactly if it is the tree of some clauses.
+use Rattle.std.specs.Prelude.{Err, Ok, Result, ℕ}
 use mathlib.Core.Path.{◌≡◌, refl, sym, ap, ap₂, ◌∙◌}
 use mathlib.Core.Logic.{◌↔◌, ◌≢◌, inl, inr}
 use mathlib.Core.Bool.{true, false, ◌&&◌, not, true≢false, and-eq-true_iff}
@@ -12,8 +13,6 @@ use borrow.Author.Tests.{lt-ltb, ltb-true, le-leb, leb-true, ne_eqb, eq-eqb}
 use Rattle.clause.specs.Lists.{All, none as All-none, also, Each, nobody, besides, alike}
 use Rattle.clause.specs.Word.{Words}
 use Rattle.clause.specs.Clause.{shape, Accepted}
-use Rattle.clause.specs.declared.Shape.{Shape}
-use Rattle.clause.specs.declared.Shape.TheVariants.{Faulty, Whole}
 use Rattle.clause.proofs.Lists.{alike_same, alike_refl, all_head, all_tail, all_mem, all_map, each-head, each_tail}
 use Rattle.clause.proofs.Literals.{accepted}
 use Rattle.machine.specs.Instr.{key}
@@ -38,6 +37,7 @@ use Rattle.readback.specs.Laws.{Good, IsPath, Readable}
 use Rattle.readback.specs.Saved.{IsTreeOf, pairs_of, narrow, is_whole, has_keys, readable, all_readable, is_new, all_differ, numbers_of, of_clauses}
 use Rattle.readback.proofs.Listed.{all_listed, has_listed, listed_has, apart_paths, length_paths}
 use Rattle.readback.proofs.Normal.{path_readable}
+use Rattle.clause.specs.declared.Fault.{Fault}
 
 -- ---- the tests
 
@@ -52,9 +52,9 @@ words_narrow (also {x = w} h p) = rw (lt-ltb w (2 ^ 16) h) (words_narrow p)
 whole_accepted : (c : List ℕ) → is_whole (shape c) ≡ true → Accepted c
 whole_accepted c e = go (shape c) refl e
   where
-    go : (s : Shape) → shape c ≡ s → is_whole s ≡ true → Accepted c
-    go (Faulty f) q e = absurd (true≢false (sym e))
-    go (Whole n) q e = (n, q)
+    go : (s : Result ℕ Fault) → shape c ≡ s → is_whole s ≡ true → Accepted c
+    go (Err f) q e = absurd (true≢false (sym e))
+    go (Ok n) q e = (n, q)
 
 pub readable_iff : (p : List ℕ) → (readable p ≡ true) ↔ Readable p
 unfolding readable has_keys

@@ -1,5 +1,5 @@
 -- What is claimed of reading back and of checking, so that their definitions can be believed.
-use Rattle.std.specs.Prelude.{◌≡◌, ◌↔◌, ◌≢◌, true, ℕ, ◌≤◌, ◌<◌, length}
+use Rattle.std.specs.Prelude.{◌≡◌, ◌↔◌, ◌≢◌, true, ℕ, ◌≤◌, ◌<◌, length, Ok}
 use Rattle.std.proofs.Math.Option.{some}
 use mathlib.Core.List.{List, Memᴰ}
 use Rattle.clause.specs.Word.{Words}
@@ -12,7 +12,6 @@ use Rattle.tree.specs.Entries.{Pair}
 use Rattle.readback.specs.Readback.{normal, Numbered, clause_of}
 use Rattle.readback.specs.Saved.{IsTreeOf, IsSaved, pairs_of, readable, of_clauses}
 use Rattle.readback.specs.Calls.{over, unread, read_back}
-use Rattle.readback.specs.declared.ReadAnswer.TheVariants.{Read}
 use Rattle.tree.specs.declared.Refusal.TheVariants.{NoSuchNumber}
 
 -- an accepted clause of 16-bit words
@@ -56,7 +55,7 @@ pub record IsRead (T : List ℕ) (n : ℕ) (W : List ℕ) (k : ℕ) : Type 0 whe
 pub record ReadsKept (T : List ℕ) (K : List Pair) (W : List ℕ) : Type 0 where
   -- by its number each clause comes back, with its variables numbered by first appearance, and the other words stay
   pub each : (p : Pair) → Memᴰ p K
-      → read_back T p.number W ≡ record { answer = Read (length p.clause); output = over (normal p.clause) W }
+      → read_back T p.number W ≡ record { answer = Ok (length p.clause); output = over (normal p.clause) W }
   -- that is the clause up to variable names, and word for word if its variables were so numbered
   pub variant : (p : Pair) → Memᴰ p K → Variants (normal p.clause) p.clause
   pub same : (p : Pair) → Memᴰ p K → Numbered 0 p.clause → normal p.clause ≡ p.clause
@@ -76,5 +75,5 @@ pub record ReadbackLaws : Type 0 where
   -- then it is that of the clauses read off its paths
   pub pairs : (T : List ℕ) → IsSaved T → IsTreeOf T (pairs_of (decode T))
   -- what is read back, from any slice, and from the tree of some clauses
-  pub reads : (T : List ℕ) (n : ℕ) (W : List ℕ) (k : ℕ) → n < first_key → (read_back T n W).answer ≡ Read k → IsRead T n W k
+  pub reads : (T : List ℕ) (n : ℕ) (W : List ℕ) (k : ℕ) → n < first_key → (read_back T n W).answer ≡ Ok k → IsRead T n W k
   pub kept : (T : List ℕ) (K : List Pair) → IsTreeOf T K → (W : List ℕ) → max_words ≤ length W → ReadsKept T K W

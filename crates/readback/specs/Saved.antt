@@ -1,15 +1,14 @@
 -- A saved slice: when it is the tree of some clauses, and the test of it.
-use Rattle.std.specs.Prelude.{◌≡◌, ◌≢◌, Bool, true, false, ◌&&◌, not, List, [], ◌∷◌, map, ℕ, ◌^◌, ◌≤◌, ◌<◌, ltb, eqb, length}
+use Rattle.std.specs.Prelude.{◌≡◌, ◌≢◌, Bool, true, false, ◌&&◌, not, List, [], ◌∷◌, map, ℕ, ◌^◌, ◌≤◌, ◌<◌, ltb, eqb, length, Err, Ok, Result}
 use Rattle.clause.specs.Lists.{All, Each, alike}
 use Rattle.clause.specs.Clause.{shape}
-use Rattle.clause.specs.declared.Shape.{Shape}
-use Rattle.clause.specs.declared.Shape.TheVariants.{Faulty, Whole}
 use Rattle.machine.specs.Compile.{Variants, keys}
 use Rattle.tree.specs.Forest.{Forest, size, layout}
 use Rattle.tree.specs.Laid.{max_kept, least_words, most_words}
 use Rattle.tree.specs.Entries.{Entry, Pair, Sound, entry, build}
 use Rattle.tree.specs.Laws.{paths_of}
 use Rattle.readback.specs.Readback.{clause_of}
+use Rattle.clause.specs.declared.Fault.{Fault}
 
 -- the slice s is the tree of the pairs K: 2 to 65,536 words, at most 1,024 accepted clauses under different numbers, no two of them variants
 pub record IsTreeOf (s : List ℕ) (K : List Pair) : Type 0 where
@@ -38,9 +37,9 @@ narrow [] = true
 narrow (w ∷ ws) = ltb w (2 ^ 16) && narrow ws
 
 -- a shape without a fault
-abbrev pub is_whole : Shape → Bool
-is_whole (Faulty f) = false
-is_whole (Whole n) = true
+abbrev pub is_whole : Result ℕ Fault → Bool
+is_whole (Err f) = false
+is_whole (Ok n) = true
 
 -- words are an accepted clause of 16-bit words with these keys
 unfoldable pub has_keys : (words keys : List ℕ) → Bool

@@ -10,12 +10,11 @@ use lib.ListN.{length, get_or, drop, length-drop, drop_of_length-le, get_or-eq_d
 use lib.Seq.{drop-cons, drop-drop}
 use Rattle.clause.specs.Word.{arity, Sort, symbol, variable, head, wrong, sort, if_inside, is_inside}
 use Rattle.clause.specs.Clause.{scan_word, scan, skip}
-use Rattle.std.specs.Prelude.{None, Result, Ok, Err}
+use Rattle.std.specs.Prelude.{None, Result, Ok, Err, ℕ}
 use Rattle.reading.specs.Inner.Cursor.{go_down, past_terms, go_past}
 use Rattle.reading.specs.declared.Cursor.{Cursor}
 use Rattle.clause.specs.declared.Fault.TheVariants.{Bad}
-use Rattle.clause.specs.declared.Shape.{Shape}
-use Rattle.clause.specs.declared.Shape.TheVariants.{Faulty}
+use Rattle.clause.specs.declared.Fault.{Fault}
 
 if-inside {ℓ} : {A : Type ℓ} (s : Sort) → is_inside s ≡ true → (a b : A) → if_inside s a b ≡ a
 if-inside symbol e a b = refl
@@ -91,9 +90,9 @@ drop_tail : (q : List ℕ) (at : ℕ) {w : ℕ} {ws : List ℕ} → drop at q �
 drop_tail q at e = rw (← add-one at) (sym (drop-drop 1 at q) ∙ ap (λ (l : List ℕ). drop 1 l) e)
 
 -- going on with the clause, b terms of the literal being still to come
-abbrev pub scan_on : List ℕ → (b lits : ℕ) → Result Cursor ℕ → Shape
+abbrev pub scan_on : List ℕ → (b lits : ℕ) → Result Cursor ℕ → Result ℕ Fault
 scan_on q b lits (Ok c) = scan (drop c.at q) b lits c.at
-scan_on q b lits (Err at) = Faulty (Bad at)
+scan_on q b lits (Err at) = Err (Bad at)
 
 -- the reading with a + b terms to come is past a terms and then on
 scan_split : (q ws : List ℕ) (a b lits at left : ℕ) → drop at q ≡ ws → scan ws (a + b) lits at ≡ scan_on q b lits (past_terms ws a at left)

@@ -12,16 +12,15 @@ use borrow.Author.Tests.{lt-ltb, le-ltb, eqb-true}
 use Rattle.clause.specs.Word.{arity, Sort, symbol, variable, head, wrong, sort, is_head}
 use Rattle.clause.specs.Clause.{max_words, max_literals, scan_word, scan, shape}
 use Rattle.std.proofs.Common.{◌⊎◌, inl, inr}
-use Rattle.std.specs.Prelude.{Option, None, Some, Ok, Err}
+use Rattle.std.specs.Prelude.{Option, None, Some, Ok, Err, Result, ℕ}
 use Rattle.reading.specs.Inner.Cursor.{head_cursor, first_term, go_down, go_right, go_past}
 use Rattle.reading.specs.declared.Cursor.{Cursor}
 use Rattle.clause.specs.declared.Fault.TheVariants.{BadLength, Bad, Ninth}
-use Rattle.clause.specs.declared.Shape.{Shape}
-use Rattle.clause.specs.declared.Shape.TheVariants.{Faulty, Whole}
 use Rattle.reading.proofs.Past.{scan_past}
+use Rattle.clause.specs.declared.Fault.{Fault}
 
 -- the reading from a position on, where an argument with its right siblings or, with none, a literal is to come
-abbrev pub read_on : List ℕ → (at lits : ℕ) → Option Cursor → Shape
+abbrev pub read_on : List ℕ → (at lits : ℕ) → Option Cursor → Result ℕ Fault
 read_on q at lits None = scan (drop at q) 0 lits at
 read_on q at lits (Some c) = scan (drop c.at q) (suc c.left) lits c.at
 
@@ -36,7 +35,7 @@ first_at (suc k) at c e = let z : record { at = at; left = k } ≡ c = cc in rw 
 
 -- past an argument, and right
 module _ (q : List ℕ) (c : Cursor) (lits : ℕ) where
-  pub read_off : (p : ℕ) → go_past q c ≡ Err p → read_on q c.at lits (Some c) ≡ Faulty (Bad p)
+  pub read_off : (p : ℕ) → go_past q c ≡ Err p → read_on q c.at lits (Some c) ≡ Err (Bad p)
   read_off p e = scan_past q c lits ∙ rw e
 
   pub read_right : (n : Cursor) → go_past q c ≡ Ok n → read_on q c.at lits (Some c) ≡ read_on q n.at lits (go_right n.at c)
@@ -45,7 +44,7 @@ module _ (q : List ℕ) (c : Cursor) (lits : ℕ) where
 module _ (q : List ℕ) (at : ℕ) where
   module _ (lits : ℕ) where
     -- the end
-    pub scan_none : length q ≤ at → scan (drop at q) 0 lits at ≡ Whole lits
+    pub scan_none : length q ≤ at → scan (drop at q) 0 lits at ≡ Ok lits
     unfolding scan
     scan_none h = rw (drop_of_length-le q h)
 
@@ -55,11 +54,11 @@ module _ (q : List ℕ) (at : ℕ) where
       scan_here = rw (drop-cons q at 0)
 
       -- no head
-      pub scan_other : is_head (sort (get_or q at 0)) ≡ false → scan (drop at q) 0 lits at ≡ Faulty (Bad at)
+      pub scan_other : is_head (sort (get_or q at 0)) ≡ false → scan (drop at q) 0 lits at ≡ Err (Bad at)
       unfolding scan_word
       scan_other e = scan_here ∙ go (sort (get_or q at 0)) e
         where
-          go : (s : Sort) → is_head s ≡ false → scan_word s (arity (get_or q at 0)) 0 lits at (scan (drop (suc at) q)) ≡ Faulty (Bad at)
+          go : (s : Sort) → is_head s ≡ false → scan_word s (arity (get_or q at 0)) 0 lits at (scan (drop (suc at) q)) ≡ Err (Bad at)
           go symbol e = refl
           go variable e = refl
           go head e = cc
@@ -76,7 +75,7 @@ module _ (q : List ℕ) (at : ℕ) where
             go wrong e = cc
 
         -- a head after 8 literals
-        pub scan_ninth : max_literals ≤ lits → scan (drop at q) 0 lits at ≡ Faulty (Ninth at)
+        pub scan_ninth : max_literals ≤ lits → scan (drop at q) 0 lits at ≡ Err (Ninth at)
         unfolding scan_word
         scan_ninth h = scan_here ∙ rw (is_head_lem, le-ltb lits max_literals h)
 
@@ -88,18 +87,18 @@ module _ (q : List ℕ) (at : ℕ) where
 
 -- ---- the length
 
-shape_empty : (q : List ℕ) → length q ≡ 0 → shape q ≡ Faulty BadLength
+shape_empty : (q : List ℕ) → length q ≡ 0 → shape q ≡ Err BadLength
 unfolding shape
 shape_empty [] h = refl
 shape_empty (w ∷ ws) h = absurd (omega arith)
 
-shape_long : (q : List ℕ) → max_words < length q → shape q ≡ Faulty BadLength
+shape_long : (q : List ℕ) → max_words < length q → shape q ≡ Err BadLength
 unfolding shape
 shape_long [] h = absurd (omega arith)
 shape_long (w ∷ ws) h = rw (lt-ltb max_words (length (w ∷ ws)) h)
 
 -- no words, or too many, by the test for none
-pub shape_length : (q : List ℕ) {e : Bool} → e ≡ eqb (length q) 0 → (e ≡ true) ⊎ ((e ≡ false) × (max_words < length q)) → shape q ≡ Faulty BadLength
+pub shape_length : (q : List ℕ) {e : Bool} → e ≡ eqb (length q) 0 → (e ≡ true) ⊎ ((e ≡ false) × (max_words < length q)) → shape q ≡ Err BadLength
 shape_length q t (inl h) = shape_empty q (eqb-true (length q) 0 (sym t ∙ h))
 shape_length q t (inr (h, g)) = shape_long q g
 

@@ -8,7 +8,7 @@ mod word;
 ghost use Rattle.std.specs.Prelude.{◌≡◌};
 ghost use Rattle.clause.specs.Clause.{scan, shape};
 
-use clause::{Clause, Fault, Shape};
+use clause::{Clause, Fault};
 pub use whole::is_whole;
 use word::is_head;
 
@@ -19,18 +19,18 @@ pub struct Cursor {
     pub left: usize,
 }
 
-// What the words are: a whole clause, or its first fault.
-pub fn read(words: &[u16]) -> Shape
+// How many literals the clause has that the words are, or its first fault.
+pub fn read(words: &[u16]) -> Result<usize, Fault>
     ensures { result ≡ shape words.now }
 {
     if words.is_empty() || words.len() > Clause::WORDS {
-        return Shape::Faulty(Fault::BadLength);
+        return Err(Fault::BadLength);
     }
     literals(words)
 }
 
 // The literals one after another: a head, down to its first argument, past each argument and right to the next one.
-fn literals(words: &[u16]) -> Shape
+fn literals(words: &[u16]) -> Result<usize, Fault>
     ensures { result ≡ scan words.now 0 0 0 }
 {
     let mut at = 0;
@@ -40,19 +40,19 @@ fn literals(words: &[u16]) -> Shape
         if let Some(here) = argument {
             let next = match here.past(words) {
                 Ok(next) => next,
-                Err(off) => return Shape::Faulty(Fault::Bad(off)),
+                Err(off) => return Err(Fault::Bad(off)),
             };
             at = next.at;
             argument = here.right(at);
         } else {
             if at >= words.len() {
-                return Shape::Whole(count);
+                return Ok(count);
             }
             if !is_head(words[at]) {
-                return Shape::Faulty(Fault::Bad(at));
+                return Err(Fault::Bad(at));
             }
             if count >= Clause::LITERALS {
-                return Shape::Faulty(Fault::Ninth(at));
+                return Err(Fault::Ninth(at));
             }
             argument = Cursor::head(at).down(words);
             at += 1;

@@ -1,4 +1,5 @@
 -- One record: the removals before it, its insertion, and what becomes of it by the book.
+use Rattle.std.specs.Prelude.{Err, Ok, Result, ℕ}
 use mathlib.Core.Path.{◌≡◌, refl, sym, ap, ◌∙◌}
 use mathlib.Core.Logic.{◌⊎◌, inl, inr}
 use mathlib.Core.Option.{Option, none as nobody, some}
@@ -30,15 +31,12 @@ use Rattle.record.specs.Answer.{answer_to, calls_on, calls_for}
 use Rattle.record.specs.Ruled.{pair_of, Numbered, Decided, Uncovered, Strikes, faulty, number_taken, list_full, no_room, over_budget}
 use Rattle.record.specs.Ruled.{without_all, Clears, nothing, subsumed}
 use Rattle.clause.specs.declared.Fault.{Fault}
-use Rattle.clause.specs.declared.Shape.{Shape}
-use Rattle.clause.specs.declared.Shape.TheVariants.{Faulty, Whole}
 use Rattle.tree.specs.declared.Refusal.TheVariants.{BadClause, Spent}
-use Rattle.tree.specs.declared.CallAnswer.{CallAnswer}
-use Rattle.tree.specs.declared.CallAnswer.TheVariants as call
-use Rattle.walk.specs.declared.QueryAnswer.{QueryAnswer}
-use Rattle.walk.specs.declared.QueryAnswer.TheVariants.{Unanswered, Covered, NotCovered}
-use Rattle.backward.specs.declared.BackAnswer.{BackAnswer}
-use Rattle.backward.specs.declared.BackAnswer.TheVariants.{Unlisted, Listed}
+use Rattle.tree.specs.declared.Done.{Done}
+use Rattle.tree.specs.declared.Done.TheVariants as call
+use Rattle.walk.specs.declared.Verdict.{Verdict}
+use Rattle.walk.specs.declared.Verdict.TheVariants.{Covered, NotCovered}
+use Rattle.backward.specs.declared.Listed.{Listed}
 use Rattle.record.specs.declared.Setting.{Setting}
 use Rattle.record.specs.declared.Setting.TheVariants.{Plain, Back}
 use Rattle.record.specs.declared.Outcome.{Outcome}
@@ -54,6 +52,7 @@ use Rattle.book.proofs.Step.{Steps, steps, insertion_is}
 use Rattle.record.proofs.Clearing.{clear_mem, clear_book}
 use Rattle.record.proofs.Ruling.{witness_long, shape_faulty, Course, refuses, strikes, keeps, Fate, Tried, taken, varied, full, crowded, larger}
 use Rattle.record.proofs.Ruling.{used_layout, find_numbered, find_new, tried, book_grown}
+use Rattle.tree.specs.declared.Refusal.{Refusal}
 
 -- ---- calls one after another
 
@@ -99,7 +98,7 @@ book_entered ns K x =
     book_append K (removals ns) (insert x.words x.number ∷ [])
     ∙ ap (λ (M : List Pair). book_step tree_words M (insert x.words x.number)) (clear_book tree_words ns K)
 
-module _ (K : List Pair) (x : Record) (f : Fit (insert x.words x.number)) (q : ℕ) (s : shape x.words ≡ Whole q) (u : Uncovered K x)
+module _ (K : List Pair) (x : Record) (f : Fit (insert x.words x.number)) (q : ℕ) (s : shape x.words ≡ Ok q) (u : Uncovered K x)
     (ns : List ℕ) (d : Standing (without_all ns K) (after (layout tree_words (tree_of K)) (removals ns))) where
   -- what is left of the book, and its slice
   abbrev M : List Pair
@@ -118,7 +117,7 @@ module _ (K : List Pair) (x : Record) (f : Fit (insert x.words x.number)) (q : �
   -- what an insertion makes of the record
   abbrev Enters : Change → Type 0
   Enters y =
-      let r : Called = changed (layout tree_words (tree_of M)) call.Kept y in
+      let r : Called = changed (layout tree_words (tree_of M)) (Ok call.Kept) y in
       let a : Answered = entered_as r.answer ns r.slice (layout tree_words (tree_of K)) in
       Course K M x ns a.outcome a.removed (book_from tree_words K (calls_on a.outcome a.removed x))
 
@@ -159,7 +158,7 @@ standing_saved {K} {T} s =
       words = rw l s.slice;
     }
 
-module _ (K : List Pair) (h : Holds tree_words K (tree_of K)) (x : Record) (f : Fit (insert x.words x.number)) (q : ℕ) (s : shape x.words ≡ Whole q) where
+module _ (K : List Pair) (h : Holds tree_words K (tree_of K)) (x : Record) (f : Fit (insert x.words x.number)) (q : ℕ) (s : shape x.words ≡ Ok q) where
   abbrev T₀ : List ℕ
   T₀ = layout tree_words (tree_of K)
 
@@ -174,7 +173,7 @@ module _ (K : List Pair) (h : Holds tree_words K (tree_of K)) (x : Record) (f : 
   lists = backward_laws T₀ K (standing_saved standing) x.words (q, s) f.0 budget L₀
 
   -- list and budget are enough
-  listed : (backward T₀ x.words budget L₀).answer ≡ Listed (length lists.numbers) (tries_of x.words (rising (map as_read K)))
+  listed : (backward T₀ x.words budget L₀).answer ≡ Ok (record { count = length lists.numbers; candidates = (tries_of x.words (rising (map as_read K))) })
   listed =
       (lists.answered _ _).1
       (rw (length-replicate {A = ℕ} list_words 0) (omega (arith, lists.few, h.few)), omega (arith, lists.enough), refl, refl)
@@ -214,7 +213,7 @@ module _ (K : List Pair) (h : Holds tree_words K (tree_of K)) (x : Record) (f : 
 -- ---- the record
 
 -- what the walk answers where the query is answered covered
-told_covered : (b : ℕ) (W : List ℕ) (a : Answer State) (n k : ℕ) → (answer_by b W a).answer ≡ Covered n k → (t : State) × (a ≡ covered n t k)
+told_covered : (b : ℕ) (W : List ℕ) (a : Answer State) (n k : ℕ) → (answer_by b W a).answer ≡ Ok (Covered n k) → (t : State) × (a ≡ covered n t k)
 told_covered b W (covered m t l) n k e = let i : m ≡ n = cc in let j : l ≡ k = cc in (t, rw (i, j))
 told_covered b W (not_covered c) n k e = apart cc
 told_covered b W spent n k e = apart cc
@@ -232,16 +231,16 @@ module _ (v : Setting) (K : List Pair) (h : Holds tree_words K (tree_of K)) (x :
   FateOf a = Fate v K x a.outcome a.removed (book_from tree_words K (calls_on a.outcome a.removed x))
 
   -- by the query's answer
-  fate_as : (a : QueryAnswer) → (query T x.words budget W).answer ≡ a → FateOf (answer_as v a T x) → FateOf (answer_to v T x)
+  fate_as : (a : Result Verdict Refusal) → (query T x.words budget W).answer ≡ a → FateOf (answer_as v a T x) → FateOf (answer_to v T x)
   unfolding answer_to
   fate_as a e r = rw e r
 
   -- a clause with a fault
-  asked_faulty : (g : Fault) → shape x.words ≡ Faulty g → (query T x.words budget W).answer ≡ Unanswered (BadClause g)
+  asked_faulty : (g : Fault) → shape x.words ≡ Err g → (query T x.words budget W).answer ≡ Err (BadClause g)
   unfolding query
   asked_faulty g e = rw (length_layout tree_words (tree_of K) h.room, e)
 
-  module _ (q : ℕ) (s : shape x.words ≡ Whole q) where
+  module _ (q : ℕ) (s : shape x.words ≡ Ok q) where
     asked : Answers K (tree_of K) T x.words budget W
     asked = answers K (tree_of K) h.sound h.keeps.mirrors (holds_leaves h) x.words (q, s) tree_words (omega arith) (omega arith) h.room budget W witness_long
 
@@ -249,7 +248,7 @@ module _ (v : Setting) (K : List Pair) (h : Holds tree_words K (tree_of K)) (x :
     within : IsCovered T x.words budget W ⊎ IsNotCovered T x.words budget W → Decided K x
     within u = record { accepted = (q, s); fits = decided_fits asked u }
 
-    fate_covered : (n k : ℕ) → (query T x.words budget W).answer ≡ Covered n k → Strikes K x n k
+    fate_covered : (n k : ℕ) → (query T x.words budget W).answer ≡ Ok (Covered n k) → Strikes K x n k
     fate_covered n k e =
         let (p, m, i, shows, spared) = asked.covers n k e in
         let over = query_tree tree_words (tree_of K) (omega arith) (omega arith) h.room x.words (q, s) budget W witness_long h.keeps.mirrors.formed in
@@ -266,7 +265,7 @@ module _ (v : Setting) (K : List Pair) (h : Holds tree_words K (tree_of K)) (x :
           shows = rw (ap (λ y. y.witness) over ∙ ap (λ a. (answer_by budget W a).witness) w) at shows;
         }
 
-    fate_new : (k : ℕ) → (query T x.words budget W).answer ≡ NotCovered k → Uncovered K x
+    fate_new : (k : ℕ) → (query T x.words budget W).answer ≡ Ok (NotCovered k) → Uncovered K x
     fate_new k e = record { decided = within (inr (k, e)); unsubsumed = (asked.spares k e).0 }
 
     -- the numbers that it would take out
@@ -281,7 +280,7 @@ module _ (v : Setting) (K : List Pair) (h : Holds tree_words K (tree_of K)) (x :
     abbrev CourseOf : Answered → (ns : List ℕ) → Type 0
     CourseOf a ns = Course K (without_all ns K) x ns a.outcome a.removed (book_from tree_words K (calls_on a.outcome a.removed x))
 
-    fate_new_in : (k : ℕ) → (query T x.words budget W).answer ≡ NotCovered k → FateOf (goes_in v T x)
+    fate_new_in : (k : ℕ) → (query T x.words budget W).answer ≡ Ok (NotCovered k) → FateOf (goes_in v T x)
     fate_new_in k e = go v
       where
         go : (v : Setting) → Fate v K x (goes_in v T x).outcome (goes_in v T x).removed (book_from tree_words K (calls_on (goes_in v T x).outcome (goes_in v T x).removed x))
@@ -300,21 +299,21 @@ module _ (v : Setting) (K : List Pair) (h : Holds tree_words K (tree_of K)) (x :
     fate_out c = record { cleared = clearing.0; clears = λ a. clearing.1; course = c clearing.0 }
 
     fate_kinds : IsCovered T x.words budget W ⊎ (IsNotCovered T x.words budget W ⊎ IsSpent T x.words budget W) → FateOf (answer_to v T x)
-    fate_kinds (inl (n, k, e)) = fate_as (Covered n k) e (fate_out (λ ns. strikes (fate_covered n k e)))
-    fate_kinds (inr (inl (k, e))) = fate_as (NotCovered k) e (fate_new_in k e)
-    fate_kinds (inr (inr e)) = fate_as (Unanswered (Spent budget)) e (fate_out (λ ns. refuses (over_budget (q, s) (asked.spends.0 e))))
+    fate_kinds (inl (n, k, e)) = fate_as (Ok (Covered n k)) e (fate_out (λ ns. strikes (fate_covered n k e)))
+    fate_kinds (inr (inl (k, e))) = fate_as (Ok (NotCovered k)) e (fate_new_in k e)
+    fate_kinds (inr (inr e)) = fate_as (Err (Spent budget)) e (fate_out (λ ns. refuses (over_budget (q, s) (asked.spends.0 e))))
 
   -- a clause that is not accepted takes nothing out
-  fate_faulty : (g : Fault) → shape x.words ≡ Faulty g → FateOf (left (Refused (code_of (BadClause g))) T)
+  fate_faulty : (g : Fault) → shape x.words ≡ Err g → FateOf (left (Refused (code_of (BadClause g))) T)
   fate_faulty g e = record { cleared = []; clears = λ a. absurd (shape_faulty e a.1); course = refuses (faulty g e) }
 
   pub fate : Fate v K x (answer_to v T x).outcome (answer_to v T x).removed (book_from tree_words K (calls_for v T x))
   unfolding calls_for
   fate = go (shape x.words) refl
     where
-      go : (s : Shape) → shape x.words ≡ s → FateOf (answer_to v T x)
-      go (Faulty g) e = fate_as (Unanswered (BadClause g)) (asked_faulty g e) (fate_faulty g e)
-      go (Whole q) e = fate_kinds q e (asked q e).kinds
+      go : (s : Result ℕ Fault) → shape x.words ≡ s → FateOf (answer_to v T x)
+      go (Err g) e = fate_as (Err (BadClause g)) (asked_faulty g e) (fate_faulty g e)
+      go (Ok q) e = fate_kinds q e (asked q e).kinds
 
 -- ---- the slice and the calls
 
@@ -333,29 +332,29 @@ module _ (T : List ℕ) (x : Record) where
       kept : S ≡ after T (removals ns ++ (insert x.words x.number ∷ []))
       kept = sym (after_append T (removals ns) (insert x.words x.number ∷ []))
 
-      go : (a : CallAnswer) → Leaves (entered_as a ns S T)
-      go (call.Refused g) = refl
-      go call.Ready = kept
-      go call.Kept = kept
-      go call.Removed = kept
+      go : (a : Result Done Refusal) → Leaves (entered_as a ns S T)
+      go (Err g) = refl
+      go (Ok call.Ready) = kept
+      go (Ok call.Kept) = kept
+      go (Ok call.Removed) = kept
 
   leaves_taken : (o : Option (List ℕ)) (ns : List ℕ) → Leaves (unless_taken o T (entered ns T x))
   leaves_taken (some cs) ns = refl
   leaves_taken nobody ns = leaves_entered ns
 
-  leaves_listed : (b : BackAnswer) (L : List ℕ) → Leaves (replaced_as b L T x)
-  leaves_listed (Unlisted r) L = refl
-  leaves_listed (Listed n k) L = leaves_taken (find x.number (decode T)) (take n L)
+  leaves_listed : (b : Result Listed Refusal) (L : List ℕ) → Leaves (replaced_as b L T x)
+  leaves_listed (Err r) L = refl
+  leaves_listed (Ok l) L = leaves_taken (find x.number (decode T)) (take l.count L)
 
   leaves_in : (v : Setting) → Leaves (goes_in v T x)
   unfolding replaced
   leaves_in Plain = leaves_entered []
   leaves_in Back = leaves_listed (backward T x.words budget (replicate list_words 0)).answer (backward T x.words budget (replicate list_words 0)).list
 
-  leaves_as : (v : Setting) (a : QueryAnswer) → Leaves (answer_as v a T x)
-  leaves_as v (Unanswered r) = refl
-  leaves_as v (Covered n k) = refl
-  leaves_as v (NotCovered k) = leaves_in v
+  leaves_as : (v : Setting) (a : Result Verdict Refusal) → Leaves (answer_as v a T x)
+  leaves_as v (Err r) = refl
+  leaves_as v (Ok (Covered n k)) = refl
+  leaves_as v (Ok (NotCovered k)) = leaves_in v
 
   pub slice_after : (v : Setting) → (answer_to v T x).slice ≡ after T (calls_for v T x)
   unfolding answer_to calls_for

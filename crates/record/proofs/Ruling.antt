@@ -1,4 +1,5 @@
 -- One record, by the clauses of the book before it.
+use Rattle.std.specs.Prelude.{Err, Ok, Result, ℕ}
 use mathlib.Core.Path.{◌≡◌, refl, sym, ap, ap₂, ◌∙◌}
 use mathlib.Core.Bool.{Bool, true, false}
 use mathlib.Core.Option.{Option, none as nobody, some}
@@ -23,8 +24,6 @@ use Rattle.record.specs.Ruled.{pair_of, Numbered, words_of, Decided, Uncovered, 
 use Rattle.record.specs.Ruled.{without_all, Clears, Ruled, RuledByUnits}
 use Rattle.clause.specs.declared.Fault.{Fault}
 use Rattle.clause.specs.declared.Fault.TheVariants.{BadLength, Bad, Ninth}
-use Rattle.clause.specs.declared.Shape.{Shape}
-use Rattle.clause.specs.declared.Shape.TheVariants.{Faulty, Whole}
 use Rattle.tree.specs.declared.Refusal.{Refusal}
 use Rattle.tree.specs.declared.Refusal.TheVariants.{BadClause, NumberTaken, Held, ListFull, NoRoom}
 use Rattle.record.specs.declared.Setting.{Setting}
@@ -53,7 +52,7 @@ witness_long = rw (length-replicate {A = ℕ} witness_words 0) (omega arith)
 
 -- ---- the cases exclude each other
 
-pub shape_faulty : {s : Shape} {n : ℕ} {f : Fault} → s ≡ Faulty f → s ≡ Whole n → ⊥
+pub shape_faulty : {s : Result ℕ Fault} {n : ℕ} {f : Fault} → s ≡ Err f → s ≡ Ok n → ⊥
 shape_faulty e i = let j = sym e ∙ i in apart cc
 
 module _ {K L : List Pair} {x : Record} where
@@ -226,7 +225,7 @@ used_layout len F h = omega arith
 refuse≢change : (r : Refusal) (G : Forest) → refuse r ≡ change G → ⊥
 refuse≢change r G e = apart cc
 
-module _ (K : List Pair) (F : Forest) (h : Holds tree_words K F) (x : Record) (f : Fit (insert x.words x.number)) (q : ℕ) (s : shape x.words ≡ Whole q) where
+module _ (K : List Pair) (F : Forest) (h : Holds tree_words K F) (x : Record) (f : Fit (insert x.words x.number)) (q : ℕ) (s : shape x.words ≡ Ok q) where
   body : Body (keys x.words)
   body = plain_body (sequence_plain x.words (accepted x.words (q, s)) f.0)
 

@@ -1,4 +1,5 @@
 -- The claims about a whole input.
+use Rattle.std.specs.Prelude.{Ok}
 use mathlib.Core.Path.{◌≡◌, refl, sym, ap, ◌∙◌}
 use mathlib.Core.List.{List, [], ◌∷◌, ◌++◌, append_assoc, append-nil}
 use Prim.Native.Nat.{ℕ, ◌≤◌}
@@ -13,7 +14,7 @@ use Rattle.record.specs.Output.{records_of, Row, row_on, fresh_slice, rows_of, r
 use Rattle.record.specs.Sheet.{Bytes, book_after, taken_out, kept_pairs, BookStands, KeptCovers, RowAt, RowClaims, Covers, Sheets, NoStrikeIsWrong}
 use Rattle.record.specs.declared.Setting.{Setting}
 use Rattle.record.specs.declared.Setting.TheVariants.{Plain}
-use Rattle.tree.specs.declared.CallAnswer.TheVariants.{Ready}
+use Rattle.tree.specs.declared.Done.TheVariants.{Ready}
 use Rattle.clause.specs.Lists.{nobody}
 use Rattle.book.proofs.Holds.{holds_empty, fresh_layout, holds_numbers, holds_clauses}
 use Rattle.record.proofs.Reading.{complete, input_fits}
@@ -26,7 +27,7 @@ use Rattle.record.proofs.Rows.{StruckBy, fate_struck, struck_book}
 
 -- ---- the slice before the first record
 
-fresh_zeros : (n : ℕ) → 2 ≤ n → n ≤ 65_536 → fresh (replicate n 0) ≡ record { answer = Ready; slice = replicate n 0 }
+fresh_zeros : (n : ℕ) → 2 ≤ n → n ≤ 65_536 → fresh (replicate n 0) ≡ record { answer = Ok Ready; slice = replicate n 0 }
 unfolding fresh
 fresh_zeros n l h = rw (length-replicate {A = ℕ} n 0, le-leb 2 n l, le-leb n 65_536 h)
 

@@ -1,6 +1,6 @@
 -- What one record asks, and what becomes of it.
 use Rattle.std.proofs.Math.Option.{Option, none, some}
-use Rattle.std.specs.Prelude.{List, [], ◌∷◌, ◌++◌, map, ℕ, get_or, take, replicate}
+use Rattle.std.specs.Prelude.{List, [], ◌∷◌, ◌++◌, map, ℕ, get_or, take, replicate, Err, Ok, Result}
 use Rattle.tree.specs.Forest.{find}
 use Rattle.tree.specs.Laid.{max_kept, used_of, decode}
 use Rattle.tree.specs.Refusal.{code_of}
@@ -9,16 +9,16 @@ use Rattle.walk.specs.Query.{witness_words, query}
 use Rattle.backward.specs.Calls.{backward}
 use Rattle.book.specs.Book.{Call, insert, remove, after}
 use Rattle.tree.specs.declared.Refusal.TheVariants.{NumberTaken}
-use Rattle.tree.specs.declared.CallAnswer.{CallAnswer}
-use Rattle.tree.specs.declared.CallAnswer.TheVariants as call
-use Rattle.walk.specs.declared.QueryAnswer.{QueryAnswer}
-use Rattle.walk.specs.declared.QueryAnswer.TheVariants.{Unanswered, Covered, NotCovered}
-use Rattle.backward.specs.declared.BackAnswer.{BackAnswer}
-use Rattle.backward.specs.declared.BackAnswer.TheVariants.{Unlisted, Listed}
+use Rattle.tree.specs.declared.Done.{Done}
+use Rattle.tree.specs.declared.Done.TheVariants as call
+use Rattle.walk.specs.declared.Verdict.{Verdict}
+use Rattle.walk.specs.declared.Verdict.TheVariants.{Covered, NotCovered}
+use Rattle.backward.specs.declared.Listed.{Listed}
 use Rattle.record.specs.declared.Setting.{Setting}
 use Rattle.record.specs.declared.Setting.TheVariants.{Plain, Back}
 use Rattle.record.specs.declared.Outcome.{Outcome}
 use Rattle.record.specs.declared.Outcome.TheVariants.{Kept, Struck, Refused}
+use Rattle.tree.specs.declared.Refusal.{Refusal}
 
 -- the budget of every query, and of every listing
 abbrev pub budget : ℕ
@@ -55,11 +55,11 @@ removals ns = map remove ns
 
 -- what an insertion's answer makes of a record, after the removal of some numbers: the used words of the new slice; where it is refused its code, and
 -- nothing is removed
-abbrev pub entered_as : CallAnswer → (numbers new slice : List ℕ) → Answered
-entered_as (call.Refused r) ns S T = left (Refused (code_of r)) T
-entered_as call.Ready ns S T = record { outcome = Kept (used_of (get_or S 0 0)); removed = ns; slice = S }
-entered_as call.Kept ns S T = record { outcome = Kept (used_of (get_or S 0 0)); removed = ns; slice = S }
-entered_as call.Removed ns S T = record { outcome = Kept (used_of (get_or S 0 0)); removed = ns; slice = S }
+abbrev pub entered_as : Result Done Refusal → (numbers new slice : List ℕ) → Answered
+entered_as (Err r) ns S T = left (Refused (code_of r)) T
+entered_as (Ok call.Ready) ns S T = record { outcome = Kept (used_of (get_or S 0 0)); removed = ns; slice = S }
+entered_as (Ok call.Kept) ns S T = record { outcome = Kept (used_of (get_or S 0 0)); removed = ns; slice = S }
+entered_as (Ok call.Removed) ns S T = record { outcome = Kept (used_of (get_or S 0 0)); removed = ns; slice = S }
 
 -- a record inserted after the removal of some numbers: list and room are judged after it
 unfoldable pub entered : (numbers slice : List ℕ) → Record → Answered
@@ -73,9 +73,9 @@ unless_taken (some keys) T a = left (Refused (code_of NumberTaken)) T
 unless_taken none T a = a
 
 -- what a listing's answer, and the list afterwards, make of a record: it is inserted after the removal of the numbers listed
-abbrev pub replaced_as : BackAnswer → (list slice : List ℕ) → Record → Answered
-replaced_as (Unlisted r) L T x = left (Refused (code_of r)) T
-replaced_as (Listed n k) L T x = unless_taken (find x.number (decode T)) T (entered (take n L) T x)
+abbrev pub replaced_as : Result Listed Refusal → (list slice : List ℕ) → Record → Answered
+replaced_as (Err r) L T x = left (Refused (code_of r)) T
+replaced_as (Ok l) L T x = unless_taken (find x.number (decode T)) T (entered (take l.count L) T x)
 
 -- backward striking: the kept clauses that the record subsumes are listed, and it takes their place
 unfoldable pub replaced : (slice : List ℕ) → Record → Answered
@@ -91,10 +91,10 @@ goes_in Back T x = replaced T x
 -- ---- the answer
 
 -- what a query's answer makes of a record: it goes in only on "not covered"
-abbrev pub answer_as : Setting → QueryAnswer → (slice : List ℕ) → Record → Answered
-answer_as s (Unanswered r) T x = left (Refused (code_of r)) T
-answer_as s (Covered n c) T x = left (Struck n c) T
-answer_as s (NotCovered c) T x = goes_in s T x
+abbrev pub answer_as : Setting → Result Verdict Refusal → (slice : List ℕ) → Record → Answered
+answer_as s (Err r) T x = left (Refused (code_of r)) T
+answer_as s (Ok (Covered n c)) T x = left (Struck n c) T
+answer_as s (Ok (NotCovered c)) T x = goes_in s T x
 
 -- a record queried, and taken in where it is not covered; the answer to a query does not depend on the words of its witness
 unfoldable pub answer_to : Setting → (slice : List ℕ) → Record → Answered

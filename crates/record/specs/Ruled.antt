@@ -1,5 +1,5 @@
 -- What becomes of one record, by the clause book before it.
-use Rattle.std.specs.Prelude.{◌≡◌, ◌↔◌, ◌≢◌, ℕ, ◌≤◌, ◌<◌, length, replicate}
+use Rattle.std.specs.Prelude.{◌≡◌, ◌↔◌, ◌≢◌, ℕ, ◌≤◌, ◌<◌, length, replicate, Err}
 use mathlib.Core.List.{List, [], ◌∷◌, map, Memᴰ}
 use Rattle.clause.specs.Lists.{Each}
 use Rattle.clause.specs.Clause.{shape, Accepted, literals, Subsumes}
@@ -14,7 +14,6 @@ use Rattle.walk.specs.Covering.{Subsumed, Shows, candidates}
 use Rattle.book.specs.Book.{without, tree_of}
 use Rattle.record.specs.Answer.{budget, tree_words, Record}
 use Rattle.clause.specs.declared.Fault.{Fault}
-use Rattle.clause.specs.declared.Shape.TheVariants.{Faulty}
 use Rattle.tree.specs.declared.Refusal.TheVariants.{BadClause}
 use Rattle.record.specs.declared.Setting.{Setting}
 use Rattle.record.specs.declared.Setting.TheVariants.{Plain, Back}
@@ -66,7 +65,7 @@ pub record Strikes (K : List Pair) (x : Record) (n k : ℕ) : Type 0 where
 -- why a record is refused, by the code; K is the book, and L what is left of it without the pairs that the record would take out
 pub data Reason (K L : List Pair) (x : Record) : (code : ℕ) → Type 0 where
   -- 3, 4, 5: its clause has that fault; a record of more than 64 words has the first
-  faulty : (f : Fault) → shape x.words ≡ Faulty f → Reason K L x (code_of (BadClause f))
+  faulty : (f : Fault) → shape x.words ≡ Err f → Reason K L x (code_of (BadClause f))
   -- 7: its number is in the book, also if that pair would be taken out
   number_taken : Uncovered K x → Numbered K x.number → Reason K L x 7
   -- 10: 1,024 pairs are left

@@ -1,4 +1,5 @@
 -- Words taken out of a well-laid slice in place, and that this is removal on the words.
+use Rattle.std.specs.Prelude.{Ok}
 use mathlib.Core.Path.{◌≡◌, refl, sym, ap, ap₂, subst, ◌∙◌}
 use mathlib.Core.List.{List, [], ◌∷◌, ◌++◌, append-nil, append_assoc}
 use mathlib.Core.Bool.{true}
@@ -13,12 +14,12 @@ use lib.Seq.{length-take-le, take_all, take_at, drop_at, take-take, drop-drop}
 use borrow.Author.Tests.{ltb-false, ne_eqb}
 use borrow.Rule.Slice.PartMut.{put_mid}
 use Rattle.tree.specs.Keys.{first_key}
-use Rattle.tree.specs.Laid.{most_words, one_less, extent_of, used_of, kept_of, rows, well_laid}
+use Rattle.tree.specs.Laid.{most_words, one_less, extent_of, used_of, kept_of, region, rows, well_laid}
 use Rattle.tree.specs.Inner.Cut.{Span, locate, lower, cut}
 use Rattle.removal.specs.Inner.Close.{Lowerable, Removable, close_up, taken_out}
 use Rattle.tree.specs.Calls.{Called, refused}
 use Rattle.tree.specs.Inner.ByWords.{remove_by_words}
-use Rattle.tree.specs.declared.CallAnswer.TheVariants.{Removed}
+use Rattle.tree.specs.declared.Done.TheVariants.{Removed}
 use Rattle.tree.specs.declared.Refusal.TheVariants.{NoSuchNumber}
 use Rattle.tree.proofs.Grow.{rows_under, Tests, tests, zeros_replicated}
 use Rattle.tree.proofs.RemoveWords.{cut_parts}
@@ -108,9 +109,9 @@ taken (h ∷ ws) place gone L C r p q =
 
 -- ---- removal
 
--- the scan of the used words, as the code lends them
+-- the scan of the used words
 abbrev pub scan : List ℕ → ℕ → Option Span
-scan t n = locate (take (used_of (get_or t 0 0) + 1 - 1) (drop 1 t)) n 0 0 0
+scan t n = locate (region t) n 0 0 0
 
 -- what was found in the words of a well-laid slice
 record Hit (h : ℕ) (ws : List ℕ) (n : ℕ) (s : Span) : Type 0 where
@@ -121,10 +122,10 @@ record Hit (h : ℕ) (ws : List ℕ) (n : ℕ) (s : Span) : Type 0 where
   kept : 1 ≤ kept_of h
 
 hit : (h : ℕ) (ws : List ℕ) (n : ℕ) (s : Span) → n < first_key → well_laid (h ∷ ws) ≡ true → some s ≡ scan (h ∷ ws) n → Hit h ws n s
+unfolding region
 hit h ws n s l w e =
     let t : Tests h ws = tests h ws (rw w tt) in
-    let used : used_of h + 1 - 1 ≡ used_of h = omega arith in
-    let here : locate (take (used_of h) ws) n 0 0 0 ≡ some s = sym (rw used at e) in
+    let here : locate (take (used_of h) ws) n 0 0 0 ≡ some s = sym e in
     let f : Found (take (used_of h) ws) 0 s = found (take (used_of h) ws) n 0 0 0 s l (omega arith) here in
     record {
       laid = t;
@@ -137,12 +138,14 @@ hit h ws n s l w e =
 -- what is found is among them
 pub hit_order : (t : List ℕ) (n : ℕ) (s : Span) → n < first_key → well_laid t ≡ true → some s ≡ scan t n
     → (s.place ≤ s.last) × (s.last < used_of (get_or t 0 0))
+unfolding region
 hit_order [] n s l w e = apart cc
 hit_order (h ∷ ws) n s l w e = let f : Hit h ws n s = hit h ws n s l w e in (f.order, f.inside)
 
 -- what is found in a well-laid slice can be taken out, and so can fewer words
 pub removable : (t : List ℕ) (n : ℕ) (s : Span) (gone : ℕ) → gone ≤ s.last + 1 - s.place → length t ≤ most_words → n < first_key
     → well_laid t ≡ true → some s ≡ scan t n → Removable t s.place gone
+unfolding region
 removable [] n s gone q u l w e = apart cc
 removable (h ∷ ws) n s gone q u l w e =
     let f : Hit h ws n s = hit h ws n s l w e in
@@ -158,8 +161,8 @@ removable (h ∷ ws) n s gone q u l w e =
 
 -- and this is removal
 pub removed : (t : List ℕ) (n : ℕ) (s : Span) → n < first_key → well_laid t ≡ true → some s ≡ scan t n
-    → ◌≡◌ {A = Called} (record { answer = Removed; slice = taken_out t s.place (s.last + 1 - s.place) }) (remove_by_words t n)
-unfolding remove_by_words
+    → ◌≡◌ {A = Called} (record { answer = Ok Removed; slice = taken_out t s.place (s.last + 1 - s.place) }) (remove_by_words t n)
+unfolding remove_by_words region
 removed [] n s l w e = apart cc
 removed (h ∷ ws) n s l w e =
     let f : Hit h ws n s = hit h ws n s l w e in
@@ -171,9 +174,6 @@ removed (h ∷ ws) n s l w e =
 
 -- a number that is not found is refused
 pub missed : (t : List ℕ) (n : ℕ) → well_laid t ≡ true → none ≡ scan t n → refused NoSuchNumber t ≡ remove_by_words t n
-unfolding remove_by_words well_laid
+unfolding remove_by_words well_laid region
 missed [] n w e = apart cc
-missed (h ∷ ws) n w e =
-    let used : used_of h + 1 - 1 ≡ used_of h = omega arith in
-    let here : locate (take (used_of h) ws) n 0 0 0 ≡ none = sym (rw used at e) in
-    rw here
+missed (h ∷ ws) n w e = let here : locate (take (used_of h) ws) n 0 0 0 ≡ none = sym e in rw here

@@ -10,7 +10,7 @@ ghost use Rattle.tree.specs.Inner.ByWords.{remove_by_words};
 
 use crate::close::close_up;
 use laid::well_laid;
-use tree::{CallAnswer, Refusal, Tree, extent, key};
+use tree::{Done, Refusal, Tree, extent, key};
 
 mod close;
 
@@ -72,28 +72,27 @@ fn take_out(tree: &mut [u64], place: usize, gone: usize)
 }
 
 // The removal of a number from a slice that the caller holds well laid.
-fn remove_laid(tree: &mut [u64], number: u32) -> CallAnswer
+fn remove_laid(tree: &mut [u64], number: u32) -> Result<Done, Refusal>
     requires { (sized tree.old ≡ true) × (well_laid tree.old ≡ true) }
     ensures { record { answer = result; slice = tree.new } ≡ remove_by_words tree.old number }
 {
-    let end = Tree::used(tree[0]) + 1;
-    let Some(run) = locate(&tree[1..end], number) else {
-        return CallAnswer::Refused(Refusal::NoSuchNumber);
+    let Some(run) = locate(Tree::region(tree), number) else {
+        return Err(Refusal::NoSuchNumber);
     };
     let place = run.place;
     take_out(tree, place, run.last + 1 - place);
-    CallAnswer::Removed
+    Ok(Done::Removed)
 }
 
 // The removal of a number from a slice of any words.
-pub fn remove(tree: &mut [u64], number: u32) -> CallAnswer
+pub fn remove(tree: &mut [u64], number: u32) -> Result<Done, Refusal>
     ensures { record { answer = result; slice = tree.new } ≡ removal tree.old number }
 {
     if !Tree::sized(tree.len()) {
-        return CallAnswer::Refused(Refusal::BadSlice);
+        return Err(Refusal::BadSlice);
     }
     if !well_laid(tree) {
-        return CallAnswer::Refused(Refusal::Broken);
+        return Err(Refusal::Broken);
     }
     remove_laid(tree, number)
 }

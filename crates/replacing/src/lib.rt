@@ -10,28 +10,14 @@ ghost use Rattle.record.specs.Marks.{number_count, freeing, marked};
 use insertion::insert;
 use record::{Came, Lent, Mark, Outcome};
 use removal::remove;
-use tree::{CallAnswer, Tree};
-
-// Copies words over others, as many.
-fn copy(from: &[u64], to: &mut [u64])
-    requires { length to.old ≡ length from.now }
-    ensures { to.new ≡ from.now }
-{
-    let mut i = 0;
-    while i < from.len() {
-        to[i] = from[i];
-        i += 1;
-    }
-}
+use tree::Tree;
 
 // Removes some numbers from a slice, one after another.
 fn remove_all(tree: &mut [u64], numbers: &[u32])
     ensures { tree.new ≡ after tree.old (removals numbers.now) }
 {
-    let mut i = 0;
-    while i < numbers.len() {
-        remove(tree, numbers[i]);
-        i += 1;
+    for &n in numbers {
+        let _ = remove(tree, n);
     }
 }
 
@@ -40,13 +26,11 @@ fn free(marks: &mut [u8], numbers: &[u32])
     requires { (length marks.old ≡ number_count) × All (λ n. n < number_count) numbers.now }
     ensures { marks.new ≡ freeing numbers.now marks.old }
 {
-    let mut i = 0;
-    while i < numbers.len() {
-        let at = numbers[i] as usize;
+    for &n in numbers {
+        let at = n as usize;
         if marks[at] > 0 {
             marks[at] = Mark::WAS_TAKEN;
         }
-        i += 1;
     }
 }
 
@@ -66,11 +50,11 @@ pub fn replace(
     ensures many { result.removed ≤ length numbers.now }
 {
     let mut new = [0u64; Lent::TREE];
-    copy(tree, &mut new);
+    new.copy_from_slice(tree);
     remove_all(&mut new, numbers);
     let answer = insert(&mut new, words, number as u32);
-    let CallAnswer::Refused(refusal) = answer else {
-        copy(&new, tree);
+    let Err(refusal) = answer else {
+        tree.copy_from_slice(&new);
         free(marks, numbers);
         let mark = number as usize;
         marks[mark] = Mark::TAKEN;

@@ -9,7 +9,7 @@ ghost use Rattle.book.specs.Claims.{Run, Reached, Demand1, Reach, Demand2, Deman
 ghost use Rattle.book.specs.Saved.{ReachSaved, PassedSaved, SavedIsMade, SavedDemand2, SavedDemand3, ReadsBook};
 ghost use Rattle.book.specs.Backward.{ListsBook};
 ghost use Rattle.tree.specs.Calls.{fresh};
-ghost use Rattle.tree.specs.declared.CallAnswer.TheVariants.{Ready};
+ghost use Rattle.tree.specs.declared.Done.TheVariants.{Ready};
 
 // The number of a call, upper half first. The caller has seen that its two words are there.
 fn number_at(calls: &[u16], at: usize) -> u32
@@ -39,11 +39,11 @@ fn run_one(tree: &mut [u64], calls: &[u16], at: usize) -> usize
     let number = number_at(calls, at + 1);
     let kind = calls[at];
     if kind == 0 {
-        removal::remove(tree, number);
+        let _ = removal::remove(tree, number);
         return from;
     }
     let end = clause_end(calls.len(), from, (kind - 1) as usize);
-    insertion::insert(tree, &calls[from..end], number);
+    let _ = insertion::insert(tree, &calls[from..end], number);
     end
 }
 
@@ -52,7 +52,7 @@ fn run_one(tree: &mut [u64], calls: &[u16], at: usize) -> usize
 // 65,535 words or more. The contract carries the claims, so that nothing is proved without them.
 pub fn run(tree: &mut [u64], calls: &[u16])
     ensures slice { tree.new ≡ slice_of tree.old (calls_of calls.now) }
-    ensures reached { (fresh tree.old).answer ≡ Ready
+    ensures reached { (fresh tree.old).answer ≡ Ok Ready
         → Run tree.old (calls_of calls.now) × Reached tree.old (calls_of calls.now) }
     ensures lists { HasWords }
     ensures definitions { Believable }
@@ -61,7 +61,7 @@ pub fn run(tree: &mut [u64], calls: &[u16])
     ensures saved { ReachSaved × PassedSaved × SavedIsMade × SavedDemand2 × SavedDemand3 × ReadsBook }
     ensures backward { ListsBook }
 {
-    laid::fresh(tree);
+    let _ = laid::fresh(tree);
     let mut at = 0;
     while at + 3 <= calls.len() {
         at = run_one(tree, calls, at);

@@ -8,11 +8,10 @@ ghost use Rattle.tree.specs.Refusal.{code_of, values_of};
 ghost use Rattle.book.specs.Table.{said_call, said_query, said_ceiling, said_check, said_read, said_back};
 ghost use Rattle.interface.specs.Told.{number_of, told_by, replied};
 
-use backward::BackAnswer;
+use backward::Listed;
 use clause::Fault;
-use readback::{CheckAnswer, ReadAnswer};
-use tree::{CallAnswer, Refusal};
-use walk::{CeilingAnswer, QueryAnswer};
+use tree::{Done, Refusal};
+use walk::Verdict;
 
 // Writes a value at a place of told, if told reaches there.
 fn tell(told: &mut [u64], at: usize, value: u64)
@@ -65,14 +64,12 @@ fn refuse(refusal: Refusal, told: &mut [u64]) -> u64
 }
 
 // Hands an answer of fresh, insertion or removal over.
-pub fn hand_call(answer: CallAnswer, told: &mut [u64]) -> u64
+pub fn hand_call(answer: Result<Done, Refusal>, told: &mut [u64]) -> u64
     ensures { record { number = result; told = told.new } ≡ replied (said_call answer) told.old }
 {
     match answer {
-        CallAnswer::Refused(refusal) => refuse(refusal, told),
-        CallAnswer::Ready => 0,
-        CallAnswer::Kept => 0,
-        CallAnswer::Removed => 0,
+        Err(refusal) => refuse(refusal, told),
+        Ok(_) => 0,
     }
 }
 
@@ -86,16 +83,16 @@ fn tell_query(told: &mut [u64], covered: u64, number: u64, count: u64)
 }
 
 // Hands a query's answer over.
-pub fn hand_query(answer: QueryAnswer, told: &mut [u64]) -> u64
+pub fn hand_query(answer: Result<Verdict, Refusal>, told: &mut [u64]) -> u64
     ensures { record { number = result; told = told.new } ≡ replied (said_query answer) told.old }
 {
     match answer {
-        QueryAnswer::Unanswered(refusal) => refuse(refusal, told),
-        QueryAnswer::Covered(number, count) => {
+        Err(refusal) => refuse(refusal, told),
+        Ok(Verdict::Covered(number, count)) => {
             tell_query(told, 1, number as u64, count);
             0
         }
-        QueryAnswer::NotCovered(count) => {
+        Ok(Verdict::NotCovered(count)) => {
             tell_query(told, 0, 0, count);
             0
         }
@@ -103,12 +100,12 @@ pub fn hand_query(answer: QueryAnswer, told: &mut [u64]) -> u64
 }
 
 // Hands the ceiling call's answer over.
-pub fn hand_ceiling(answer: CeilingAnswer, told: &mut [u64]) -> u64
+pub fn hand_ceiling(answer: Result<u64, Refusal>, told: &mut [u64]) -> u64
     ensures { record { number = result; told = told.new } ≡ replied (said_ceiling answer) told.old }
 {
     match answer {
-        CeilingAnswer::NoCeiling(refusal) => refuse(refusal, told),
-        CeilingAnswer::Ceiling(highest) => {
+        Err(refusal) => refuse(refusal, told),
+        Ok(highest) => {
             tell(told, 0, highest);
             0
         }
@@ -116,12 +113,12 @@ pub fn hand_ceiling(answer: CeilingAnswer, told: &mut [u64]) -> u64
 }
 
 // Hands an answer of reading back over.
-pub fn hand_read(answer: ReadAnswer, told: &mut [u64]) -> u64
+pub fn hand_read(answer: Result<usize, Refusal>, told: &mut [u64]) -> u64
     ensures { record { number = result; told = told.new } ≡ replied (said_read answer) told.old }
 {
     match answer {
-        ReadAnswer::Unread(refusal) => refuse(refusal, told),
-        ReadAnswer::Read(length) => {
+        Err(refusal) => refuse(refusal, told),
+        Ok(length) => {
             tell(told, 0, length as u64);
             0
         }
@@ -129,25 +126,25 @@ pub fn hand_read(answer: ReadAnswer, told: &mut [u64]) -> u64
 }
 
 // Hands an answer of listing backward over: how many numbers, and the candidates in all.
-pub fn hand_back(answer: BackAnswer, told: &mut [u64]) -> u64
+pub fn hand_back(answer: Result<Listed, Refusal>, told: &mut [u64]) -> u64
     ensures { record { number = result; told = told.new } ≡ replied (said_back answer) told.old }
 {
     match answer {
-        BackAnswer::Unlisted(refusal) => refuse(refusal, told),
-        BackAnswer::Listed(count, candidates) => {
-            tell(told, 0, count as u64);
-            tell(told, 1, candidates);
+        Err(refusal) => refuse(refusal, told),
+        Ok(listed) => {
+            tell(told, 0, listed.count as u64);
+            tell(told, 1, listed.candidates);
             0
         }
     }
 }
 
 // Hands the answer of a check over, which tells nothing.
-pub fn hand_check(answer: CheckAnswer) -> u64
+pub fn hand_check(answer: Result<(), Refusal>) -> u64
     ensures { result ≡ number_of (said_check answer).title }
 {
     match answer {
-        CheckAnswer::Failed(refusal) => refusal.code() as u64,
-        CheckAnswer::Passed => 0,
+        Err(refusal) => refusal.code() as u64,
+        Ok(()) => 0,
     }
 }

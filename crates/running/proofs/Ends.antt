@@ -16,7 +16,8 @@ use Rattle.record.proofs.Promise.{promise}
 use Rattle.intake.specs.Feed.{Store, store_of, first_store, fed_whole, printed_of}
 use Rattle.intake.specs.declared.Session.{Session}
 use Rattle.intake.proofs.Records.{whole_input}
-use Rattle.printing.specs.Handed.{bytes_handed, Holds, NextPiece, HandedOn, SheetNext}
+use Rattle.printing.specs.declared.Meters.{Meters}
+use Rattle.printing.specs.Handed.{Holds, NextPiece, HandedOn, SheetNext}
 use Rattle.printing.proofs.Pieces.{handed_append, stands_after}
 use Rattle.streaming.specs.Fed.{may_read}
 use Rattle.streaming.specs.Inner.Running.{Running}
@@ -31,7 +32,7 @@ first_lengths e = (
   ap (λ (s : Store). length s.counters) e ∙ length-replicate {A = ℕ} counter_words 0,
 )
 
-module _ {v : Setting} {s : Session} {m : Store} {M : List ℕ} (r : Running v s m M) where
+module _ {v : Setting} {s : Session} {m : Store} {M : Meters} (r : Running v s m M) where
   -- all that is printed of the bytes that were fed
   printed : printed_of v r.stands.bytes
       ≡ (fed_whole v r.stands.bytes).text ++ (totals_line v s.totals ++ shown_sheet m.marks m.counters s.totals.records)
@@ -46,7 +47,6 @@ module _ {v : Setting} {s : Session} {m : Store} {M : List ℕ} (r : Running v s
   totals_next =
       let f = r.stands in
       record {
-        long = r.long;
         setting = v;
         bytes = f.bytes;
         many = f.many;
@@ -56,14 +56,13 @@ module _ {v : Setting} {s : Session} {m : Store} {M : List ℕ} (r : Running v s
   pub totals_fit : Holds longest_totals M
   totals_fit = omega (arith, r.handed, r.reads)
 
-  module _ {N : List ℕ} (short : length (totals_line v s.totals) ≤ longest_totals) (h : HandedOn M (length (totals_line v s.totals)) N) where
+  module _ {N : Meters} (short : length (totals_line v s.totals) ≤ longest_totals) (h : HandedOn M (length (totals_line v s.totals)) N) where
     -- and then the tally sheet
     pub sheet_next : SheetNext m.marks m.counters s.totals.records N
     sheet_next =
         let f = r.stands in
         let w = fed_whole v f.bytes in
         record {
-          long = h.long ∙ r.long;
           setting = v;
           bytes = f.bytes;
           many = h.read ∙ f.many;
@@ -78,7 +77,7 @@ module _ {v : Setting} {s : Session} {m : Store} {M : List ℕ} (r : Running v s
         }
 
     -- the whole run
-    pub run_ends : {P : List ℕ} {argument : List ℕ} → v ≡ setting_of argument → may_read M ≡ false
+    pub run_ends : {P : Meters} {argument : List ℕ} → v ≡ setting_of argument → may_read M ≡ false
         → HandedOn N (length (shown_sheet m.marks m.counters s.totals.records)) P → RunEnds argument P
     run_ends {P} {argument} i j o =
         let f = r.stands in
@@ -95,8 +94,8 @@ module _ {v : Setting} {s : Session} {m : Store} {M : List ℕ} (r : Running v s
           handed = λ z.
               let (y, e) = o.all z in
               let (b, d) = h.all y in
-              subst (λ (k : Setting). bytes_handed P ≡ length (printed_of k f.bytes)) i (omega (arith, e, d, f.handed b, l));
-          most = subst (λ (k : Setting). bytes_handed P ≤ length (printed_of k f.bytes)) i (omega (arith, o.most, h.most, f.most, l));
+              subst (λ (k : Setting). P.handed ≡ length (printed_of k f.bytes)) i (omega (arith, e, d, f.handed b, l));
+          most = subst (λ (k : Setting). P.handed ≤ length (printed_of k f.bytes)) i (omega (arith, o.most, h.most, f.most, l));
           lists =
               subst (λ (y : Setting). (rest : List ℕ) × (printed_of y f.bytes ≡ listing_of y f.bytes ++ rest)) i
               (

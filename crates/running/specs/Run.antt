@@ -7,20 +7,20 @@ use Rattle.record.specs.Sheet.{Bytes}
 use Rattle.record.specs.Tallies.{most_bytes}
 use Rattle.record.specs.Promise.{Promised}
 use Rattle.intake.specs.Feed.{printed_of}
-use Rattle.printing.specs.Handed.{bytes_read, bytes_handed, write_failed}
+use Rattle.printing.specs.declared.Meters.{Meters}
 use Rattle.streaming.specs.Fed.{may_read}
 
 -- a run with an argument ended, and its meters say this
-pub record RunEnds (argument meters : List ℕ) : Type 0 where
+pub record RunEnds (argument : List ℕ) (meters : Meters) : Type 0 where
   -- some bytes, as many as its reads delivered; `take_block` says that each block is put after those before it (`Grows`)
   pub bytes : List ℕ
   pub small : Bytes bytes
-  pub read : bytes_read meters ≡ length bytes
+  pub read : meters.read ≡ length bytes
   -- the reads ended, by one that said that there is no more or by one that failed, or a write failed (or all reads were made, which none does)
   pub ended : may_read meters ≡ false
   -- unless a write failed, as much was handed on as is printed of them, and never more; each piece stood at its place (`NextPiece`)
-  pub handed : write_failed meters ≡ 0 → bytes_handed meters ≡ length (printed_of (setting_of argument) bytes)
-  pub most : bytes_handed meters ≤ length (printed_of (setting_of argument) bytes)
+  pub handed : meters.failed ≡ false → meters.handed ≡ length (printed_of (setting_of argument) bytes)
+  pub most : meters.handed ≤ length (printed_of (setting_of argument) bytes)
   -- what is printed of them begins with their listing, and is the output by its definition; and what the listing promises
   pub lists : (rest : List ℕ) × (printed_of (setting_of argument) bytes ≡ listing_of (setting_of argument) bytes ++ rest)
   pub output : length bytes < most_bytes → printed_of (setting_of argument) bytes ≡ output_of (setting_of argument) bytes

@@ -1,19 +1,19 @@
 // The whole run: the listing of the input, line by line with its totals, and then the tally sheet (docs/REFERENCE.md, "The program").
-// A record's line is made by `feeding::feed`, the totals by `lines::put_totals`, the tally sheet by `tallying`; what is here moves the bytes.
+// A record's line is made by `feeding::feed`, the totals by `lines::Page::put_totals`, the tally sheet by `tallying`; what is here moves the bytes.
 #![tactic(auto)]
 
 mod settings;
 
-ghost use Rattle.std.specs.Prelude.{◌≡◌, ◌≤◌, length, replicate};
+ghost use Rattle.std.specs.Prelude.{◌≡◌, ◌≤◌, length};
 ghost use Rattle.record.specs.Line.{longest_totals, totals_line};
 ghost use Rattle.record.specs.Promise.{Promise};
 ghost use Rattle.intake.specs.Feed.{store_of, first_store};
-ghost use Rattle.printing.specs.Handed.{meter_count, Holds, NextPiece, HandedOn};
+ghost use Rattle.printing.specs.Handed.{first_meters, Holds, NextPiece, HandedOn};
 ghost use Rattle.streaming.specs.Fed.{Buffers};
 ghost use Rattle.running.specs.Run.{RunEnds};
 
-use lines::put_totals;
-use printing::{Meter, hand_on, write_tally};
+use lines::Page;
+use printing::{Meters, hand_on, write_tally};
 use record::{Setting, Totals};
 pub use settings::Argument;
 use settings::setting_of;
@@ -25,13 +25,18 @@ fn write_totals(
     setting: Setting,
     totals: Totals,
     output: &mut [u8],
-    meters: &mut [u64; Meter::WORDS],
+    meters: &mut Meters,
 )
     requires { (longest_totals ≤ length output.old) × NextPiece meters.old (totals_line setting totals) × Holds longest_totals meters.old }
     ensures short { length (totals_line setting totals) ≤ longest_totals }
     ensures handed { HandedOn meters.old (length (totals_line setting totals)) meters.new }
 {
-    let end = put_totals(output, 0, setting, totals);
+    let mut page = Page {
+        bytes: output,
+        at: 0,
+    };
+    page.put_totals(setting, totals);
+    let end = page.at;
     hand_on(rt, &output[..end], meters);
 }
 
@@ -45,19 +50,17 @@ pub fn run(
     counters: &mut [u64],
     words: &mut [u16],
     output: &mut [u8],
-    meters: &mut [u64; Meter::WORDS],
+    meters: &mut Meters,
 )
     requires { Buffers input.old output.old × (store_of words.old tree.old marks.old counters.old ≡ first_store)
-        × (meters.old ≡ replicate meter_count 0) }
+        × (meters.old ≡ first_meters) }
     ensures ends { RunEnds argument.now meters.new }
     ensures promise { Promise }
 {
     let setting = setting_of(argument);
-    let fed = feed_all(
+    let session = feed_all(
         rt, setting, input, tree, marks, counters, words, output, meters,
     );
-    let session = fed.session;
-    let totals = session.totals;
-    write_totals(rt, setting, totals, output, meters);
-    write_tally(rt, totals.records, marks, counters, output, meters);
+    write_totals(rt, setting, session.totals, output, meters);
+    write_tally(rt, session.totals.records, marks, counters, output, meters);
 }

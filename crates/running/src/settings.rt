@@ -14,11 +14,9 @@ impl Argument {
 }
 
 // Backward striking is on exactly if the first argument is `back`.
+// No `From<&[u8]>`: the type is another crate's, and any text but one gives the plain setting, which `into` would not say.
 pub fn setting_of(argument: &[u8]) -> Setting
     ensures { result ≡ setting_of argument.now }
 {
-    if argument == b"back".as_slice() {
-        return Setting::Back;
-    }
-    Setting::Plain
+    if argument == b"back".as_slice() { Setting::Back } else { Setting::Plain }
 }

@@ -1,13 +1,14 @@
 -- Block after block: what was fed so far, and what was handed on.
 use mathlib.Core.Path.{◌≡◌, refl, sym, ap, ap₂, ◌∙◌}
 use mathlib.Core.List.{List, [], ◌++◌, append_assoc}
-use mathlib.Core.Bool.{Bool, true, false, ◌&&◌, and-eq-true_iff}
+use mathlib.Core.Bool.{Bool, true, false, not, ◌&&◌, false≢true, and-eq-true_iff}
+use Rattle.std.proofs.Common.{Option, None, Some, is_none}
 use Prim.Native.Nat.{ℕ, ◌+◌, ◌-◌, ◌*◌, ◌≤◌, ◌<◌}
 use native.Mathlib.Omega.{arith}
-use lib.Dec.{eqb, ltb}
+use lib.Dec.{ltb}
 use lib.ListN.{length, take, replicate, length-append, length-replicate}
 use lib.Seq.{length-take-le}
-use borrow.Author.Tests.{ltb-true, eq-eqb, eqb-true}
+use borrow.Author.Tests.{ltb-true}
 use Rattle.clause.specs.Lists.{none as nothing}
 use Rattle.clause.proofs.Lists.{all_append}
 use Rattle.clause.specs.Clause.{max_words}
@@ -25,7 +26,9 @@ use Rattle.answering.proofs.Steady.{steady_few, fresh_kept, steady_fresh}
 use Rattle.index.specs.Inner.Heads.{entry_count, Indexed}
 use Rattle.feeding.specs.Inner.Blocks.{longest_text, Feedable, Stays, Took}
 use Rattle.feeding.proofs.Blocks.{within_fewer, text_of}
-use Rattle.printing.specs.Handed.{meter_count, reads_made, write_failed, reads_ended, Holds, NextPiece, HandedOn}
+use Rattle.printing.specs.declared.End.{End}
+use Rattle.printing.specs.declared.Meters.{Meters}
+use Rattle.printing.specs.Handed.{first_meters, Holds, NextPiece, HandedOn}
 use Rattle.printing.proofs.Pieces.{stands_after}
 use Rattle.streaming.specs.Fed.{output_bytes, most_reads, block_bytes, may_read, FedSoFar}
 use Rattle.streaming.specs.Inner.Reading.{Delivered}
@@ -44,7 +47,7 @@ unfolding first_store
 indexed_first e = rw e indexed_fresh
 
 -- nothing was read
-pub running_none : (v : Setting) {s : Session} {m : Store} {M : List ℕ} → s ≡ first_session → m ≡ first_store → M ≡ replicate meter_count 0 → Running v s m M
+pub running_none : (v : Setting) {s : Session} {m : Store} {M : Meters} → s ≡ first_session → m ≡ first_store → M ≡ first_meters → Running v s m M
 unfolding feed first_store
 running_none v e f g =
     record {
@@ -52,43 +55,46 @@ running_none v e f g =
       steady = rw f steady_fresh;
       kept = rw (e, f) (sym fresh_kept);
       words = rw f (length-replicate {A = ℕ} max_words 0);
-      long = rw g refl;
       reads = rw g (omega arith);
       read = rw g (omega arith);
       handed = rw g (omega arith);
       counts = λ n h. rw e (record { read = omega (arith, h); ruled = omega (arith, h) });
     }
 
+none_is : (o : Option End) → is_none o ≡ true → o ≡ None
+none_is None e = refl
+none_is (Some x) e = absurd (false≢true e)
+
 -- one more is read: a read is left, and the reads have not ended
-pub may_left : (M : List ℕ) → may_read M ≡ true → (reads_made M < most_reads) × (reads_ended M ≡ 0)
+pub may_left : (M : Meters) → may_read M ≡ true → (M.reads < most_reads) × (M.ended ≡ None)
 may_left M e =
-    let (a, b) = (and-eq-true_iff (eqb (reads_ended M) 0) (eqb (write_failed M) 0 && ltb (reads_made M) most_reads)).0 e in
-    let (c, d) = (and-eq-true_iff (eqb (write_failed M) 0) (ltb (reads_made M) most_reads)).0 b in
-    (ltb-true (reads_made M) most_reads d, eqb-true (reads_ended M) 0 a)
+    let (a, b) = (and-eq-true_iff (is_none M.ended) (not M.failed && ltb M.reads most_reads)).0 e in
+    let (c, d) = (and-eq-true_iff (not M.failed) (ltb M.reads most_reads)).0 b in
+    (ltb-true M.reads most_reads d, none_is M.ended a)
 
 -- no more is read, also after something was handed on
-pub may_ended : {M N : List ℕ} {n : ℕ} → HandedOn M n N → may_read M ≡ false → may_read N ≡ false
-may_ended {M} {N} h e = go (eqb (write_failed N) 0) refl
+pub may_ended : {M N : Meters} {n : ℕ} → HandedOn M n N → may_read M ≡ false → may_read N ≡ false
+may_ended {M} {N} h e = go N.failed refl
   where
     none : (b : Bool) → (b && false) ≡ false
     none true = refl
     none false = refl
 
-    go : (b : Bool) → eqb (write_failed N) 0 ≡ b → (eqb (reads_ended N) 0 && (b && ltb (reads_made N) most_reads)) ≡ false
-    go true f =
-        let z = eq-eqb (write_failed M) 0 (h.all (eqb-true (write_failed N) 0 f)).0 in
-        ap₂ (λ (i j : ℕ). eqb i 0 && ltb j most_reads) h.ended h.reads
-        ∙ sym (ap (λ (c : Bool). eqb (reads_ended M) 0 && (c && ltb (reads_made M) most_reads)) z) ∙ e
-    go false f = none (eqb (reads_ended N) 0)
+    go : (b : Bool) → N.failed ≡ b → (is_none N.ended && (not b && ltb N.reads most_reads)) ≡ false
+    go true f = none (is_none N.ended)
+    go false f =
+        let z = (h.all f).0 in
+        ap₂ (λ (i : Option End) (j : ℕ). is_none i && ltb j most_reads) h.ended h.reads
+        ∙ sym (ap (λ (c : Bool). is_none M.ended && (not c && ltb M.reads most_reads)) z) ∙ e
 
 -- ---- one block more
 
-module _ {v : Setting} {s : Session} {m : Store} {M : List ℕ} (r : Running v s m M) (h : reads_made M < most_reads) where
+module _ {v : Setting} {s : Session} {m : Store} {M : Meters} (r : Running v s m M) (h : M.reads < most_reads) where
   -- it can be fed
   pub block_ready : {k : ℕ} {o : List ℕ} → k ≤ block_bytes → output_bytes ≤ length o → Feedable m s.totals k 0 o
   unfolding longest_text
   block_ready l b =
-      let w = r.counts (most_reads - reads_made M) (omega arith) in
+      let w = r.counts (most_reads - M.reads) (omega arith) in
       record {
         steady = r.steady;
         kept = r.kept;
@@ -112,7 +118,7 @@ module _ {v : Setting} {s : Session} {m : Store} {M : List ℕ} (r : Running v s
       let q = block_ready w b in
       (text_of t (omega (arith, q.room)), lines_short (a.totals.kept * longest_removal) w (omega (arith, t.short)))
 
-  module _ {n : ℕ} {input N : List ℕ} (d : Delivered n input M N) {f : Fed} (e : f ≡ feed v s m (take n input)) (b : length f.text ≤ output_bytes) where
+  module _ {n : ℕ} {input : List ℕ} {N : Meters} (d : Delivered n input M N) {f : Fed} (e : f ≡ feed v s m (take n input)) (b : length f.text ≤ output_bytes) where
     -- what was fed of all bytes
     fed_all : (F : FedSoFar v s m M) → feed v first_session first_store (F.bytes ++ take n input)
         ≡ record { session = f.session; store = f.store; text = (fed_whole v F.bytes).text ++ f.text }
@@ -139,7 +145,6 @@ module _ {v : Setting} {s : Session} {m : Store} {M : List ℕ} (r : Running v s
         let p : printed_of v (a ++ c) ≡ x ++ (f.text ++ (t ++ u)) =
         ap (λ (y : List ℕ). (y ++ t) ++ u) (ap (λ (y : Fed). y.text) (fed_all r.stands)) ∙ append_assoc (x ++ f.text) t u ∙ append_assoc x f.text (t ++ u) in
         record {
-          long = d.long ∙ r.long;
           setting = v;
           bytes = a ++ c;
           many = omega (arith, d.read, r.stands.many, block_long, length-append a c);
@@ -149,7 +154,7 @@ module _ {v : Setting} {s : Session} {m : Store} {M : List ℕ} (r : Running v s
     pub lines_fit : Holds (length f.text) N
     lines_fit = omega (arith, d.handed, r.handed, h, b)
 
-    module _ {P : List ℕ} (u : Bytes (take n input)) (o : HandedOn N (length f.text) P) where
+    module _ {P : Meters} (u : Bytes (take n input)) (o : HandedOn N (length f.text) P) where
       -- they were handed on, and the bytes that were fed have grown by those of the block
       pub fed_more : (F : FedSoFar v s m M) → (G : FedSoFar v f.session f.store P) × (G.bytes ≡ F.bytes ++ take n input)
       fed_more F =
@@ -176,7 +181,6 @@ module _ {v : Setting} {s : Session} {m : Store} {M : List ℕ} (r : Running v s
             steady = y.steady;
             kept = y.kept;
             words = w ∙ r.words;
-            long = o.long ∙ d.long ∙ r.long;
             reads = omega (arith, o.reads, d.reads, h);
             read = omega (arith, o.read, o.reads, d.read, d.reads, r.read, k);
             handed = omega (arith, o.most, o.reads, d.handed, d.reads, r.handed, b);

@@ -1,2 +1,1 @@
-pub mod Meters
 pub mod FedBlocks

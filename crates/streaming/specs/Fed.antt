@@ -1,12 +1,12 @@
 -- What a run has fed. Nothing says which bytes a read delivers, so this speaks of some bytes: as many as the meters say.
-use Rattle.std.specs.Prelude.{◌≡◌, Bool, ◌&&◌, List, ◌++◌, ℕ, ◌+◌, ◌*◌, ◌≤◌, eqb, ltb, length}
+use Rattle.std.specs.Prelude.{◌≡◌, Bool, false, ◌&&◌, not, is_none, List, ◌++◌, ℕ, ◌+◌, ◌*◌, ◌≤◌, ltb, length}
 use Rattle.tree.specs.Laid.{max_kept}
 use Rattle.record.specs.Line.{longest_line, longest_removal}
 use Rattle.record.specs.declared.Setting.{Setting}
 use Rattle.record.specs.Sheet.{Bytes}
 use Rattle.intake.specs.Feed.{Store, feed, first_session, first_store}
 use Rattle.intake.specs.declared.Session.{Session}
-use Rattle.printing.specs.Handed.{bytes_read, reads_made, bytes_handed, write_failed, reads_ended}
+use Rattle.printing.specs.declared.Meters.{Meters}
 
 -- the most bytes of a block
 abbrev pub block_bytes : ℕ
@@ -27,20 +27,20 @@ pub record Buffers (input output : List ℕ) : Type 0 where
   pub room : output_bytes ≤ length output
 
 -- whether one more block is read: the reads have not ended, no write has failed, and a read is left
-abbrev pub may_read : (meters : List ℕ) → Bool
-may_read m = eqb (reads_ended m) 0 && (eqb (write_failed m) 0 && ltb (reads_made m) most_reads)
+abbrev pub may_read : Meters → Bool
+may_read m = is_none m.ended && (not m.failed && ltb m.reads most_reads)
 
 -- some bytes were fed from the start on, with a setting, and left the session and the lent words; they are as many as the reads delivered, and their lines
 -- were handed on, unless a write has failed. `WholeInput` speaks of every input, so of these bytes
-pub record FedSoFar (setting : Setting) (session : Session) (store : Store) (meters : List ℕ) : Type 0 where
+pub record FedSoFar (setting : Setting) (session : Session) (store : Store) (meters : Meters) : Type 0 where
   pub bytes : List ℕ
   pub small : Bytes bytes
   pub read : session ≡ (feed setting first_session first_store bytes).session
   pub lent : store ≡ (feed setting first_session first_store bytes).store
-  pub many : bytes_read meters ≡ length bytes
-  pub handed : write_failed meters ≡ 0 → bytes_handed meters ≡ length (feed setting first_session first_store bytes).text
-  pub most : bytes_handed meters ≤ length (feed setting first_session first_store bytes).text
+  pub many : meters.read ≡ length bytes
+  pub handed : meters.failed ≡ false → meters.handed ≡ length (feed setting first_session first_store bytes).text
+  pub most : meters.handed ≤ length (feed setting first_session first_store bytes).text
 
 -- after a block the bytes that were fed are those before it and then the block's
-abbrev pub Grows : Setting → Session → Store → (meters block : List ℕ) → Session → Store → (after : List ℕ) → Type 0
+abbrev pub Grows : Setting → Session → Store → Meters → (block : List ℕ) → Session → Store → (after : Meters) → Type 0
 Grows v s m M block s' m' N = (F : FedSoFar v s m M) → (G : FedSoFar v s' m' N) × (G.bytes ≡ F.bytes ++ block)

@@ -1,25 +1,18 @@
 // The blocks of the input: each is read and fed, and its lines are handed on.
-ghost use Rattle.std.specs.Prelude.{◌≡◌, true, false, ◌+◌, ◌-◌, take, replicate};
+ghost use Rattle.std.specs.Prelude.{◌≡◌, true, false, ◌+◌, ◌-◌, take};
 ghost use Rattle.intake.specs.Feed.{store_of, first_store};
 ghost use Rattle.index.specs.Inner.Heads.{Indexed};
 ghost use Rattle.intake.specs.Feed.{feed as Feed·feed};
-ghost use Rattle.printing.specs.Handed.{meter_count, bytes_read, reads_made};
+ghost use Rattle.printing.specs.Handed.{first_meters};
 ghost use Rattle.streaming.specs.Fed.{Buffers, may_read, Grows};
 ghost use Rattle.streaming.specs.Inner.Running.{Running};
 
 use crate::input::{may_read, read_block};
-use feeding::feed;
+use feeding::{Turn, feed};
 use index::Heads;
 use intake::Session;
-use printing::{Meter, hand_on};
+use printing::{Meters, hand_on};
 use record::Setting;
-
-// What was fed: the session after it, and the place in the output after its lines.
-#[derive(Drop)]
-pub struct FedBlock {
-    pub session: Session,
-    pub next: usize,
-}
 
 // Reads a block, feeds what was read, and hands its lines on.
 fn take_block(
@@ -33,8 +26,8 @@ fn take_block(
     counters: &mut [u64],
     words: &mut [u16],
     output: &mut [u8],
-    meters: &mut [u64; Meter::WORDS],
-) -> FedBlock
+    meters: &mut Meters,
+) -> Turn
     requires { Running setting session (store_of words.old tree.old marks.old counters.old) meters.old
         × Buffers input.old output.old × Indexed tree.old heads.old × (may_read meters.old ≡ true) }
     ensures fed { record {
@@ -43,14 +36,14 @@ fn take_block(
       text = take result.next output.new;
     }
         ≡ Feed·feed setting session (store_of words.old tree.old marks.old counters.old)
-        (take (bytes_read meters.new - bytes_read meters.old) input.new) }
+        (take (meters.new.read - meters.old.read) input.new) }
     ensures running { Running setting result.session (store_of words.new tree.new marks.new counters.new)
         meters.new }
     ensures grows { Grows setting session (store_of words.old tree.old marks.old counters.old)
         meters.old
-        (take (bytes_read meters.new - bytes_read meters.old) input.new)
+        (take (meters.new.read - meters.old.read) input.new)
         result.session (store_of words.new tree.new marks.new counters.new) meters.new }
-    ensures reads { reads_made meters.new ≡ reads_made meters.old + 1 }
+    ensures reads { meters.new.reads ≡ meters.old.reads + 1 }
     ensures indexed { Indexed tree.new heads.new }
 {
     let count = read_block(rt, input, meters);
@@ -65,13 +58,8 @@ fn take_block(
         words,
         output,
     );
-    let next = turn.next;
-    hand_on(rt, &output[..next], meters);
-    let after = turn.session;
-    FedBlock {
-        session: after,
-        next: next,
-    }
+    hand_on(rt, &output[..turn.next], meters);
+    turn
 }
 
 // Takes block after block, with the index of the tree beside it: of a fresh tree it is 0 throughout.
@@ -84,26 +72,20 @@ pub fn feed_all(
     counters: &mut [u64],
     words: &mut [u16],
     output: &mut [u8],
-    meters: &mut [u64; Meter::WORDS],
-) -> FedBlock
+    meters: &mut Meters,
+) -> Session
     requires { Buffers input.old output.old × (store_of words.old tree.old marks.old counters.old ≡ first_store)
-        × (meters.old ≡ replicate meter_count 0) }
-    ensures running { Running setting result.session (store_of words.new tree.new marks.new counters.new)
-        meters.new }
+        × (meters.old ≡ first_meters) }
+    ensures running { Running setting result (store_of words.new tree.new marks.new counters.new) meters.new }
     ensures ended { may_read meters.new ≡ false }
 {
-    let mut here = FedBlock {
-        session: Session::default(),
-        next: 0,
-    };
+    let mut session = Session::default();
     let mut heads = [0u16; Heads::ENTRIES];
-    loop {
-        if !may_read(meters) {
-            return here;
-        }
-        let session = here.session;
-        here = take_block(
+    while may_read(meters) {
+        let turn = take_block(
             rt, setting, session, input, tree, marks, &mut heads, counters, words, output, meters,
         );
+        session = turn.session;
     }
+    session
 }

@@ -7,7 +7,7 @@ use tree::Tree;
 mod blocks;
 mod input;
 
-pub use blocks::{FedBlock, feed_all};
+pub use blocks::feed_all;
 
 // The limits of a run.
 #[derive(Drop)]

@@ -2,12 +2,12 @@
 // All that it does is `running::run`; here are its first argument, and the words that it lends.
 #![tactic(auto)]
 
-ghost use Rattle.std.specs.Prelude.{◌≡◌, replicate};
+ghost use Rattle.std.specs.Prelude.{◌≡◌};
 ghost use Rattle.intake.specs.Feed.{store_of, first_store};
-ghost use Rattle.printing.specs.Handed.{meter_count};
+ghost use Rattle.printing.specs.Handed.{first_meters};
 
 use clause::Clause;
-use printing::Meter;
+use printing::Meters;
 use record::Lent;
 use running::{Argument, run};
 use std::env::Env;
@@ -24,9 +24,9 @@ fn start(
     counters: &mut [u64; Counters::WORDS],
     words: &mut [u16; Clause::WORDS],
     output: &mut [u8; Limit::OUTPUT],
-    meters: &mut [u64; Meter::WORDS],
+    meters: &mut Meters,
 )
-    requires { (store_of words.old tree.old marks.old counters.old ≡ first_store) × (meters.old ≡ replicate meter_count 0) }
+    requires { (store_of words.old tree.old marks.old counters.old ≡ first_store) × (meters.old ≡ first_meters) }
 {
     run(
         rt, argument, input, tree, marks, counters, words, output, meters,
@@ -42,7 +42,7 @@ fn main(rt: HostRuntime) {
     let mut counters = [0u64; Counters::WORDS];
     let mut words = [0u16; Clause::WORDS];
     let mut output = [0u8; Limit::OUTPUT];
-    let mut meters = [0u64; Meter::WORDS];
+    let mut meters = Meters::default();
     start(
         &rt,
         &argument[..length],

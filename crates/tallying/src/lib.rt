@@ -8,6 +8,7 @@ pub use counting::count_strike;
 pub use sheet::{put_records, put_rows};
 
 // The counters: for each number that a record can have, the strikes of its clause and their candidates.
+// Words and no struct of the two: the definitions and claims (`counters_after`, `shown_from`, `WholeInput`) speak of one list of numbers.
 #[derive(Drop)]
 pub struct Counters {}
 

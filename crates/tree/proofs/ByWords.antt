@@ -1,4 +1,5 @@
 -- Insertion and removal on the words themselves are insertion and removal.
+use Rattle.std.specs.Prelude.{Ok, Result}
 use mathlib.Core.Path.{◌≡◌, refl, sym, ap, ap₂, ◌∙◌}
 use mathlib.Core.Bool.{Bool, true, false, and-eq-true_iff}
 use mathlib.Core.Option.{Option, none, some}
@@ -27,11 +28,11 @@ use Rattle.tree.proofs.InsertWords.{filled, ins_size, ins_words, over_filled, in
 use Rattle.tree.proofs.RemoveWords.{Closes, closes, locate_none, del_leaves, del_filled}
 use Rattle.tree.proofs.Held.{hold_top}
 use Rattle.tree.proofs.Grow.{laid_decode}
-use Rattle.clause.specs.declared.Shape.TheVariants.{Whole}
 use Rattle.clause.specs.Word.{Words}
 use Rattle.tree.specs.declared.Refusal.TheVariants.{NoRoom}
-use Rattle.tree.specs.declared.CallAnswer.{CallAnswer}
-use Rattle.tree.specs.declared.CallAnswer.TheVariants.{Kept, Removed}
+use Rattle.tree.specs.declared.Done.{Done}
+use Rattle.tree.specs.declared.Done.TheVariants.{Kept, Removed}
+use Rattle.tree.specs.declared.Refusal.{Refusal}
 
 -- a slice is its header and its words
 laid_words : (len : ℕ) (F : Forest) → layout len F ≡ header_of (size F) (leaves F) ∷ filled len F
@@ -44,7 +45,7 @@ module _ (len : ℕ) (F : Forest) (f : WellFormed F) (room : size F < len) (high
   header = header_of (size F) (leaves F)
 
   -- a new tree in the slice
-  changes_to : (G : Forest) (a : CallAnswer) (h : ℕ) (ws : List ℕ) → h ≡ header_of (size G) (leaves G) → ws ≡ filled len G
+  changes_to : (G : Forest) (a : Result Done Refusal) (h : ℕ) (ws : List ℕ) → h ≡ header_of (size G) (leaves G) → ws ≡ filled len G
       → ◌≡◌ {A = Called} (record { answer = a; slice = h ∷ ws }) (changed (layout len F) a (change G))
   changes_to G a h ws p q = rw (length_layout len F room, laid_words len G, p, q)
 
@@ -68,7 +69,7 @@ module _ (len : ℕ) (F : Forest) (f : WellFormed F) (room : size F < len) (high
     placed = insert_at (layout len F) e.number D.place D.left D.raised
 
     -- there is room
-    insert_room : leb len (size G) ≡ false → placed ≡ changed (layout len F) Kept (change G)
+    insert_room : leb len (size G) ≡ false → placed ≡ changed (layout len F) (Ok Kept) (change G)
     insert_room q =
         let small : size G < len = leb-false len (size G) q in
         let S = layout len F in
@@ -78,17 +79,17 @@ module _ (len : ℕ) (F : Forest) (f : WellFormed F) (room : size F < len) (high
         let rest : drop (used_of (get_or S 0 0) + 1 + new) S ≡ drop (size F + new) (filled len F) =
         rw (header_layout len F (omega arith), next, laid_words len F) in
         rw fits
-        (changes_to G Kept _ _ (rw (laid_words len F) (omega (arith, larger, ins_leaves e.keys e.number F b l)))
+        (changes_to G (Ok Kept) _ _ (rw (laid_words len F) (omega (arith, larger, ins_leaves e.keys e.number F b l)))
         (ap₂ ◌++◌ (ins_words e.keys F (omega arith) e.number) rest ∙ over_filled len new F G larger small))
 
     -- there is none
-    insert_full : leb len (size G) ≡ true → placed ≡ changed (layout len F) Kept (refuse NoRoom)
+    insert_full : leb len (size G) ≡ true → placed ≡ changed (layout len F) (Ok Kept) (refuse NoRoom)
     insert_full q =
         let large : len ≤ size G = leb-true len (size G) q in
         rw (length_layout len F room, header_layout len F (omega arith), lt-ltb len (size F + 1 + new) (omega (arith, larger)))
 
     insert_at_lem : find e.number F ≡ none → holder e.keys F ≡ none → (s t : Bool) → leb max_kept (leaves F) ≡ s → leb len (size G) ≡ t
-        → insert_unless (layout len F) e.number D none none ≡ changed (layout len F) Kept (insert_into len F e)
+        → insert_unless (layout len F) e.number D none none ≡ changed (layout len F) (Ok Kept) (insert_into len F e)
     unfolding insert_into
     insert_at_lem u v true t p q = rw (count_layout len F (omega arith), p) (rw (u, v, p, insert_into))
     insert_at_lem u v false true p q = rw (count_layout len F (omega arith), p) (rw (u, v, p, q, insert_into) (insert_full q))
@@ -103,12 +104,12 @@ module _ (len : ℕ) (F : Forest) (f : WellFormed F) (room : size F < len) (high
         ap (λ (l : List ℕ). insert_unless S n (from_top l e.keys) (locate l n 0 0 0) (from_top l e.keys).holder) (region_layout len F (omega arith))
         ∙ ap (insert_unless S n D (locate (encode F) n 0 0 0)) (hold_top e.keys F (omega arith))
 
-    pub insert_laid : insert_by_words (layout len F) e ≡ changed (layout len F) Kept (insert_into len F e)
+    pub insert_laid : insert_by_words (layout len F) e ≡ changed (layout len F) (Ok Kept) (insert_into len F e)
     unfolding insert_into
     insert_laid = by_words ∙ go (find e.number F) refl (holder e.keys F) refl
       where
         go : (o : Option (List ℕ)) → find e.number F ≡ o → (m : Option ℕ) → holder e.keys F ≡ m
-            → insert_unless (layout len F) e.number D (locate (encode F) e.number 0 0 0) m ≡ changed (layout len F) Kept (insert_into len F e)
+            → insert_unless (layout len F) e.number D (locate (encode F) e.number 0 0 0) m ≡ changed (layout len F) (Ok Kept) (insert_into len F e)
         go (some cs) u m v = rw (closes e.number F l f (omega arith) cs u).found (rw (u, insert_into))
         go none u (some m) v = rw (locate_none e.number F l f (omega arith) u) (rw (u, v, insert_into))
         go none u none v = rw (locate_none e.number F l f (omega arith) u) (insert_at_lem u v (leb max_kept (leaves F)) (leb len (size G)) refl refl)
@@ -117,18 +118,18 @@ module _ (len : ℕ) (F : Forest) (f : WellFormed F) (room : size F < len) (high
 
   module _ (n : ℕ) (l : n < first_key) where
     remove_found : (cs : List ℕ) → find n F ≡ some cs → (c : Closes n F)
-        → remove_at header (filled len F) (locate (encode F) n 0 0 0) ≡ changed (layout len F) Removed (change (del n F))
+        → remove_at header (filled len F) (locate (encode F) n 0 0 0) ≡ changed (layout len F) (Ok Removed) (change (del n F))
     remove_found cs u c =
         rw c.found
-        (changes_to (del n F) Removed _ _ (omega (arith, c.sized, del_leaves n F cs l f u)) (sym (del_filled n len F room c)))
+        (changes_to (del n F) (Ok Removed) _ _ (omega (arith, c.sized, del_leaves n F cs l f u)) (sym (del_filled n len F room c)))
 
-    pub remove_laid : remove_by_words (layout len F) n ≡ changed (layout len F) Removed (remove_from F n)
+    pub remove_laid : remove_by_words (layout len F) n ≡ changed (layout len F) (Ok Removed) (remove_from F n)
     unfolding remove_by_words remove_from
     remove_laid =
         rw (laid_words len F, used_layout len F (omega arith), take_layout len F (omega arith)) (rw (← laid_words len F) (go (find n F) refl))
       where
         go : (o : Option (List ℕ)) → find n F ≡ o
-            → remove_at header (filled len F) (locate (encode F) n 0 0 0) ≡ changed (layout len F) Removed (remove_from F n)
+            → remove_at header (filled len F) (locate (encode F) n 0 0 0) ≡ changed (layout len F) (Ok Removed) (remove_from F n)
         go (some cs) u = rw (u, remove_from) (remove_found cs u (closes n F l f (omega arith) cs u))
         go none u = rw (locate_none n F l f (omega arith) u) (rw (u, remove_from) (rw (laid_words len F)))
 
@@ -141,7 +142,7 @@ module _ (T : List ℕ) (s : sized T ≡ true) (w : well_laid T ≡ true) where
   stands : Stands T (decode T)
   stands = laid_decode T (omega (arith, short)) (rw w tt)
 
-  pub insertion_words : (c : List ℕ) (n q : ℕ) → shape c ≡ Whole q → Words c → n < 2 ^ 32
+  pub insertion_words : (c : List ℕ) (n q : ℕ) → shape c ≡ Ok q → Words c → n < 2 ^ 32
       → insertion T c n ≡ insert_by_words T (entry (record { number = n; clause = c }))
   unfolding insertion
   insertion_words c n q e u l =

@@ -16,3 +16,4 @@ pub mod Pairs
 pub mod Hops
 pub mod Laws
 pub mod ByWords
+pub mod Refused

@@ -1,9 +1,9 @@
 // Tree words (docs/REFERENCE.md, "Tree words"): the fields of a word and of a header, the size of a slice; what calls answer.
 #![tactic(auto)]
 
-ghost use Rattle.std.specs.Prelude.{◌≡◌, ◌≤◌, ◌<◌};
+ghost use Rattle.std.specs.Prelude.{◌≡◌, ◌≤◌, ◌<◌, length, get_or};
 ghost use Rattle.tree.specs.Forest.{word_limit, header_of};
-ghost use Rattle.tree.specs.Laid.{tree_sized, used_of, kept_of, one_more, one_less};
+ghost use Rattle.tree.specs.Laid.{tree_sized, used_of, kept_of, one_more, one_less, region};
 
 use clause::Fault;
 
@@ -34,10 +34,9 @@ pub enum Refusal {
     ShortList,
 }
 
-// The answer to a call that changes a tree: "ready" of fresh, "kept" of insertion, "removed" of removal, or a refusal.
-#[derive(Drop)]
-pub enum CallAnswer {
-    Refused(Refusal),
+// What a call that changes a tree has done: "ready" of fresh, "kept" of insertion, "removed" of removal.
+#[derive(Clone, Copy)]
+pub enum Done {
     Ready,
     Kept,
     Removed,
@@ -85,6 +84,15 @@ impl Tree {
             used: Self::used(word),
             kept: Self::kept(word),
         }
+    }
+
+    // The used words of a slice, which has as many after its header.
+    pub fn region(tree: &[u64]) -> &[u64]
+        requires { used_of (get_or tree.now 0 0) < length tree.now }
+        ensures { result.now ≡ region tree.now }
+    {
+        let end = Self::used(tree[0]) + 1;
+        &tree[1..end]
     }
 
     // The header with `new` used words more and one clause more, for which it has room.

@@ -1,4 +1,5 @@
 -- What the queries of a tree answer, in terms of the clauses that it keeps.
+use Rattle.std.specs.Prelude.{Ok}
 use mathlib.Core.Path.{◌≡◌, refl, sym, ap, ◌∙◌}
 use mathlib.Core.Logic.{◌⊎◌, inl, inr}
 use mathlib.Core.List.{List, map}
@@ -31,7 +32,7 @@ use Rattle.walk.proofs.Encoded.{walk_words_encode}
 use Rattle.walk.proofs.Formed.{formed_full}
 use Rattle.walk.proofs.Kept.{kept_steady, kept_short, finds_shows, subsumes_finds}
 use Rattle.tree.specs.declared.Refusal.TheVariants.{Spent}
-use Rattle.walk.specs.declared.QueryAnswer.TheVariants.{Covered, NotCovered}
+use Rattle.walk.specs.declared.Verdict.TheVariants.{Covered, NotCovered}
 
 -- what a witness shows is so
 pub shows_subsumes : (c d W : List ℕ) → Shows c d W → Subsumes c d
@@ -117,7 +118,7 @@ module _ (K : List Pair) (F : Forest) (S : All Sound K) (R : Mirrors F (map entr
     answers_from : (a a' : Answer State) → walk (machine d) always F initial 0 ≡ a → Decides (Finds (machine d) F initial) a → Capped b a a'
         → query T d b W ≡ answer_by b W a' → Answers K F T d b W
     answers_from (covered n t c) a' e (found g) (as_covered h) u =
-        let is : (query T d b W).answer ≡ Covered n c = ap (λ x. x.answer) u in
+        let is : (query T d b W).answer ≡ (Ok (Covered n c)) = ap (λ x. x.answer) u in
         let words : (query T d b W).witness ≡ with_shown (shown t) W = ap (λ x. x.witness) u in
         let all : candidates F d ≡ c = ap count_of e in
         let (p, m, at, S', spared) = finds_shows K F S R d D n t g W long in
@@ -138,7 +139,7 @@ module _ (K : List Pair) (F : Forest) (S : All Sound K) (R : Mirrors F (map entr
         let all : candidates F d ≡ c = ap count_of e in
         over_budget u (omega arith)
     answers_from (not_covered c) a' e (nothing g) (as_not_covered h) u =
-        let is : (query T d b W).answer ≡ NotCovered c = ap (λ x. x.answer) u in
+        let is : (query T d b W).answer ≡ (Ok (NotCovered c)) = ap (λ x. x.answer) u in
         let words : (query T d b W).witness ≡ W = ap (λ x. x.witness) u in
         let all : candidates F d ≡ c = ap count_of e in
         let none : Subsumed K d → ⊥ = λ v. let (t, f) = subsumes_finds K F S R d D v.0 v.1 v.2 in g v.0.number t f in

@@ -1,10 +1,9 @@
 -- The ceiling of a walk's count, and a closer bound.
-use Rattle.std.specs.Prelude.{◌≡◌, cond, ◌&&◌, ℕ, zero, suc, ◌+◌, ◌-◌, ◌*◌, ◌^◌, leb}
+use Rattle.std.specs.Prelude.{◌≡◌, cond, ◌&&◌, ℕ, zero, suc, ◌+◌, ◌-◌, ◌*◌, ◌^◌, leb, Err, Ok, Result}
 use Rattle.clause.specs.Clause.{max_literals}
 use Rattle.tree.specs.Laid.{max_kept}
-use Rattle.walk.specs.declared.CeilingAnswer.{CeilingAnswer}
-use Rattle.walk.specs.declared.CeilingAnswer.TheVariants.{NoCeiling, Ceiling}
 use Rattle.tree.specs.declared.Refusal.TheVariants.{BadSize}
+use Rattle.tree.specs.declared.Refusal.{Refusal}
 
 -- q + q² + .. + q^m
 abbrev pub powers : ℕ → ℕ → ℕ
@@ -37,6 +36,6 @@ abbrev pub EnoughBudget : Type 0
 EnoughBudget = enough_budget ≡ 112_230_400
 
 -- the ceiling call
-abbrev pub ceiling_call : (kept q m : ℕ) → CeilingAnswer
+abbrev pub ceiling_call : (kept q m : ℕ) → Result ℕ Refusal
 ceiling_call kept q m =
-    cond (leb kept max_kept && leb 1 q && leb q max_literals && leb 1 m && leb m max_literals) (Ceiling (ceiling kept q m)) (NoCeiling BadSize)
+    cond (leb kept max_kept && leb 1 q && leb q max_literals && leb 1 m && leb m max_literals) (Ok (ceiling kept q m)) (Err BadSize)

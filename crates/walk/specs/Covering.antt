@@ -1,5 +1,5 @@
 -- What the queries of a tree answer, in terms of the clauses that it keeps.
-use Rattle.std.specs.Prelude.{◌≡◌, ◌↔◌, ◌⊎◌, ℕ, ◌+◌, ◌*◌, ◌≤◌, ◌<◌, max, length, get_or}
+use Rattle.std.specs.Prelude.{◌≡◌, ◌↔◌, ◌⊎◌, ℕ, ◌+◌, ◌*◌, ◌≤◌, ◌<◌, max, length, get_or, Err, Ok}
 use mathlib.Core.List.{List, [], ◌∷◌, Memᴰ}
 use Rattle.clause.specs.Lists.{All, Injective}
 use Rattle.clause.specs.Clause.{max_literals, literals, vars, term_at, IsTerm, inst, Subsumes}
@@ -10,7 +10,7 @@ use Rattle.walk.specs.Walk.{Answer, covered, not_covered, spent, broken, always,
 use Rattle.walk.specs.Ceiling.{ceiling, arrangements}
 use Rattle.walk.specs.Query.{machine, query}
 use Rattle.tree.specs.declared.Refusal.TheVariants.{Spent}
-use Rattle.walk.specs.declared.QueryAnswer.TheVariants.{Unanswered, Covered, NotCovered}
+use Rattle.walk.specs.declared.Verdict.TheVariants.{Covered, NotCovered}
 
 -- the most literals in a kept clause
 abbrev pub most : List Pair → ℕ
@@ -57,15 +57,15 @@ candidates F d = count_of (walk (machine d) always F initial 0)
 
 -- a query is answered covered
 abbrev pub IsCovered : (slice clause : List ℕ) (budget : ℕ) (witness : List ℕ) → Type 0
-IsCovered T d b W = (n : ℕ) × (c : ℕ) × ((query T d b W).answer ≡ Covered n c)
+IsCovered T d b W = (n : ℕ) × (c : ℕ) × ((query T d b W).answer ≡ Ok (Covered n c))
 
 -- a query is answered not covered
 abbrev pub IsNotCovered : (slice clause : List ℕ) (budget : ℕ) (witness : List ℕ) → Type 0
-IsNotCovered T d b W = (c : ℕ) × ((query T d b W).answer ≡ NotCovered c)
+IsNotCovered T d b W = (c : ℕ) × ((query T d b W).answer ≡ Ok (NotCovered c))
 
 -- a query is answered spent
 abbrev pub IsSpent : (slice clause : List ℕ) (budget : ℕ) (witness : List ℕ) → Type 0
-IsSpent T d b W = (query T d b W).answer ≡ Unanswered (Spent b)
+IsSpent T d b W = (query T d b W).answer ≡ Err (Spent b)
 
 -- the query of the clause d on the slice T of the tree F that keeps the pairs K
 pub record Answers (K : List Pair) (F : Forest) (T d : List ℕ) (b : ℕ) (W : List ℕ) : Type 0 where
@@ -73,13 +73,13 @@ pub record Answers (K : List Pair) (F : Forest) (T d : List ℕ) (b : ℕ) (W : 
   pub kinds : IsCovered T d b W ⊎ (IsNotCovered T d b W ⊎ IsSpent T d b W)
   -- covered: the clause kept under that number subsumes d, and the witness shows it
   pub covers :
-      (n c : ℕ) → (query T d b W).answer ≡ Covered n c
+      (n c : ℕ) → (query T d b W).answer ≡ Ok (Covered n c)
       → (p : Pair) × Memᴰ p K × (p.number ≡ n) × Shows p.clause d (query T d b W).witness × Untouched p.clause W (query T d b W).witness
   -- not covered: none does, and nothing is written
-  pub spares : (c : ℕ) → (query T d b W).answer ≡ NotCovered c → (Subsumed K d → ⊥) × ((query T d b W).witness ≡ W)
+  pub spares : (c : ℕ) → (query T d b W).answer ≡ Ok (NotCovered c) → (Subsumed K d → ⊥) × ((query T d b W).witness ≡ W)
   -- the count is the walk's
-  pub counts : (n c : ℕ) → (query T d b W).answer ≡ Covered n c → c ≡ candidates F d
-  pub counts_not : (c : ℕ) → (query T d b W).answer ≡ NotCovered c → c ≡ candidates F d
+  pub counts : (n c : ℕ) → (query T d b W).answer ≡ Ok (Covered n c) → c ≡ candidates F d
+  pub counts_not : (c : ℕ) → (query T d b W).answer ≡ Ok (NotCovered c) → c ≡ candidates F d
   -- spent exactly if the walk would take one candidate more than the budget
   pub spends : IsSpent T d b W ↔ (b < candidates F d)
   -- spent: nothing is written

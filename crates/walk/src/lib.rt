@@ -3,12 +3,10 @@
 
 use clause::Clause;
 use machine::Sequence;
-use tree::Refusal;
 
-// The answer to a query: covered, with the clause's number and the count; not covered, with the count; or a refusal.
-#[derive(Drop)]
-pub enum QueryAnswer {
-    Unanswered(Refusal),
+// What a query finds: covered, with the clause's number and the count; or not covered, with the count.
+#[derive(Clone, Copy)]
+pub enum Verdict {
     Covered(u32, u64),
     NotCovered(u64),
 }
@@ -20,11 +18,4 @@ pub struct Witness {}
 impl Witness {
     // The least words of a witness.
     pub const WORDS: usize = Clause::LITERALS + Sequence::NUMBERS;
-}
-
-// The answer of the ceiling call.
-#[derive(Drop)]
-pub enum CeilingAnswer {
-    NoCeiling(Refusal),
-    Ceiling(u64),
 }

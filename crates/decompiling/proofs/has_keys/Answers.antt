@@ -8,10 +8,10 @@ use Rattle.decompiling.proofs.has_keys.Goals as goal
 
 pub returns-in_default : goal.returns-in_default
 returns-in_default c =
-    keys_faulty c.args.words.now c.args.keys.now c.read-shape.result c.in_default.field-0 c.read-shape.ensures c.in_default.is
+    keys_faulty c.args.words.now c.args.keys.now c.read.result c.in_default.field-0 c.read.ensures c.in_default.is
 
 pub returns : goal.returns
 returns c =
     c.eq.ensures ∙ ap (λ l. alike l c.args.keys.now) (compiled_keys c.compile-written.ensures)
-    ∙ keys_whole c.args.words.now c.args.keys.now c.read-shape.result c.in-Whole.field-0 c.read-shape.ensures c.in-Whole.is
+    ∙ keys_whole c.args.words.now c.args.keys.now c.read.result c.in-Ok.field-0 c.read.ensures c.in-Ok.is
     (λ i. omega (arith, c.type_inv.words i))

@@ -6,7 +6,7 @@ use Rattle.decompiling.proofs.write_words.Goals as goal
 use Rattle.decompiling.proofs.write_words.Goals.{in-Some+else-count-ge-WORDS, in_default}
 
 pub loop-key-init : goal.loop-key-init
-loop-key-init c = let p = c.requires in writing_first _ _ _ _ p.2 p.3 p.4
+loop-key-init c = let p = c.requires in writing_first _ _ _ _ p.0 p.1 p.2
 
 pub returns-in_err-word : goal.returns-in_err-word
 returns-in_err-word c =

@@ -1,5 +1,6 @@
 -- `insert` meets its contract: the tests in their order, and then the insertion of an accepted clause into a well-laid slice.
 use Rattle.tree.specs.Calls.{insertion}
+use Rattle.tree.proofs.Refused.{refused_as}
 use Rattle.insertion.proofs.insert.Goals as goal
 
 pub returns-then-not-sized : goal.returns-then-not-sized
@@ -7,11 +8,10 @@ unfolding insertion
 returns-then-not-sized c = rw (← c.sized.ensures, c.if-not-sized.true)
 
 -- the clause has a fault
-pub returns-in_default : goal.returns-in_default
+pub returns-in_err-read : goal.returns-in_err-read
 unfolding insertion
-returns-in_default c =
-    let t = c.in_default.is in
-    rw (← c.sized.ensures, c.if-not-sized.false, ← c.read-shape.ensures, t, c.fault.ensures, t)
+returns-in_err-read c =
+    rw (refused_as _ _ c.from_residual.ensures.1, ← c.sized.ensures, c.if-not-sized.false, ← c.read.ensures, c.in_err-read.was)
 
 -- the slice is not well laid
 pub returns-then-not-well_laid : goal.returns-then-not-well_laid
@@ -20,8 +20,8 @@ returns-then-not-well_laid c =
     rw (
       ← c.sized.ensures,
       c.if-not-sized.false,
-      ← c.read-shape.ensures,
-      c.in-Whole.is,
+      ← c.read.ensures,
+      c.in_ok-read.was,
       ← c.well_laid.ensures,
       c.if-not-well_laid.true,
     )

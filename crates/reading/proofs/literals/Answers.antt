@@ -8,15 +8,15 @@ use lib.ListN.{get_or}
 use borrow.Author.Rules.{rules}
 use Rattle.clause.specs.Word.{arity}
 use Rattle.reading.specs.Inner.Cursor.{head_cursor, go_down}
-use Rattle.clause.specs.declared.Shape.{Shape}
-use Rattle.std.specs.Prelude.{Option}
+use Rattle.std.specs.Prelude.{Option, Result, ℕ}
 use Rattle.reading.specs.declared.Cursor.{Cursor}
 use Rattle.reading.proofs.Past.{past_on}
 use Rattle.reading.proofs.Scanning.{read_on, first_at, read_off, read_right, scan_none, scan_other, scan_ninth, scan_down}
 use Rattle.reading.proofs.literals.Goals as goal
+use Rattle.clause.specs.declared.Fault.{Fault}
 
 -- what is read from here on, by where the argument is
-onward : {s : Shape} (q : List ℕ) (at count : ℕ) {m n : Option Cursor} → s ≡ read_on q at count m → m ≡ n → s ≡ read_on q at count n
+onward : {s : Result ℕ Fault} (q : List ℕ) (at count : ℕ) {m n : Option Cursor} → s ≡ read_on q at count m → m ≡ n → s ≡ read_on q at count n
 onward q at count e f = e ∙ ap (read_on q at count) f
 
 pub loop-argument-init : goal.loop-argument-init

@@ -1,11 +1,8 @@
--- `free` meets its contract: the marks of the first numbers are freed.
-use Prim.Native.Nat.{◌-◌}
-use lib.ListN.{length}
-use Rattle.replacing.proofs.Copying.{Freeing}
+-- `free` meets its contract: the marks that are left to free make of them what all make of the first ones.
+use mathlib.Core.Path.{◌≡◌}
+use lib.ListN.{drop}
+use Rattle.record.specs.Marks.{freeing}
 use Rattle.replacing.proofs.free.Given as goal
 
-abbrev pub invariant-loop-i : goal.invariant-loop-i
-invariant-loop-i l = Freeing l.numbers l.initial.marks l.marks l.i
-
-abbrev pub decreases-loop-i : goal.decreases-loop-i
-decreases-loop-i l = length l.numbers - l.i
+abbrev pub invariant-loop-n : goal.invariant-loop-n
+invariant-loop-n l = freeing (drop l.n-index l.numbers) l.marks ≡ freeing l.numbers l.initial.marks

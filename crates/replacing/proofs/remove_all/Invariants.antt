@@ -1,14 +1,9 @@
--- `remove_all` meets its contract: the first numbers are removed.
-use Prim.Native.Nat.{◌-◌}
-use lib.ListN.{length, take}
-use Prim.Native.Nat.{◌≤◌}
+-- `remove_all` meets its contract: the removals that are left make of the tree what all make of the first one.
 use mathlib.Core.Path.{◌≡◌}
+use lib.ListN.{drop}
 use Rattle.book.specs.Book.{after}
 use Rattle.record.specs.Answer.{removals}
 use Rattle.replacing.proofs.remove_all.Given as goal
 
-abbrev pub invariant-loop-i : goal.invariant-loop-i
-invariant-loop-i l = (l.i ≤ length l.numbers) × (l.tree ≡ after l.initial.tree (removals (take l.i l.numbers))) × (length l.tree ≡ length l.initial.tree)
-
-abbrev pub decreases-loop-i : goal.decreases-loop-i
-decreases-loop-i l = length l.numbers - l.i
+abbrev pub invariant-loop-n : goal.invariant-loop-n
+invariant-loop-n l = after l.tree (removals (drop l.n-index l.numbers)) ≡ after l.initial.tree (removals l.numbers)

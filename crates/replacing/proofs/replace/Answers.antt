@@ -16,8 +16,8 @@ returns-in_default c =
     let a = c.args in
     let ns = a.numbers.now in record {
       entered = enters_kept a.tree.now ns (record { number = a.number; words = a.words.now })
-          (c.remove_all.ensures ∙ ap (λ (T : List ℕ). after T (removals ns)) c.copy.ensures)
-          c.insert-answer.ensures c.in_default.not-Refused c.copy-in_default.ensures c.used.ensures;
+          (c.remove_all.ensures ∙ ap (λ (T : List ℕ). after T (removals ns)) c.copy_from_slice.ensures.after)
+          c.insert-answer.ensures c.in_default.not-Err c.copy_from_slice-in_default.ensures.after c.used.ensures;
       marking = ap (λ (m : List ℕ). set m a.number 1)
           (c.free.ensures ∙ ap (λ (l : List ℕ). freeing l a.marks.now) (sym (take_all (length ns) ns (omega arith))));
       many = omega arith;
@@ -26,10 +26,10 @@ returns-in_default c =
 pub returns : goal.returns
 returns c =
     let a = c.args in
-    let w = c.in-Refused in
+    let w = c.in-Err in
     let ns = a.numbers.now in record {
       entered = enters_refused a.tree.now ns (record { number = a.number; words = a.words.now })
-          (c.remove_all.ensures ∙ ap (λ (T : List ℕ). after T (removals ns)) c.copy.ensures)
+          (c.remove_all.ensures ∙ ap (λ (T : List ℕ). after T (removals ns)) c.copy_from_slice.ensures.after)
           c.insert-answer.ensures w.refusal w.is c.code.ensures;
       marking = refl;
       many = omega arith;

@@ -1,4 +1,5 @@
 -- `run` meets its contract: the calls still to come, on the slice as it is, give what all of them give; and the claims are proved.
+use Rattle.std.specs.Prelude.{Ok}
 use mathlib.Core.Path.{◌≡◌, refl, sym, ap, ◌∙◌}
 use mathlib.Core.List.{[]}
 use native.Mathlib.Omega.{arith}
@@ -16,7 +17,7 @@ use Rattle.book.specs.Saved.{ReachSaved, PassedSaved, SavedIsMade, SavedDemand2,
 use Rattle.book.proofs.Saved.{reach_saved, passed_saved, saved_is_made, saved_demand2, saved_demand3, reads_book}
 use Rattle.book.proofs.Backward.{lists_book}
 use Rattle.tree.specs.Calls.{fresh}
-use Rattle.tree.specs.declared.CallAnswer.TheVariants.{Ready}
+use Rattle.tree.specs.declared.Done.TheVariants.{Ready}
 use borrow.Author.Rules.{rules}
 use Rattle.replay.proofs.run.Goals as goal
 
@@ -40,7 +41,7 @@ pub returns : goal.returns
 returns c =
     let a = c.args in
     let none_left : calls_of (drop c.loop-at.at a.calls.now) ≡ [] = calls_short _ _ (simp length-drop (omega (arith, c.loop-at-test.false))) in
-    let run : (fresh a.tree.now).answer ≡ Ready → Run a.tree.now (calls_of a.calls.now) =
+    let run : (fresh a.tree.now).answer ≡ Ok Ready → Run a.tree.now (calls_of a.calls.now) =
     λ r. record { ready = r; fit = c.loop-at.invariant.2 (rw none_left tt) } in
     record {
       slice = sym (ap (λ T. after T (calls_of a.calls.now)) (sym (ap (λ y. y.slice) c.fresh.ensures)) ∙ c.loop-at.invariant.3 ∙ rw none_left);

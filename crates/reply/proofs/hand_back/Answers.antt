@@ -2,8 +2,8 @@
 use Rattle.reply.proofs.Telling.{told_two}
 use Rattle.reply.proofs.hand_back.Goals as goal
 
-pub returns-in-Unlisted : goal.returns-in-Unlisted
-returns-in-Unlisted c = rw (c.in-Unlisted.is, c.refuse.ensures.0, c.refuse.ensures.1)
+pub returns-in-Err : goal.returns-in-Err
+returns-in-Err c = rw (c.in-Err.is, c.refuse.ensures.0, c.refuse.ensures.1)
 
-pub returns-in-Listed : goal.returns-in-Listed
-returns-in-Listed c = rw (c.in-Listed.is, c.tell-in-Listed.ensures, c.tell.ensures, told_two)
+pub returns-in-Ok : goal.returns-in-Ok
+returns-in-Ok c = rw (c.in-Ok.is, c.tell-in-Ok.ensures, c.tell.ensures, told_two)

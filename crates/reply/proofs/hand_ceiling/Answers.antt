@@ -2,8 +2,8 @@
 use Rattle.reply.proofs.Telling.{told_one}
 use Rattle.reply.proofs.hand_ceiling.Goals as goal
 
-pub returns-in-NoCeiling : goal.returns-in-NoCeiling
-returns-in-NoCeiling c = rw (c.in-NoCeiling.is, c.refuse.ensures.0, c.refuse.ensures.1)
+pub returns-in-Err : goal.returns-in-Err
+returns-in-Err c = rw (c.in-Err.is, c.refuse.ensures.0, c.refuse.ensures.1)
 
-pub returns-in-Ceiling : goal.returns-in-Ceiling
-returns-in-Ceiling c = rw (c.in-Ceiling.is, c.tell.ensures, told_one)
+pub returns-in-Ok : goal.returns-in-Ok
+returns-in-Ok c = rw (c.in-Ok.is, c.tell.ensures, told_one)

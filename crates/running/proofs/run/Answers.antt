@@ -7,12 +7,12 @@ use Rattle.running.proofs.run.Goals as goal
 
 pub write_totals-requires : goal.write_totals-requires
 write_totals-requires c =
-    let r = c.feed_all-fed.ensures.running in
-    (omega (arith, c.requires.0.room, c.feed_all-fed.auto.output), totals_next r, totals_fit r)
+    let r = c.feed_all-session.ensures.running in
+    (omega (arith, c.requires.0.room, c.feed_all-session.auto.output), totals_next r, totals_fit r)
 
 pub write_tally-requires : goal.write_tally-requires
 write_tally-requires c =
-    let f = c.feed_all-fed in
+    let f = c.feed_all-session in
     let l = first_lengths c.requires.1 in (
       record {
         all_marks = f.auto.marks ∙ l.0;
@@ -25,6 +25,6 @@ write_tally-requires c =
 
 pub returns : goal.returns
 returns c =
-    let f = c.feed_all-fed.ensures in
+    let f = c.feed_all-session.ensures in
     let o = c.write_totals.ensures in
     record { ends = run_ends f.running o.short o.handed c.setting_of-setting.ensures f.ended c.write_tally.ensures; promise = promise }

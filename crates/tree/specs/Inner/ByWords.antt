@@ -1,5 +1,5 @@
 -- Insertion and removal on the words themselves: the definitions that the loops are proved against.
-use Rattle.std.specs.Prelude.{cond, List, [], ◌∷◌, ◌++◌, ℕ, suc, ◌+◌, ◌-◌, leb, ltb, length, get_or, take, drop, replicate}
+use Rattle.std.specs.Prelude.{cond, List, [], ◌∷◌, ◌++◌, ℕ, suc, ◌+◌, ◌-◌, leb, ltb, length, get_or, take, drop, replicate, Ok}
 use Rattle.std.proofs.Math.Option.{Option, none, some}
 use Rattle.tree.specs.Laid.{max_kept, used_of, kept_of, one_more, one_less, region}
 use Rattle.tree.specs.Entries.{Entry}
@@ -7,7 +7,7 @@ use Rattle.tree.specs.Inner.Merge.{Descent, from_top, new_words, splice}
 use Rattle.tree.specs.Inner.Cut.{Span, locate, cut}
 use Rattle.tree.specs.Calls.{Called, refused}
 use Rattle.tree.specs.declared.Refusal.TheVariants.{NumberTaken, Held, NoSuchNumber, ListFull, NoRoom}
-use Rattle.tree.specs.declared.CallAnswer.TheVariants.{Kept, Removed}
+use Rattle.tree.specs.declared.Done.TheVariants.{Kept, Removed}
 
 -- the new words put in at a place of the raised words, if there is room for them
 abbrev pub insert_at : (slice : List ℕ) (number place : ℕ) (left : List ℕ) (raised : ℕ → List ℕ) → Called
@@ -15,7 +15,7 @@ insert_at T n p cs raised =
     let h = get_or T 0 0 in
     let r = length cs + 1 in
     cond (ltb (length T) (used_of h + 1 + r)) (refused NoRoom T)
-    (record { answer = Kept; slice = one_more h r ∷ (splice (raised r) p (new_words cs n) ++ drop (used_of h + 1 + r) T) })
+    (record { answer = Ok Kept; slice = one_more h r ∷ (splice (raised r) p (new_words cs n) ++ drop (used_of h + 1 + r) T) })
 
 -- by where the number stands, and by the descent and who holds the sequence
 abbrev pub insert_unless : (slice : List ℕ) (number : ℕ) → Descent → Option Span → Option ℕ → Called
@@ -34,7 +34,7 @@ abbrev pub remove_at : (header : ℕ) (words : List ℕ) → Option Span → Cal
 remove_at h ws none = refused NoSuchNumber (h ∷ ws)
 remove_at h ws (some s) =
     let r = suc s.last - s.place in
-    record { answer = Removed; slice = one_less h r ∷ (cut ws s.place r ++ replicate r 0) }
+    record { answer = Ok Removed; slice = one_less h r ∷ (cut ws s.place r ++ replicate r 0) }
 
 -- the removal of a number from the words of a well-laid slice
 unfoldable pub remove_by_words : List ℕ → (number : ℕ) → Called

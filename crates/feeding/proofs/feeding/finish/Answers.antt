@@ -6,6 +6,8 @@ use mathlib.Core.List.{List}
 use lib.ListN.{get_or}
 use lib.Seq.{length-take-le}
 use Rattle.record.specs.Marks.{number_count}
+use borrow.Author.Rules.{rules}
+use Rattle.lines.proofs.Writing.{on_page}
 use Rattle.record.specs.declared.Came.{Came}
 use Rattle.record.specs.declared.Setting.{Setting}
 use Rattle.record.specs.declared.Totals.{Totals}
@@ -28,31 +30,29 @@ slice_bounds-put_removals-end-2 c =
     let e = came a.setting a.heading c.requires.0 (omega (arith, c.well_formed)) (λ i. omega (arith, c.type_inv.words i)) c.outcome_of-came.ensures.came in
     sym (length-take-le _ _ e.out.many)
 
-pub put_removals-place-requires : goal.put_removals-place-requires
-put_removals-place-requires c =
+pub put_removals-requires : goal.put_removals-requires
+put_removals-requires c =
     let a = c.args in
     let e = came a.setting a.heading c.requires.0 (omega (arith, c.well_formed)) (λ i. omega (arith, c.type_inv.words i)) c.outcome_of-came.ensures.came in
     (one_room a.turn.next (removed_many e) (removed_few e) c.requires.0.room, e.on.small)
 
-pub put_line-next-requires : goal.put_line-next-requires
-put_line-next-requires c =
+pub put_line-requires : goal.put_line-requires
+put_line-requires c =
     let a = c.args in
     let e = came a.setting a.heading c.requires.0 (omega (arith, c.well_formed)) (λ i. omega (arith, c.type_inv.words i)) c.outcome_of-came.ensures.came in
-    let p = c.put_removals-place in
-    line_room a.turn.next (removed_many e) (removed_few e) c.requires.0.room p.ensures.short p.auto.output
+    let p = c.put_removals.ensures in
+    line_room a.turn.next (removed_many e) (removed_few e) c.requires.0.room p.short (on_page _ p.text).1
 
-pub count_outcome-after-requires : goal.count_outcome-after-requires
-count_outcome-after-requires c =
+pub count_outcome-totals-requires : goal.count_outcome-totals-requires
+count_outcome-totals-requires c =
     let a = c.args in
     let e = came a.setting a.heading c.requires.0 (omega (arith, c.well_formed)) (λ i. omega (arith, c.type_inv.words i)) c.outcome_of-came.ensures.came in
     (c.requires.0.counts, removed_few e)
 
-pub returns : goal.returns
-returns c =
+pub returns-clause-took : goal.returns-clause-took
+returns-clause-took c =
     let a = c.args in
     let e = came a.setting a.heading c.requires.0 (omega (arith, c.well_formed)) (λ i. omega (arith, c.type_inv.words i)) c.outcome_of-came.ensures.came in
-    let p = c.put_removals-place.ensures in
-    let q = c.put_line-next.ensures in record {
-      took = finishes e a.output.now a.turn.next c.count_strike.ensures c.count_outcome-after.ensures p.text p.short q.text q.short;
-      indexed = c.outcome_of-came.ensures.indexed;
-    }
+    let p = c.put_removals.ensures in
+    let q = c.put_line.ensures in
+    finishes e a.output.now a.turn.next c.count_strike.ensures c.count_outcome-totals.ensures p.text.put p.short (search (rules, p.text.same, q.text)) q.short

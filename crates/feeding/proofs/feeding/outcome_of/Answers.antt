@@ -7,23 +7,17 @@ use Rattle.clause.specs.Clause.{max_words}
 use borrow.Author.Tests.{lt-ltb, le-ltb}
 use Rattle.feeding.proofs.feeding.outcome_of.Goals as goal
 
-pub returns-then-end-gt-WORDS : goal.returns-then-end-gt-WORDS
+pub returns-then-end-gt-WORDS-clause-came : goal.returns-then-end-gt-WORDS-clause-came
 unfolding finishing
-returns-then-end-gt-WORDS c =
-    record {
-      came = record { many = omega arith; answer = rw (lt-ltb max_words _ c.if-end-gt-WORDS.true, c.code.ensures); marking = refl };
-      indexed = c.requires.1;
-    }
+returns-then-end-gt-WORDS-clause-came c =
+    record { many = omega arith; answer = rw (lt-ltb max_words _ c.if-end-gt-WORDS.true, c.code.ensures); marking = refl }
 
 pub slice_bounds-answer-end : goal.slice_bounds-answer-end
 slice_bounds-answer-end c =
-    sym (length-take-le _ _ (omega (arith, c.requires.3, c.if-end-gt-WORDS.false)))
+    sym (length-take-le _ _ (omega (arith, c.requires.2, c.if-end-gt-WORDS.false)))
 
-pub returns : goal.returns
+pub returns-clause-came : goal.returns-clause-came
 unfolding finishing
-returns c =
-    let a = c.answer.ensures in
-    record {
-      came = record { many = a.came.many; answer = rw (le-ltb max_words _ c.if-end-gt-WORDS.false) a.came.answer; marking = a.came.marking };
-      indexed = a.indexed;
-    }
+returns-clause-came c =
+    let a = c.answer.ensures.came in
+    record { many = a.many; answer = rw (le-ltb max_words _ c.if-end-gt-WORDS.false) a.answer; marking = a.marking }

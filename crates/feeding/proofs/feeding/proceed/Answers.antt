@@ -1,22 +1,18 @@
 -- The reading goes on, or a record is ended.
-use Rattle.intake.specs.Feed.{store_of}
+use Rattle.feeding.specs.Inner.Blocks.{store_with}
 use Rattle.feeding.proofs.Blocks.{goes, ends, took_as}
 use Rattle.feeding.proofs.feeding.proceed.Goals as goal
 
-pub returns-in-Reads : goal.returns-in-Reads
-returns-in-Reads c =
+pub returns-in-Reads-clause-took : goal.returns-in-Reads-clause-took
+returns-in-Reads-clause-took c =
     let a = c.args in
     let w = c.in-Reads in
-    let m = store_of a.words.now a.tree.now a.marks.now a.counters.now in record {
-      took = goes a.setting w.half w.stage a.turn.session.totals m a.output.now a.turn.next w.is c.requires.0.steady c.requires.0.kept;
-      indexed = c.requires.1;
-    }
+    let m = store_with a.words.now a.book.now a.counters.now in
+    goes a.setting w.half w.stage a.turn.session.totals m a.output.now a.turn.next w.is c.requires.0.steady c.requires.0.kept
 
-pub returns-in-Ends : goal.returns-in-Ends
-returns-in-Ends c =
+pub returns-in-Ends-clause-took : goal.returns-in-Ends-clause-took
+returns-in-Ends-clause-took c =
     let a = c.args in
     let w = c.in-Ends in
-    let m = store_of a.words.now a.tree.now a.marks.now a.counters.now in record {
-      took = took_as (ends a.setting w.heading a.turn.session.totals m w.is) c.finish.ensures.took;
-      indexed = c.finish.ensures.indexed;
-    }
+    let m = store_with a.words.now a.book.now a.counters.now in
+    took_as (ends a.setting w.heading a.turn.session.totals m w.is) c.finish.ensures.took

@@ -1,5 +1,4 @@
 -- `note` meets its contract: the places of the siblings before `at` are noted.
-use mathlib.Core.Path.{sym, ◌∙◌}
 use native.Mathlib.Omega.{arith}
 use Rattle.index.proofs.Noting.{noting_start, noting_next, noting_end}
 use Rattle.index.proofs.entries.note.Goals as goal

@@ -3,12 +3,12 @@ use mathlib.Core.Path.{◌≡◌, sym, ap, ◌∙◌}
 use mathlib.Core.List.{◌++◌}
 use Prim.Native.Nat.{ℕ, ◌-◌, ◌≤◌}
 use native.Mathlib.Omega.{arith}
+use borrow.Author.Rules.{rules}
 use lib.ListN.{length, take, length-take}
 use lib.Seq.{length-take-le}
 use Rattle.clause.proofs.Lists.{all_below, all_take}
 use Rattle.record.specs.Sheet.{Bytes}
 use Rattle.intake.specs.Feed.{store_of, feed}
-use Rattle.printing.specs.Handed.{bytes_read}
 use Rattle.streaming.specs.Fed.{block_bytes, output_bytes}
 use Rattle.streaming.proofs.FedBlocks.{may_left, block_ready, block_fed, lines_next, lines_fit, fed_more, running_more}
 use Rattle.streaming.proofs.blocks.take_block.Goals as goal
@@ -53,7 +53,7 @@ returns-clause-fed c =
     let k : c.read_block-count.result ≤ block_bytes = omega (arith, d.inside, c.read_block-count.auto.input, c.requires.1.block) in
     let e = block_fed c.requires.0 h c.read_block-count.new.input d.inside k c.requires.1.room c.feed-turn.ensures.took in
     let m = store_of a.words.now a.tree.now a.marks.now a.counters.now in
-    let q : bytes_read c.hand_on.new.meters - bytes_read a.meters.now ≡ c.read_block-count.result = omega (arith, c.hand_on.ensures.read, d.read) in
+    let q : c.hand_on.new.meters.read - a.meters.now.read ≡ c.read_block-count.result = omega (arith, c.hand_on.ensures.read, d.read) in
     e.0 ∙ sym (ap (λ (j : ℕ). feed a.setting a.session m (take j c.read_block-count.new.input)) q)
 
 pub returns-clause-running : goal.returns-clause-running
@@ -64,7 +64,7 @@ returns-clause-running c =
     let k : c.read_block-count.result ≤ block_bytes = omega (arith, d.inside, c.read_block-count.auto.input, c.requires.1.block) in
     let e = block_fed c.requires.0 h c.read_block-count.new.input d.inside k c.requires.1.room c.feed-turn.ensures.took in
     let b : length (take c.feed-turn.result.next c.feed-turn.new.output) ≤ output_bytes = simp length-take (omega (arith, e.1)) in
-    let u : Bytes (take c.read_block-count.result i) = all_take c.read_block-count.result (all_below 256 i (λ j. omega (arith, c.slice_known-8-1.given j))) in
+    let u : Bytes (take c.read_block-count.result i) = all_take c.read_block-count.result (all_below 256 i (λ j. search rules)) in
     running_more c.requires.0 h d e.0 b u c.hand_on.ensures k c.feed-turn.ensures.took.stays c.feed-turn.auto.words
 
 pub returns-clause-grows : goal.returns-clause-grows
@@ -76,7 +76,7 @@ returns-clause-grows c F =
     let k : c.read_block-count.result ≤ block_bytes = omega (arith, d.inside, c.read_block-count.auto.input, c.requires.1.block) in
     let e = block_fed c.requires.0 h c.read_block-count.new.input d.inside k c.requires.1.room c.feed-turn.ensures.took in
     let b : length (take c.feed-turn.result.next c.feed-turn.new.output) ≤ output_bytes = simp length-take (omega (arith, e.1)) in
-    let u : Bytes (take c.read_block-count.result i) = all_take c.read_block-count.result (all_below 256 i (λ j. omega (arith, c.slice_known-8-1.given j))) in
-    let q : bytes_read c.hand_on.new.meters - bytes_read a.meters.now ≡ c.read_block-count.result = omega (arith, c.hand_on.ensures.read, d.read) in
+    let u : Bytes (take c.read_block-count.result i) = all_take c.read_block-count.result (all_below 256 i (λ j. search rules)) in
+    let q : c.hand_on.new.meters.read - a.meters.now.read ≡ c.read_block-count.result = omega (arith, c.hand_on.ensures.read, d.read) in
     let (G, y) = fed_more c.requires.0 h d e.0 b u c.hand_on.ensures F in
     (G, y ∙ sym (ap (λ (j : ℕ). F.bytes ++ take j i) q))
