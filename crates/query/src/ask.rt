@@ -115,7 +115,10 @@ pub fn query(
     if !Tree::sized(tree.len()) {
         return Err(Refusal::BadSlice);
     }
-    reading::read(words)?;
+    let shape = reading::read(words);
+    let Ok(_) = shape else {
+        return Err(Refusal::BadClause(shape.unwrap_err()));
+    };
     if witness.len() < Witness::WORDS {
         return Err(Refusal::ShortWitness);
     }
