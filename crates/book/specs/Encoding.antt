@@ -1,7 +1,7 @@
 -- A list of calls as words of 16 bits, any words allowed: for each call 0 for a removal, or one more than its clause has words for an insertion;
 -- the number, upper half first; and the clause's words. Three words that are not all there stand for no call, and a clause ends where the words do.
 -- So a list with a clause of 65,535 words or more has no words; every other list of calls that fit has some (`HasWords`).
-use Rattle.std.specs.Prelude.{◌≡◌, List, [], ◌∷◌, ℕ, zero, suc, ◌+◌, ◌-◌, ◌*◌, ◌^◌, ◌≤◌, ◌<◌, length, take, drop}
+use Rattle.std.specs.Prelude.{◌≡◌, List, [], ◌∷◌, ℕ, zero, suc, ◌+◌, ◌-◌, ◌*◌, ◌^◌, ◌<◌, length, take, drop}
 use Rattle.clause.specs.Lists.{All}
 use Rattle.clause.specs.Word.{Words}
 use Rattle.book.specs.Book.{Call, insert, remove, Fit, AllFit, call}
@@ -32,11 +32,10 @@ Short (remove n) = Unit {0}
 abbrev pub HasWords : Type 0
 HasWords = (xs : List Call) → AllFit xs → All Short xs → (ws : List ℕ) × Words ws × (calls_of ws ≡ xs)
 
--- one call was run: the one that begins at a position, and the next begins at another
-pub record Ran (before words : List ℕ) (at next : ℕ) (after : List ℕ) : Type 0 where
+-- one call was run: the first that some words stand for; those after it have the rest of the words
+pub record Ran (before words rest after : List ℕ) : Type 0 where
   pub first : Call
-  pub reads : (f : ℕ) → calls_within (suc f) (drop at words) ≡ first ∷ calls_within f (drop next words)
+  pub reads : (f : ℕ) → calls_within (suc f) words ≡ first ∷ calls_within f rest
   pub fit : Fit first
   pub slice : after ≡ (call before first).slice
-  pub further : at < next
-  pub inside : next ≤ length words
+  pub shorter : length rest < length words

@@ -10,7 +10,7 @@ ghost use Rattle.interface.specs.Claims.{CtChecked, CtReadsBook, CtSavedIsMade, 
 pub fn ct_fresh(tree: &mut [u64]) -> u64
     ensures { record { number = result; words = tree.new } ≡ ct_fresh tree.old }
 {
-    reply::hand_call(laid::fresh(tree), &mut [])
+    reply::hand(laid::fresh(tree), &mut [])
 }
 
 // Inserts a clause under a number. Returns 0 or a code; tells the position for 4 and 5, the number for 8.
@@ -20,14 +20,14 @@ pub fn ct_insert(tree: &mut [u64], clause: &[u16], number: u32, told: &mut [u64]
         ≡ ct_insert tree.old clause.now number told.old }
     ensures refusals { CtDemand1 }
 {
-    reply::hand_call(insertion::insert(tree, clause, number), told)
+    reply::hand(insertion::insert(tree, clause, number), told)
 }
 
 // Removes the clause with a number. Returns 0 or a code.
 pub fn ct_remove(tree: &mut [u64], number: u32) -> u64
     ensures { record { number = result; words = tree.new } ≡ ct_remove tree.old number }
 {
-    reply::hand_call(removal::remove(tree, number), &mut [])
+    reply::hand(removal::remove(tree, number), &mut [])
 }
 
 // Asks whether a kept clause covers a clause. Returns 0 or a code; tells 1 or 0 for covered or not, the number, the count;
@@ -46,14 +46,14 @@ pub fn ct_query(
     ensures count { CtExactCount }
     ensures apart { ToldApart }
 {
-    reply::hand_query(query::query(tree, clause, budget, witness), told)
+    reply::hand(query::query(tree, clause, budget, witness), told)
 }
 
 // The ceiling of a query's count. Returns 0 or 13; tells the ceiling.
 pub fn ct_ceiling(kept: u64, q: u64, m: u64, told: &mut [u64]) -> u64
     ensures { record { number = result; told = told.new } ≡ ct_ceiling kept q m told.old }
 {
-    reply::hand_ceiling(ceiling::ceiling(kept, q, m), told)
+    reply::hand(ceiling::ceiling(kept, q, m), told)
 }
 
 // Reads the clause with a number back into a slice. Returns 0 or a code; tells the clause's length.
@@ -61,7 +61,7 @@ pub fn ct_read_back(tree: &[u64], number: u32, out: &mut [u16], told: &mut [u64]
     ensures { record { number = result; words = out.new; told = told.new }
         ≡ ct_read_back tree.now number out.old told.old }
 {
-    reply::hand_read(checking::read_back(tree, number, out), told)
+    reply::hand(checking::read_back(tree, number, out), told)
 }
 
 // Checks whether a slice is the tree of some clauses, or of none. Returns 0 or a code.
@@ -70,7 +70,7 @@ pub fn ct_check(tree: &[u64]) -> u64
     ensures hands { result ≡ ct_check tree.now }
     ensures saved { CtChecked × CtReadsBook × CtSavedIsMade }
 {
-    reply::hand_check(checking::check(tree))
+    reply::hand(checking::check(tree), &mut [])
 }
 
 // Lists the kept clauses that a clause subsumes. Returns 0 or a code; tells how many and the candidates in all, or the position for 4 and 5, the count
@@ -86,5 +86,5 @@ pub fn ct_backward(
         ≡ ct_backward tree.now clause.now budget list.old told.old }
     ensures lists { CtListsBook }
 {
-    reply::hand_back(listing::backward(tree, clause, budget, list), told)
+    reply::hand(listing::backward(tree, clause, budget, list), told)
 }

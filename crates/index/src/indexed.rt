@@ -13,7 +13,12 @@ use tree::{Refusal, Tree};
 use walk::Verdict;
 
 // What a query answers, without a witness: the caller's slice is the tree of some clauses, with the index of its heads.
-pub fn query_indexed(tree: &[u64], heads: &[u16], words: &[u16], budget: u64) -> Result<Verdict, Refusal>
+pub fn query_indexed(
+    tree: &[u64],
+    heads: &[u16],
+    words: &[u16],
+    budget: u64,
+) -> Result<Verdict, Refusal>
     requires { (sized tree.now ≡ true) × (well_laid tree.now ≡ true) × Indexed tree.now heads.now }
     ensures { result ≡ (q.query tree.now words.now budget (replicate witness_words 0)).answer }
 {

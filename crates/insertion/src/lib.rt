@@ -20,7 +20,12 @@ use tree::{Done, Refusal, Tree, key};
 
 // Inserts a sequence whose place is found, under a number that no Success has.
 // The caller (insert_new; in the crate index insert_below) holds the slice well laid, and knows the numbers in it.
-pub fn insert_placed(tree: &mut [u64], keys: &[u64], number: u32, place: Place) -> Result<Done, Refusal>
+pub fn insert_placed(
+    tree: &mut [u64],
+    keys: &[u64],
+    number: u32,
+    place: Place,
+) -> Result<Done, Refusal>
     requires { Mergeable tree.old keys.now × (locate (region tree.old) number 0 0 0 ≡ none) × LeadsTo (region tree.old) keys.now place }
     ensures { record { answer = result; slice = tree.new }
         ≡ insert_by_words tree.old (record { number = number; keys = keys.now }) }

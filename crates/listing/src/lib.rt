@@ -32,7 +32,12 @@ impl Lone {
 }
 
 // Lists the clauses on a shelf that an accepted one subsumes.
-fn list_shelf(clause: &[u16], budget: u64, shelf: &Shelf, list: &mut [u32]) -> Result<Listed, Refusal>
+fn list_shelf(
+    clause: &[u16],
+    budget: u64,
+    shelf: &Shelf,
+    list: &mut [u32],
+) -> Result<Listed, Refusal>
     requires { Accepted clause.now × All AcceptedPair shelf.now }
     ensures { record { answer = result; list = list.new }
         ≡ listed_in budget list.old (list_from clause.now budget shelf.now (length list.old) 0) }
@@ -45,7 +50,12 @@ fn list_shelf(clause: &[u16], budget: u64, shelf: &Shelf, list: &mut [u32]) -> R
 }
 
 // Lists the kept clauses that an accepted one subsumes, in a slice that the caller knows to pass the check.
-pub fn list_known(tree: &[u64], clause: &[u16], budget: u64, list: &mut [u32]) -> Result<Listed, Refusal>
+pub fn list_known(
+    tree: &[u64],
+    clause: &[u16],
+    budget: u64,
+    list: &mut [u32],
+) -> Result<Listed, Refusal>
     requires { (calls.check tree.now ≡ Ok tt) × Accepted clause.now }
     ensures { record { answer = result; list = list.new }
         ≡ back.backward tree.now clause.now budget list.old }
@@ -56,7 +66,12 @@ pub fn list_known(tree: &[u64], clause: &[u16], budget: u64, list: &mut [u32]) -
 }
 
 // Lists the kept clauses that a clause subsumes, in a slice of any words.
-pub fn backward(tree: &[u64], clause: &[u16], budget: u64, list: &mut [u32]) -> Result<Listed, Refusal>
+pub fn backward(
+    tree: &[u64],
+    clause: &[u16],
+    budget: u64,
+    list: &mut [u32],
+) -> Result<Listed, Refusal>
     ensures { record { answer = result; list = list.new }
         ≡ back.backward tree.now clause.now budget list.old }
 {

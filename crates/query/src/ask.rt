@@ -114,7 +114,12 @@ pub fn decide(tree: &[u64], words: &[u16], budget: u64) -> Result<Verdict, Refus
 }
 
 // Whether a kept clause covers the words: the clause's number and the count, with the witness, or the count, or a refusal.
-pub fn query(tree: &[u64], words: &[u16], budget: u64, witness: &mut [u16]) -> Result<Verdict, Refusal>
+pub fn query(
+    tree: &[u64],
+    words: &[u16],
+    budget: u64,
+    witness: &mut [u16],
+) -> Result<Verdict, Refusal>
     ensures { record { answer = result; witness = witness.new }
         ≡ q.query tree.now words.now budget witness.old }
 {

@@ -1,9 +1,9 @@
 // Lists of calls run on a slice, with the claims about them (docs/REFERENCE.md, "Lists of calls").
 #![tactic(auto)]
 
-ghost use Rattle.std.specs.Prelude.{◌≡◌, ◌+◌, ◌≤◌, min, length, get_or};
+ghost use Rattle.std.specs.Prelude.{◌≡◌, ◌∷◌};
 ghost use Rattle.book.specs.Book.{slice_of};
-ghost use Rattle.book.specs.Encoding.{whole, calls_of, HasWords, Ran};
+ghost use Rattle.book.specs.Encoding.{calls_of, HasWords, Ran};
 ghost use Rattle.book.specs.Believable.{Believable};
 ghost use Rattle.book.specs.Claims.{Run, Reached, Demand1, Reach, Demand2, Demand3, ExactCount};
 ghost use Rattle.book.specs.Saved.{ReachSaved, PassedSaved, SavedIsMade, SavedDemand2, SavedDemand3, ReadsBook};
@@ -11,40 +11,18 @@ ghost use Rattle.book.specs.Backward.{ListsBook};
 ghost use Rattle.tree.specs.Calls.{fresh};
 ghost use Rattle.tree.specs.declared.Done.TheVariants.{Ready};
 
-// The number of a call, upper half first. The caller has seen that its two words are there.
-fn number_at(calls: &[u16], at: usize) -> u32
-    requires { at + 2 ≤ length calls.now }
-    ensures { result ≡ whole (get_or calls.now at 0) (get_or calls.now (at + 1) 0) }
+// Runs a call by its first three words and the rest, and gives the words after it: a clause goes no further than they do.
+fn run_one<'a>(tree: &mut [u64], kind: u16, high: u16, low: u16, rest: &'a [u16]) -> &'a [u16]
+    ensures { Ran tree.old (kind ∷ high ∷ low ∷ rest.now) result.now tree.new }
 {
-    calls[at] as u32 * 0x1_0000 + calls[at + 1] as u32
-}
-
-// Where a clause of `count` words ends, which begins at a position: no further than the words do.
-fn clause_end(words: usize, from: usize, count: usize) -> usize
-    requires { from ≤ words }
-    ensures { result ≡ min (from + count) words }
-{
-    if count < words - from {
-        return from + count;
-    }
-    words
-}
-
-// Runs the call that begins at a position, and gives where the next one begins. The caller has seen that its first three words are there.
-fn run_one(tree: &mut [u64], calls: &[u16], at: usize) -> usize
-    requires { at + 3 ≤ length calls.now }
-    ensures { Ran tree.old calls.now at result tree.new }
-{
-    let from = at + 3;
-    let number = number_at(calls, at + 1);
-    let kind = calls[at];
+    let number = high as u32 * 0x1_0000 + low as u32;
     if kind == 0 {
         let _ = removal::remove(tree, number);
-        return from;
+        return rest;
     }
-    let end = clause_end(calls.len(), from, (kind - 1) as usize);
-    let _ = insertion::insert(tree, &calls[from..end], number);
-    end
+    let (clause, next) = rest.split_at(rest.len().min((kind - 1) as usize));
+    let _ = insertion::insert(tree, clause, number);
+    next
 }
 
 // Makes an empty tree of a slice and runs the calls that words stand for, each on the slice as the call before left it.
@@ -62,8 +40,8 @@ pub fn run(tree: &mut [u64], calls: &[u16])
     ensures backward { ListsBook }
 {
     let _ = laid::fresh(tree);
-    let mut at = 0;
-    while at + 3 <= calls.len() {
-        at = run_one(tree, calls, at);
+    let mut left = calls;
+    while let [kind, high, low, rest @ ..] = left {
+        left = run_one(tree, *kind, *high, *low, rest);
     }
 }

@@ -18,5 +18,9 @@ impl Argument {
 pub fn setting_of(argument: &[u8]) -> Setting
     ensures { result ≡ setting_of argument.now }
 {
-    if argument == b"back".as_slice() { Setting::Back } else { Setting::Plain }
+    if argument == b"back".as_slice() {
+        Setting::Back
+    } else {
+        Setting::Plain
+    }
 }

@@ -8,4 +8,4 @@ use Rattle.codetree.proofs.ct_backward.Goals as goal
 
 pub returns : goal.returns
 unfolding ct_backward
-returns c = record { hands = hands c.args.told.now (ap backed c.backward.ensures) c.hand_back.ensures; lists = ct_lists_book }
+returns c = record { hands = hands c.args.told.now (ap backed c.backward.ensures) c.hand.ensures; lists = ct_lists_book }

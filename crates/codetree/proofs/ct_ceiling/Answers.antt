@@ -7,4 +7,4 @@ use Rattle.codetree.proofs.ct_ceiling.Goals as goal
 
 pub returns : goal.returns
 unfolding ct_ceiling
-returns c = c.hand_ceiling.ensures ∙ ap (λ y. replied (said_ceiling y) c.args.told.now) c.ceiling.ensures
+returns c = c.hand.ensures ∙ ap (λ y. replied (said_ceiling y) c.args.told.now) c.ceiling.ensures

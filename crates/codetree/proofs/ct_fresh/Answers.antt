@@ -8,4 +8,4 @@ use Rattle.codetree.proofs.ct_fresh.Goals as goal
 
 pub returns : goal.returns
 unfolding ct_fresh
-returns c = hands_left [] (ap called c.fresh.ensures) c.hand_call.ensures
+returns c = hands_left [] (ap called c.fresh.ensures) c.hand.ensures

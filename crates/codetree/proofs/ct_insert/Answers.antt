@@ -8,4 +8,4 @@ use Rattle.codetree.proofs.ct_insert.Goals as goal
 
 pub returns : goal.returns
 unfolding ct_insert
-returns c = record { hands = hands c.args.told.now (ap called c.insert.ensures) c.hand_call.ensures; refusals = ct_demand1 }
+returns c = record { hands = hands c.args.told.now (ap called c.insert.ensures) c.hand.ensures; refusals = ct_demand1 }

@@ -11,7 +11,7 @@ pub returns : goal.returns
 unfolding ct_query
 returns c =
     record {
-      hands = hands c.args.told.now (ap asked c.query.ensures) c.hand_query.ensures;
+      hands = hands c.args.told.now (ap asked c.query.ensures) c.hand.ensures;
       lists = (ct_reach, ct_demand2, ct_demand3);
       count = ct_exact_count;
       apart = told_apart;

@@ -7,4 +7,4 @@ use Rattle.codetree.proofs.ct_read_back.Goals as goal
 
 pub returns : goal.returns
 unfolding ct_read_back
-returns c = hands c.args.told.now (ap given_back c.read_back.ensures) c.hand_read.ensures
+returns c = hands c.args.told.now (ap given_back c.read_back.ensures) c.hand.ensures

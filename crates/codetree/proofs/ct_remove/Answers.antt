@@ -8,4 +8,4 @@ use Rattle.codetree.proofs.ct_remove.Goals as goal
 
 pub returns : goal.returns
 unfolding ct_remove
-returns c = hands_left [] (ap called c.remove.ensures) c.hand_call.ensures
+returns c = hands_left [] (ap called c.remove.ensures) c.hand.ensures

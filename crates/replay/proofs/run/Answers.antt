@@ -1,55 +1,57 @@
--- `run` meets its contract: the calls still to come, on the slice as it is, give what all of them give; and the claims are proved.
-use Rattle.std.specs.Prelude.{Ok}
-use mathlib.Core.Path.{◌≡◌, refl, sym, ap, ◌∙◌}
-use mathlib.Core.List.{[]}
+-- The calls still to come, on the slice as it is, give what all of them give; and the claims are proved.
+use mathlib.Core.Path.{◌≡◌, sym, ap, subst, ◌∙◌}
+use mathlib.Core.List.{List, []}
+use Prim.Native.Nat.{ℕ}
 use native.Mathlib.Omega.{arith}
-use lib.ListN.{drop, length-drop}
 use Rattle.book.specs.Book.{after}
 use Rattle.book.specs.Claims.{Run}
-use Rattle.book.specs.Encoding.{calls_of}
-use Rattle.book.proofs.Encoding.{calls_short, ran_after, ran_fit, has_words}
+use Rattle.book.specs.Encoding.{calls_of, Ran}
+use Rattle.book.proofs.Encoding.{three_first, calls_short, ran_after, ran_fit, has_words}
 use Rattle.book.proofs.Believable.{believable}
 use Rattle.book.proofs.Refusals.{demand1}
 use Rattle.book.proofs.Reach.{reach, demand2}
 use Rattle.book.proofs.Agreement.{demand3}
 use Rattle.book.proofs.Exact.{exact_count}
-use Rattle.book.specs.Saved.{ReachSaved, PassedSaved, SavedIsMade, SavedDemand2, SavedDemand3, ReadsBook}
 use Rattle.book.proofs.Saved.{reach_saved, passed_saved, saved_is_made, saved_demand2, saved_demand3, reads_book}
 use Rattle.book.proofs.Backward.{lists_book}
-use Rattle.tree.specs.Calls.{fresh}
-use Rattle.tree.specs.declared.Done.TheVariants.{Ready}
-use borrow.Author.Rules.{rules}
 use Rattle.replay.proofs.run.Goals as goal
 
--- the claims of saved slices
-saved : ReachSaved × PassedSaved × SavedIsMade × SavedDemand2 × SavedDemand3 × ReadsBook
-saved = (reach_saved, passed_saved, saved_is_made, saved_demand2, saved_demand3, reads_book)
+pub loop-left-preserved : goal.loop-left-preserved
+loop-left-preserved c =
+    let i = c.loop-left.invariant in
+    let l = c.loop-left in
+    let n = c.run_one-left in
+    let r = subst (λ (ws : List ℕ). Ran l.tree ws n.result.now n.new.tree) (three_first l.left.now (omega arith)) n.ensures in
+    (λ f. i.0 (ran_fit r f), i.1 ∙ ran_after r)
 
-pub loop-at-init : goal.loop-at-init
-loop-at-init c = (refl, omega arith, (λ f. f), refl)
-
-pub loop-at-smaller : goal.loop-at-smaller
-loop-at-smaller c = let r = c.run_one-at.ensures in omega (arith, r.further, r.inside)
-
-pub loop-at-preserved : goal.loop-at-preserved
-loop-at-preserved c =
-    let r = c.run_one-at.ensures in
-    let i = c.loop-at.invariant in
-    (search rules, r.inside, (λ f. i.2 (ran_fit r f)), i.3 ∙ ran_after r)
-
-pub returns : goal.returns
-returns c =
+pub returns-clause-slice : goal.returns-clause-slice
+returns-clause-slice c =
     let a = c.args in
-    let none_left : calls_of (drop c.loop-at.at a.calls.now) ≡ [] = calls_short _ _ (simp length-drop (omega (arith, c.loop-at-test.false))) in
-    let run : (fresh a.tree.now).answer ≡ Ok Ready → Run a.tree.now (calls_of a.calls.now) =
-    λ r. record { ready = r; fit = c.loop-at.invariant.2 (rw none_left tt) } in
-    record {
-      slice = sym (ap (λ T. after T (calls_of a.calls.now)) (sym (ap (λ y. y.slice) c.fresh.ensures)) ∙ c.loop-at.invariant.3 ∙ rw none_left);
-      reached = λ r. (run r, reach _ _ (run r));
-      lists = has_words;
-      definitions = believable;
-      demands = (demand1, reach, demand2, demand3);
-      count = exact_count;
-      saved = saved;
-      backward = lists_book;
-    }
+    let none_left : calls_of c.loop-left.left.now ≡ [] = calls_short _ _ c.in_default.len_below in
+    sym (ap (λ T. after T (calls_of a.calls.now)) (sym (ap (λ y. y.slice) c.fresh.ensures)) ∙ c.loop-left.invariant.1 ∙ rw none_left)
+
+pub returns-clause-reached : goal.returns-clause-reached
+returns-clause-reached c =
+    let a = c.args in
+    let none_left : calls_of c.loop-left.left.now ≡ [] = calls_short _ _ c.in_default.len_below in
+    λ r.
+    let run : Run a.tree.now (calls_of a.calls.now) = record { ready = r; fit = c.loop-left.invariant.0 (rw none_left tt) } in
+    (run, reach _ _ run)
+
+pub returns-clause-lists : goal.returns-clause-lists
+returns-clause-lists c = has_words
+
+pub returns-clause-definitions : goal.returns-clause-definitions
+returns-clause-definitions c = believable
+
+pub returns-clause-demands : goal.returns-clause-demands
+returns-clause-demands c = (demand1, reach, demand2, demand3)
+
+pub returns-clause-count : goal.returns-clause-count
+returns-clause-count c = exact_count
+
+pub returns-clause-saved : goal.returns-clause-saved
+returns-clause-saved c = (reach_saved, passed_saved, saved_is_made, saved_demand2, saved_demand3, reads_book)
+
+pub returns-clause-backward : goal.returns-clause-backward
+returns-clause-backward c = lists_book

@@ -1,42 +1,41 @@
--- `run_one` meets its contract: the first call that the words stand for is run, by its kind.
-use mathlib.Core.Path.{◌≡◌, ap, ◌∙◌}
-use Prim.Native.Nat.{ℕ, suc, ◌+◌, ◌-◌, ◌^◌, ◌<◌}
-use native.Mathlib.Nat.{add_assoc}
+-- The first call that the words stand for is run, by its kind.
+use mathlib.Core.Path.{◌≡◌, sym, ap, ◌∙◌}
+use mathlib.Core.List.{List, ◌∷◌}
+use Prim.Native.Nat.{ℕ, suc, ◌-◌, ◌^◌}
 use native.Mathlib.Omega.{arith}
-use lib.ListN.{get_or, take, drop}
+use lib.ListN.{take, drop}
+use Rattle.clause.proofs.Lists.{all_below, all_take}
 use Rattle.book.specs.Book.{insert, remove}
-use Rattle.book.proofs.Encoding.{words_part, reads_remove, reads_insert, clause_part}
+use Rattle.book.specs.Encoding.{whole, calls_within}
+use Rattle.book.proofs.Encoding.{drop_min, take_min, step_remove, step_insert}
+use Rattle.tree.specs.Calls.{insertion}
 use Rattle.replay.proofs.run_one.Goals as goal
 
 pub returns-then-kind-eq0 : goal.returns-then-kind-eq0
 returns-then-kind-eq0 c =
-    let ws = c.args.calls.now in
-    let at = c.args.at in
-    let bound : (i : ℕ) → get_or ws i 0 < 2 ^ 16 = λ i. omega (arith, c.type_inv.calls i) in
+    let a = c.args in
     record {
-      first = remove c.number_at-number.result;
-      reads = λ f. reads_remove ws at c.requires c.if-kind-eq0.true f ∙ rw (c.number_at-number.ensures, add_assoc at 1 1);
-      fit = omega (arith, c.number_at-number.ensures, bound (at + 1), bound (at + 1 + 1));
+      first = remove (whole a.high a.low);
+      reads = λ f. rw c.if-kind-eq0.true (step_remove f a.high a.low a.rest.now);
+      fit = omega (arith, c.ranges.high, c.ranges.low);
       slice = ap (λ y. y.slice) c.remove.ensures;
-      further = omega arith;
-      inside = c.requires;
+      shorter = omega arith;
     }
-
-pub overflow_cast-kind : goal.overflow_cast-kind
-overflow_cast-kind c = omega (arith, c.type_inv.calls c.args.at)
 
 pub returns : goal.returns
 returns c =
-    let ws = c.args.calls.now in
-    let at = c.args.at in
-    let m = get_or ws at 0 - 1 in
-    let bound : (i : ℕ) → get_or ws i 0 < 2 ^ 16 = λ i. omega (arith, c.type_inv.calls i) in
-    let some : get_or ws at 0 ≡ suc m = omega (arith, c.if-kind-eq0.false) in
+    let a = c.args in
+    let ws = a.rest.now in
+    let m : ℕ = a.kind - 1 in
+    let some : a.kind ≡ suc m = omega (arith, c.if-kind-eq0.false) in
+    let clause : c.split_at.result.0.now ≡ take m ws = c.split_at.ensures.front ∙ ap (λ (i : ℕ). take i ws) c.min.ensures ∙ take_min m ws in
+    let after : c.split_at.result.1.now ≡ drop m ws = c.split_at.ensures.back ∙ ap (λ (i : ℕ). drop i ws) c.min.ensures ∙ drop_min m ws in
     record {
-      first = insert (take m (drop (at + 3) ws)) c.number_at-number.result;
-      reads = λ f. reads_insert ws at c.requires m some f ∙ rw (c.number_at-number.ensures, c.clause_end-end.ensures, add_assoc at 1 1);
-      fit = (words_part ws bound (at + 3) m, omega (arith, c.number_at-number.ensures, bound (at + 1), bound (at + 1 + 1)));
-      slice = ap (λ y. y.slice) c.insert.ensures ∙ rw (c.clause_end-end.ensures, clause_part ws at c.requires m);
-      further = omega (arith, c.clause_end-end.ensures);
-      inside = omega (arith, c.clause_end-end.ensures);
+      first = insert (take m ws) (whole a.high a.low);
+      reads = λ f.
+          ap (λ (k : ℕ). calls_within (suc f) (k ∷ a.high ∷ a.low ∷ ws)) some ∙ step_insert f m a.high a.low ws
+          ∙ ap (λ (xs : List ℕ). insert (take m ws) (whole a.high a.low) ∷ calls_within f xs) (sym after);
+      fit = (all_take m (all_below (2 ^ 16) ws (λ i. omega (arith, c.type_inv.rest i))), omega (arith, c.ranges.high, c.ranges.low));
+      slice = ap (λ y. y.slice) c.insert.ensures ∙ ap (λ (xs : List ℕ). (insertion a.tree.now xs (whole a.high a.low)).slice) clause;
+      shorter = omega (arith, c.split_at.ensures.back_len);
     }
