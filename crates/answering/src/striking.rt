@@ -15,7 +15,6 @@ use backward::Listed;
 use compiling::compile;
 use index::insert_below;
 use listing::list_known;
-use machine::Sequence;
 use record::{Came, Mark, Outcome};
 use replacing::replace;
 use tree::{Refusal, Tree};
@@ -34,11 +33,10 @@ impl<'a> Book<'a> {
         if self.marks[mark] == Mark::TAKEN {
             return Outcome::Refused(Refusal::NumberTaken.code());
         }
-        let mut keys = [0u64; Sequence::KEYS];
-        let count = compile(words, &mut keys);
+        let count = compile(words, self.keys);
         let head = words[0] as usize;
         let at = self.heads[head] as usize;
-        let answer = insert_below(self.tree, &keys[..count], number as u32, at);
+        let answer = insert_below(self.tree, &self.keys[..count], number as u32, at);
         let Err(refusal) = answer else {
             self.marks[mark] = Mark::TAKEN;
             return Outcome::Kept(Tree::used(self.tree[0]) as u64);

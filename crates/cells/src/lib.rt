@@ -7,7 +7,7 @@ mod state;
 use clause::Clause;
 use machine::Sequence;
 pub use row::{skip, wanted};
-pub use state::{begin, in_use, passes, release, reserve, restore, trace, unwind, wide};
+pub use state::{begin, in_use, passes, release, reserve, restore, trace, unwind};
 
 // What words stand below: a First, so that they are walked from each of its candidates, or a step, so that they are walked once.
 #[derive(Clone, Copy)]

@@ -11,7 +11,7 @@ pub fn wanted(query: &[u16], head: usize) -> u64
     requires { head < length query.now }
     ensures { (result ≡ wanted_at query.now head) × IsCheck result }
 {
-    Key::CHECK + query[head] as u64
+    Key::CHECK + u64::from(query[head])
 }
 
 // Below this is what the exclusive or of two words leaves, less one in its operand, where their operations are the same and their operands are not.

@@ -10,13 +10,6 @@ ghost use Rattle.cells.specs.declared.Above.TheVariants.{First};
 use crate::{Above, Path};
 use clause::Clause;
 
-// A cell as a position.
-pub fn wide(x: u8) -> usize
-    ensures { (result ≡ x) × (result < cell_count) }
-{
-    x as usize
-}
-
 impl Above {
     // What words stand below, by the head that is handed to them.
     pub fn of(head: usize) -> Above
@@ -68,9 +61,7 @@ fn used(cells: &[u8; Path::CELLS]) -> u32
     ensures { result ≡ bits_of (take (count_in cells.now) cells.now) }
 {
     let mut bits: u32 = 0;
-    let mut i = cells[Path::CHOSEN] as usize;
-    while i > 0 {
-        i -= 1;
+    for i in (0..usize::from(cells[Path::CHOSEN])).rev() {
         bits |= 1 << cells[i];
     }
     bits
@@ -87,9 +78,9 @@ pub fn reserve(cells: &mut [u8; Path::CELLS], above: Above) -> u32
         Above::First => {
             let bits = used(cells);
             let chosen = cells[Path::CHOSEN];
-            let slot = chosen as usize;
+            let slot = usize::from(chosen);
             cells[Path::CHOSEN] = chosen + 1;
-            wide(cells[slot]) as u32 * Path::USES + bits
+            u32::from(cells[slot]) * Path::USES + bits
         }
         Above::Step => 0,
     }
@@ -118,9 +109,9 @@ pub fn begin(
 {
     match above {
         Above::First => {
-            let slot = cells[Path::CHOSEN] as usize - 1;
+            let slot = usize::from(cells[Path::CHOSEN]) - 1;
             cells[slot] = j as u8;
-            wide(tables[j])
+            usize::from(tables[j])
         }
         Above::Step => head,
     }
@@ -134,7 +125,7 @@ pub fn release(cells: &mut [u8; Path::CELLS], above: Above, saved: u32)
     match above {
         Above::First => {
             let chosen = cells[Path::CHOSEN] - 1;
-            let slot = chosen as usize;
+            let slot = usize::from(chosen);
             cells[slot] = (saved / Path::USES % Path::BYTES) as u8;
             cells[Path::CHOSEN] = chosen;
         }
@@ -147,7 +138,7 @@ pub fn passes(tables: &[u8; Clause::TABLES], above: Above) -> usize
     ensures { result ≡ passes_of above (slice_index tables.now at_count) }
 {
     match above {
-        Above::First => wide(tables[Clause::COUNT]),
+        Above::First => usize::from(tables[Clause::COUNT]),
         Above::Step => 1,
     }
 }

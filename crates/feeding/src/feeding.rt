@@ -16,6 +16,7 @@ use answering::Book;
 use clause::{Clause, Fault};
 use intake::{Half, Heading, Next, Session, Stage, read_some};
 use lines::Page;
+use machine::Sequence;
 use record::{Came, Outcome, Setting, Totals};
 use tallying::count_strike;
 use tree::{Refusal, Tree};
@@ -168,7 +169,13 @@ pub fn feed(
     ensures whole { WholeInput }
 {
     let mut list = [0u32; Tree::CLAUSES];
-    let mut book = Book { tree, marks, heads };
+    let mut keys = [0u64; Sequence::KEYS];
+    let mut book = Book {
+        tree,
+        marks,
+        heads,
+        keys: &mut keys,
+    };
     let mut turn = Turn { session, next: 0 };
     let mut rest = input;
     while !rest.is_empty() {

@@ -24,7 +24,8 @@ use Rattle.cells.specs.Inner.Cells.{no_position, count_in, above_of, entered, st
 use Rattle.cells.specs.declared.Above.TheVariants.{Step}
 use Rattle.cells.proofs.Places.{few_words}
 use Rattle.walking.specs.Inner.Findings.{walk_below, walk_top, Walked}
-use Rattle.walking.specs.declared.Finding.{Finding}
+use Rattle.std.specs.Prelude.{Result}
+use Rattle.walking.specs.declared.End.{End}
 use Rattle.walk.proofs.Encoded.{walk_words_encode}
 use Rattle.index.proofs.Rows.{row_by_head, first_by_head}
 
@@ -103,13 +104,13 @@ unfolding top_row
 entry_place I R h u = I.place h u ∙ ap (λ F. head_at F h) R.tree
 
 -- what a walk below a step has found is what the walk along the row has
-pub walked_step : (ws : List ℕ) (b c : ℕ) {d t : List ℕ} {h : ℕ} {l after : List ℕ} {r : Finding} {a : Answer State} → Walkable d t h l → h < length d
+pub walked_step : (ws : List ℕ) (b c : ℕ) {d t : List ℕ} {h : ℕ} {l after : List ℕ} {r : Result ℕ End} {a : Answer State} → Walkable d t h l → h < length d
     → a ≡ walk_words (machine d) (up_to b) ws (state_of h l) c → Walked (walk_below d ws b h l c) l after r → Walked a l after r
 unfolding entered
 walked_step ws b c {h = h} R g e w = rw e (rw (step_above h (λ z. omega (arith, few_words R))) at w)
 
 -- what the passes below the topmost First have found is what the walk of all words has
-pub walked_top : (W d : List ℕ) (b : ℕ) {l after : List ℕ} {r : Finding} → Encoded W → Headed (parse W) → 1 ≤ length W
+pub walked_top : (W d : List ℕ) (b : ℕ) {l after : List ℕ} {r : Result ℕ End} → Encoded W → Headed (parse W) → 1 ≤ length W
     → Walked (walk_below d (drop 1 W) b no_position l 0) l after r → Walked (walk_top d W b l) l after r
 unfolding entered above_of
 walked_top W d b {l} E h n w = rw (top_first W E d (up_to b) (state_of no_position l) (row_of W E h n).1 0) w

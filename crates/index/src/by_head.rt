@@ -8,7 +8,7 @@ ghost use Rattle.walking.specs.Inner.Findings.{walk_top, Walked};
 use crate::head::walk_head;
 use cells::{Above, Path, begin, passes, release, reserve};
 use clause::Clause;
-use walking::{End, Finding};
+use walking::End;
 
 // Walks the words of a tree of clauses, before the first candidate: the candidates of its First, of which no literal is in use.
 pub(crate) fn walk_heads(
@@ -18,7 +18,7 @@ pub(crate) fn walk_heads(
     tables: &[u8; Clause::TABLES],
     cells: &mut [u8; Path::CELLS],
     budget: u64,
-) -> Finding
+) -> Result<u64, End>
     requires { Encoded words.now × IndexOf (parse words.now) heads.now × Walkable query.now tables.now no_position cells.old
         × (count_in cells.old ≡ 0) }
     ensures { Walked (walk_top query.now words.now budget cells.old)
@@ -26,36 +26,17 @@ pub(crate) fn walk_heads(
 {
     let mut n: u64 = 0;
     if words.len() == 0 {
-        return Finding {
-            end: End::Missed,
-            count: n,
-        };
+        return Ok(n);
     }
-    let last = passes(tables, Above::First);
     let saved = reserve(cells, Above::First);
-    let mut j = 0;
-    'tries: loop {
-        if j >= last {
-            release(cells, Above::First, saved);
-            break 'tries Finding {
-                end: End::Missed,
-                count: n,
-            };
-        }
+    for j in 0..passes(tables, Above::First) {
         if n >= budget {
-            break 'tries Finding {
-                end: End::Spent,
-                count: n,
-            };
+            return Err(End::Spent);
         }
         n += 1;
         let here = begin(query, tables, cells, Above::First, Path::BEFORE, j);
-        let finding = walk_head(words, heads, query, tables, cells, here, n, budget);
-        let end = finding.end;
-        let End::Missed = end else {
-            break 'tries finding;
-        };
-        n = finding.count;
-        j += 1;
+        n = walk_head(words, heads, query, tables, cells, here, n, budget)?;
     }
+    release(cells, Above::First, saved);
+    Ok(n)
 }

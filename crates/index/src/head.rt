@@ -9,7 +9,7 @@ ghost use Rattle.walking.specs.Inner.Findings.{Walked};
 use cells::Path;
 use clause::Clause;
 use tree::extent;
-use walking::{End, Finding, walk};
+use walking::{End, walk};
 
 // Walks the row of heads from a candidate: of its Checks only the one with the word at the head can go on, so the walk goes on below that one.
 pub(crate) fn walk_head(
@@ -21,19 +21,16 @@ pub(crate) fn walk_head(
     here: usize,
     count: u64,
     budget: u64,
-) -> Finding
+) -> Result<u64, End>
     requires { Encoded words.now × IndexOf (parse words.now) heads.now × Walkable query.now tables.now here cells.old
         × (here < length query.now) × (1 ≤ length words.now) }
     ensures { Walked (walk_row query.now (drop 1 words.now) budget here cells.old count)
         cells.old cells.new result }
 {
-    let head = query[here] as usize;
-    let at = heads[head] as usize;
+    let head = usize::from(query[here]);
+    let at = usize::from(heads[head]);
     if at == 0 {
-        return Finding {
-            end: End::Missed,
-            count: count,
-        };
+        return Ok(count);
     }
     let from = at + 1;
     let to = at + extent(words[at]);

@@ -94,7 +94,10 @@ pub fn insert(tree: &mut [u64], words: &[u16], number: u32) -> Result<Done, Refu
     if !Tree::sized(tree.len()) {
         return Err(Refusal::BadSlice);
     }
-    read(words)?;
+    let shape = read(words);
+    let Ok(_) = shape else {
+        return Err(Refusal::BadClause(shape.unwrap_err()));
+    };
     if !well_laid(tree) {
         return Err(Refusal::Broken);
     }

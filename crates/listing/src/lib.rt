@@ -78,7 +78,10 @@ pub fn backward(
     if !Tree::sized(tree.len()) {
         return Err(Refusal::BadSlice);
     }
-    read(clause)?;
+    let shape = read(clause);
+    let Ok(_) = shape else {
+        return Err(Refusal::BadClause(shape.unwrap_err()));
+    };
     check(tree)?;
     list_known(tree, clause, budget, list)
 }

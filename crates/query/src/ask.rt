@@ -10,18 +10,11 @@ ghost use Rattle.walk.specs.Query as q;
 ghost use Rattle.walk.specs.Query.{witness_words};
 
 use crate::top::walk_top;
-use cells::{Path, wide};
+use cells::Path;
 use clause::Clause;
 use tree::{Refusal, Tree};
 use walk::{Verdict, Witness};
-use walking::{End, Finding};
-
-// A cell as a witness word.
-fn word(x: u8) -> u16
-    ensures { result ≡ x }
-{
-    x as u16
-}
+use walking::End;
 
 // Whether the cells have a witness word to show at a place.
 fn shows(cells: &[u8; Path::CELLS], i: usize) -> bool
@@ -29,9 +22,9 @@ fn shows(cells: &[u8; Path::CELLS], i: usize) -> bool
     ensures { get_or (q.shown (state_of no_position cells.now)) i none ≡ cond result (some (get_or cells.now i 0)) none }
 {
     if i < Clause::LITERALS {
-        i < wide(cells[Path::CHOSEN])
+        i < usize::from(cells[Path::CHOSEN])
     } else {
-        wide(cells[i]) != Path::NONE
+        usize::from(cells[i]) != Path::NONE
     }
 }
 
@@ -40,46 +33,42 @@ fn show(cells: &[u8; Path::CELLS], witness: &mut [u16])
     requires { (length cells.now ≡ cell_count) × (witness_words ≤ length witness.old) }
     ensures { witness.new ≡ q.with_shown (q.shown (state_of no_position cells.now)) witness.old }
 {
-    let mut i: usize = 0;
-    while i < Witness::WORDS {
+    for i in 0..Witness::WORDS {
         if shows(cells, i) {
-            witness[i] = word(cells[i]);
+            witness[i] = u16::from(cells[i]);
         }
-        i += 1;
     }
 }
 
-// The answer that a finding comes to, without a witness. The caller is a query of this crate, or in the crate index query_indexed.
-pub fn told(finding: Finding, budget: u64) -> Result<Verdict, Refusal>
-    ensures { (W cells : List ℕ) → result ≡ (told_out budget W (out_by finding.end finding.count cells)).answer }
+// The answer that a walk comes to, without a witness. The caller is a query of this crate, or in the crate index query_indexed.
+pub fn told(found: Result<u64, End>, budget: u64) -> Result<Verdict, Refusal>
+    ensures { (W cells : List ℕ) → result ≡ (told_out budget W (out_by found cells)).answer }
 {
-    let end = finding.end;
-    let count = finding.count;
-    match end {
-        End::Missed => Ok(Verdict::NotCovered(count)),
-        End::Found(number) => Ok(Verdict::Covered(number, count)),
-        End::Broken => Err(Refusal::Broken),
-        End::Spent => Err(Refusal::Spent(budget)),
+    match found {
+        Ok(count) => Ok(Verdict::NotCovered(count)),
+        Err(End::Found(number, count)) => Ok(Verdict::Covered(number, count)),
+        Err(End::Broken) => Err(Refusal::Broken),
+        Err(End::Spent) => Err(Refusal::Spent(budget)),
     }
 }
 
-// The answer that a finding comes to; the witness is written where the tree covers the query.
+// The answer that a walk comes to; the witness is written where the tree covers the query.
 fn answer(
-    finding: Finding,
+    found: Result<u64, End>,
     budget: u64,
     cells: &[u8; Path::CELLS],
     witness: &mut [u16],
 ) -> Result<Verdict, Refusal>
     requires { (length cells.now ≡ cell_count) × (witness_words ≤ length witness.old) }
     ensures { record { answer = result; witness = witness.new }
-        ≡ told_out budget witness.old (out_by finding.end finding.count cells.now) }
+        ≡ told_out budget witness.old (out_by found cells.now) }
 {
-    let end = finding.end;
-    let End::Found(_) = end else {
-        return told(finding, budget);
-    };
-    show(cells, witness);
-    told(finding, budget)
+    if let Err(end) = found {
+        if let End::Found(_, _) = end {
+            show(cells, witness);
+        }
+    }
+    told(found, budget)
 }
 
 // Walks the used words of a slice from the state before the first candidate, and answers.
@@ -126,7 +115,10 @@ pub fn query(
     if !Tree::sized(tree.len()) {
         return Err(Refusal::BadSlice);
     }
-    reading::read(words)?;
+    let shape = reading::read(words);
+    let Ok(_) = shape else {
+        return Err(Refusal::BadClause(shape.unwrap_err()));
+    };
     if witness.len() < Witness::WORDS {
         return Err(Refusal::ShortWitness);
     }

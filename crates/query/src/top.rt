@@ -4,9 +4,9 @@ ghost use Rattle.walking.specs.Inner.Findings.{walk_top, Walked};
 
 use cells::Path;
 use clause::Clause;
-use stepping::{Go, meet_top};
+use stepping::{Visit, meet_top};
 use tree::extent;
-use walking::{End, Finding, walk};
+use walking::{End, walk};
 
 // Walks the topmost row, before the first candidate.
 pub(crate) fn walk_top(
@@ -15,7 +15,7 @@ pub(crate) fn walk_top(
     tables: &[u8; Clause::TABLES],
     cells: &mut [u8; Path::CELLS],
     budget: u64,
-) -> Finding
+) -> Result<u64, End>
     requires { Walkable query.now tables.now no_position cells.old }
     ensures { Walked (walk_top query.now words.now budget cells.old)
         cells.old cells.new result }
@@ -24,16 +24,11 @@ pub(crate) fn walk_top(
     let mut rest = words;
     while rest.len() > 0 {
         let w = rest[0];
-        let v = meet_top(w, rest.len(), query, tables, cells);
-        let go = v.go;
-        let Go::Tries = go else {
-            return Finding {
-                end: End::Broken,
-                count: count,
-            };
+        let Visit::Tries = meet_top(w, rest.len(), query, tables, cells) else {
+            return Err(End::Broken);
         };
         let size = extent(w);
-        let finding = walk(
+        count = walk(
             &rest[1..size],
             query,
             tables,
@@ -41,16 +36,8 @@ pub(crate) fn walk_top(
             Path::BEFORE,
             count,
             budget,
-        );
-        let end = finding.end;
-        let End::Missed = end else {
-            return finding;
-        };
-        count = finding.count;
+        )?;
         rest = &rest[size..];
     }
-    Finding {
-        end: End::Missed,
-        count: count,
-    }
+    Ok(count)
 }

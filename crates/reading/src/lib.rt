@@ -38,9 +38,9 @@ fn literals(words: &[u16]) -> Result<usize, Fault>
     let mut argument: Option<Cursor> = None;
     loop {
         if let Some(here) = argument {
-            let next = match here.past(words) {
-                Ok(next) => next,
-                Err(off) => return Err(Fault::Bad(off)),
+            let passed = here.past(words);
+            let Ok(next) = passed else {
+                return Err(Fault::Bad(passed.unwrap_err()));
             };
             at = next.at;
             argument = here.right(at);

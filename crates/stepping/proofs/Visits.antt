@@ -24,33 +24,33 @@ use Rattle.walk.specs.Words.{extends}
 use Rattle.clause.specs.Inner.Tables.{at_ends, at_siblings}
 use Rattle.cells.specs.Inner.Cells.{puts_at, pushes_at, cell_count, no_position, undo_base, count_in}
 use Rattle.cells.specs.Inner.Cells.{position_in, placed, state_of, Tables, Walkable}
-use Rattle.stepping.specs.Inner.Visits.{Met, past, bad, hit, firsts, stepped, reached, with_words, met_as, meeting, met_of, stores, plain, store, Visited}
-use Rattle.stepping.specs.declared.Go.{Go}
-use Rattle.stepping.specs.declared.Go.TheVariants.{Fails, Stuck, Below, Stored}
+use Rattle.stepping.specs.Inner.Visits.{Met, past, bad, hit, firsts, stepped, reached, with_words, met_as, meeting, met_of, head_of, stores, plain, store, Visited}
+use Rattle.stepping.specs.declared.Visit.{Visit}
+use Rattle.stepping.specs.declared.Visit.TheVariants.{Fails, Stuck, Below, Stored}
 use Rattle.tree.specs.Laid.{extent_of}
 use Rattle.cells.proofs.Region.{instr_of_word}
 use Rattle.cells.proofs.Rows.{extends_in, extends_more}
 use Rattle.cells.proofs.Places.{place_none, place_some, placed_get, state_put, state_push, few_words}
 
 -- a visit that stores nothing
-pub stays : (g : Go) (h : ℕ) (l : List ℕ) {m : Met} → stores g ≡ false → met_of g (state_of h l) ≡ m → Visited m l l (record { go = g; head = h; undo = 0 })
-stays g h l n e = record { comes = e; undoable = plain g n }
+pub stays : (v : Visit) (h : ℕ) (l : List ℕ) {m : Met} → stores v ≡ false → met_of v (state_of (head_of h v) l) ≡ m → Visited h m l l v
+stays v h l n e = record { comes = e; undoable = plain v n }
 
 -- a broken node, and one that fails
-pub sticks : (l : List ℕ) {m : Met} → bad ≡ m → Visited m l l (record { go = Stuck; head = no_position; undo = 0 })
+pub sticks : (h : ℕ) (l : List ℕ) {m : Met} → bad ≡ m → Visited h m l l Stuck
 unfolding met_of
-sticks l e = stays Stuck no_position l refl e
+sticks h l e = stays Stuck h l refl e
 
-pub misses : (l : List ℕ) {m : Met} → past ≡ m → Visited m l l (record { go = Fails; head = no_position; undo = 0 })
+pub misses : (h : ℕ) (l : List ℕ) {m : Met} → past ≡ m → Visited h m l l Fails
 unfolding met_of
-misses l e = stays Fails no_position l refl e
+misses h l e = stays Fails h l refl e
 
 -- another head
 pub moved_none : (h : ℕ) (l : List ℕ) {to : ℕ} → to ≡ no_position → bad ≡ stepped (given (position_in to) (headed (state_of h l)))
 unfolding met_of stepped given
 moved_none h l e = rw (place_none e)
 
-pub moved_some : (h : ℕ) (l : List ℕ) {to : ℕ} → (to ≡ no_position → ⊥) → met_of Below (state_of to l) ≡ stepped (given (position_in to) (headed (state_of h l)))
+pub moved_some : (h : ℕ) (l : List ℕ) {to : ℕ} → (to ≡ no_position → ⊥) → met_of (Below to) (state_of to l) ≡ stepped (given (position_in to) (headed (state_of h l)))
 unfolding met_of stepped given
 moved_some h l n = rw (place_some n)
 
@@ -75,7 +75,7 @@ pub down_stuck : (d : List ℕ) (h : ℕ) (l : List ℕ) → arity (get_or d h 0
 down_stuck d h l e = moved_none h l {to = no_position} refl ∙ ap (λ (o : Option ℕ). stepped (given o (headed (state_of h l)))) (down_none d h e)
 
 pub down_below : (d : List ℕ) (h : ℕ) (l : List ℕ) → (h < length d) × (length d ≤ max_words) → (arity (get_or d h 0) ≡ 0 → ⊥)
-    → met_of Below (state_of (h + 1) l) ≡ stepped (given (down d h) (headed (state_of h l)))
+    → met_of (Below (h + 1)) (state_of (h + 1) l) ≡ stepped (given (down d h) (headed (state_of h l)))
 down_below d h l p n = moved_some h l {to = h + 1} (λ z. omega (arith, p)) ∙ ap (λ (o : Option ℕ). stepped (given o (headed (state_of h l)))) (down_some d h (omega (arith, p)) n)
 
 module _ (d t : List ℕ) (h : ℕ) (l : List ℕ) (R : Walkable d t h l) (inside : h < length d) where
@@ -94,7 +94,7 @@ module _ (d t : List ℕ) (h : ℕ) (l : List ℕ) (R : Walkable d t h l) (insid
   pub right_stuck : get_or t (at_siblings + h) 0 ≡ 0 → bad ≡ stepped (given (right d h) (headed (state_of h l)))
   right_stuck e = moved_none h l {to = no_position} refl ∙ ap (λ (o : Option ℕ). stepped (given o (headed (state_of h l)))) (right_none e)
 
-  pub right_below : (get_or t (at_siblings + h) 0 ≡ 0 → ⊥) → {x : ℕ} → x ≡ get_or t (at_ends + h) 0 → met_of Below (state_of x l) ≡ stepped (given (right d h) (headed (state_of h l)))
+  pub right_below : (get_or t (at_siblings + h) 0 ≡ 0 → ⊥) → {x : ℕ} → x ≡ get_or t (at_ends + h) 0 → met_of (Below x) (state_of x l) ≡ stepped (given (right d h) (headed (state_of h l)))
   right_below n {x} e =
       let r = right_some n {x = x} e in
       moved_some h l {to = x} (λ z. omega (arith, r.1)) ∙ ap (λ (o : Option ℕ). stepped (given o (headed (state_of h l)))) r.0
@@ -102,23 +102,23 @@ module _ (d t : List ℕ) (h : ℕ) (l : List ℕ) (R : Walkable d t h l) (insid
 -- Put and Push
 module _ (h : ℕ) (l : List ℕ) (few : count_in l ≤ max_literals) where
   pub put_visit : (k : ℕ) → k < slots → h < max_words → get_or l (puts_at + k) 0 < undo_base
-      → Visited (stepped (within k (next (putting (state_of h l) k h)))) l (set l (puts_at + k) h)
-      (record { go = Stored; head = h; undo = (puts_at + k) * undo_base + get_or l (puts_at + k) 0 })
+      → Visited h (stepped (within k (next (putting (state_of h l) k h)))) l (set l (puts_at + k) h)
+      (Stored h ((puts_at + k) * undo_base + get_or l (puts_at + k) 0))
   unfolding met_of stepped require
   put_visit k g v b =
       record {
         comes = rw (lt-ltb k slots g, state_put h l few k h g (omega arith));
-        undoable = store (puts_at + k) h (omega arith) (omega arith) b;
+        undoable = store h (puts_at + k) h (omega arith) (omega arith) b;
       }
 
   pub push_visit : (n x : ℕ) → n < slots → x < cell_count → (x ≡ no_position → ⊥) → get_or l (pushes_at + n) 0 < undo_base
-      → Visited (stepped (within n (given (position_in x) (pushing (state_of h l) n)))) l (set l (pushes_at + n) x)
-      (record { go = Stored; head = h; undo = (pushes_at + n) * undo_base + get_or l (pushes_at + n) 0 })
+      → Visited h (stepped (within n (given (position_in x) (pushing (state_of h l) n)))) l (set l (pushes_at + n) x)
+      (Stored h ((pushes_at + n) * undo_base + get_or l (pushes_at + n) 0))
   unfolding met_of stepped require given
   push_visit n x g v ne b =
       record {
         comes = rw (lt-ltb n slots g, place_some ne, state_push h l few n x g (omega arith));
-        undoable = store (pushes_at + n) x (omega arith) (omega arith) b;
+        undoable = store h (pushes_at + n) x (omega arith) (omega arith) b;
       }
 
 pub push_none : (n : ℕ) (s : State) {x : ℕ} → x ≡ no_position → n < slots → bad ≡ stepped (within n (given (position_in x) (pushing s n)))
@@ -132,9 +132,9 @@ unfolding require
 pop_visit h l s n g = rw (lt-ltb n slots g, placed_get pushes_at l n g (omega arith))
 
 -- Check
-pub check_same : (s : State) (a b : ℕ) → a ≡ b → met_of Below s ≡ stepped (require fails (eqb a b) (next s))
+pub check_same : (h : ℕ) (s : State) (a b : ℕ) → a ≡ b → met_of (Below h) s ≡ stepped (require fails (eqb a b) (next s))
 unfolding met_of stepped require
-check_same s a b e = rw (eq-eqb a b e)
+check_same h s a b e = rw (eq-eqb a b e)
 
 pub check_other : (s : State) (a b : ℕ) → (a ≡ b → ⊥) → past ≡ stepped (require fails (eqb a b) (next s))
 unfolding met_of stepped require
@@ -189,7 +189,7 @@ module _ (d t : List ℕ) (h : ℕ) (l : List ℕ) (R : Walkable d t h l) (m k :
           unfolding compare_terms
           compare_both = rw (compare_places, ← e, ← f, place_some n, place_some o)
 
-          pub compare_same : same_terms d p q ≡ true → met_of Below (state_of h l) ≡ stepped (step_at d (Compare m k) (state_of h l) h)
+          pub compare_same : same_terms d p q ≡ true → met_of (Below h) (state_of h l) ≡ stepped (step_at d (Compare m k) (state_of h l) h)
           unfolding met_of stepped require
           compare_same g = rw (compare_both, g)
 

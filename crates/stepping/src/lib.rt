@@ -3,41 +3,16 @@
 
 mod step;
 
-use cells::Path;
 pub use step::{meet, meet_top, operand};
 
-// What a node asks for: to go on past it, nothing more (it is broken), to end with its number, to try the candidates, to go on below it, to go on
-// below it after a store.
-#[derive(Drop)]
-pub enum Go {
+// What a node comes to: to go on past it, nothing more (it is broken), to end with its number, to try the candidates, to go on below it at a head, to go on
+// below it at a head after a store, with the undo that brings back the cell.
+#[derive(Clone, Copy)]
+pub enum Visit {
     Fails,
     Stuck,
     Hit,
     Tries,
-    Below,
-    Stored,
-}
-
-// A visited node: where the walk goes on, and what brings back the cell that the visit stored over.
-#[derive(Drop)]
-pub struct Visit {
-    pub go: Go,
-    pub head: usize,
-    pub undo: u64,
-}
-
-impl Visit {
-    // A broken node.
-    pub const STUCK: Visit = Visit {
-        go: Go::Stuck,
-        head: Path::NONE,
-        undo: 0,
-    };
-
-    // A node that fails.
-    pub const FAILS: Visit = Visit {
-        go: Go::Fails,
-        head: Path::NONE,
-        undo: 0,
-    };
+    Below(usize),
+    Stored(usize, u64),
 }

@@ -5,13 +5,13 @@ ghost use Rattle.machine.specs.Instr.{operands, instruction};
 ghost use Rattle.tree.specs.Laid.{key_of};
 ghost use Rattle.machine.specs.Machine.{same_terms};
 ghost use Rattle.machine.specs.Machine as m;
-ghost use Rattle.stepping.specs.declared.Go.TheVariants.{Stuck, Tries, Stored};
+ghost use Rattle.stepping.specs.declared.Visit.TheVariants.{Stuck, Tries, Stored};
 ghost use Rattle.cells.specs.Inner.Cells.{count_at, cell_count, no_position, undo_base, operation_of, count_in, position_in, state_of, Tables, Walkable};
 ghost use Rattle.stepping.specs.Inner.Visits.{met_success, met_first, met_down, met_right, met_moved, met_put, met_push, met_pop, met_check, met_compare};
 ghost use Rattle.stepping.specs.Inner.Visits.{with_words, met_as, meeting, Visited};
 
-use crate::{Go, Visit};
-use cells::{Path, wide};
+use crate::Visit;
+use cells::Path;
 use clause::Clause;
 use machine::Key;
 use tree::{Tree, extent};
@@ -63,18 +63,14 @@ pub fn operand(w: u64) -> u32
 // To the first argument, if there is one.
 fn down(query: &[u16], head: usize) -> Visit
     requires { (head < length query.now) × (length query.now ≤ max_words) }
-    ensures { (l : List ℕ) → Visited (met_down query.now head l) l l result }
+    ensures { (l : List ℕ) → Visited head (met_down query.now head l) l l result }
 {
     // The arity: three bits above the eleven of the number. By clause::arity it takes an instruction more.
     if query[head] / 0x800 % 8 == 0 {
-        Visit::STUCK
+        Visit::Stuck
     } else {
         let to = head + 1;
-        Visit {
-            go: Go::Below,
-            head: to,
-            undo: 0,
-        }
+        Visit::Below(to)
     }
 }
 
@@ -93,7 +89,7 @@ fn right(
     if tables[siblings] == 0 {
         Path::NONE
     } else {
-        wide(tables[end])
+        usize::from(tables[end])
     }
 }
 
@@ -105,58 +101,46 @@ fn sibling(
     head: usize,
 ) -> Visit
     requires { Walkable query.now tables.now head cells.now × (head < length query.now) }
-    ensures { Visited (met_right query.now head cells.now) cells.now cells.now result }
+    ensures { Visited head (met_right query.now head cells.now) cells.now cells.now result }
 {
     let siblings = Clause::SIBLINGS + head;
     let end = Clause::ENDS + head;
     if tables[siblings] == 0 {
-        Visit::STUCK
+        Visit::Stuck
     } else {
-        Visit {
-            go: Go::Below,
-            head: wide(tables[end]),
-            undo: 0,
-        }
+        Visit::Below(usize::from(tables[end]))
     }
 }
 
 // Goes on with another head, if there is one.
-fn moved(head: usize, to: usize) -> Visit
-    ensures { (l : List ℕ) → Visited (met_moved to head l) l l result }
+fn moved(to: usize) -> Visit
+    ensures { (head : ℕ) (l : List ℕ) → Visited head (met_moved to head l) l l result }
 {
     if to == Path::NONE {
-        Visit::STUCK
+        Visit::Stuck
     } else {
-        Visit {
-            go: Go::Below,
-            head: to,
-            undo: 0,
-        }
+        Visit::Below(to)
     }
 }
 
 // Stores a position in a cell.
 fn store(cells: &mut [u8; Path::CELLS], head: usize, slot: usize, position: usize) -> Visit
     requires { (slot < count_at) × (position < cell_count) }
-    ensures { (result ≡ record { go = Stored; head = head; undo = slot * undo_base + get_or cells.old slot 0 })
+    ensures { (result ≡ Stored head (slot * undo_base + get_or cells.old slot 0))
         × (cells.new ≡ set cells.old slot position) × (get_or cells.old slot 0 < undo_base) }
 {
-    let old = wide(cells[slot]);
+    let old = usize::from(cells[slot]);
     cells[slot] = position as u8;
-    Visit {
-        go: Go::Stored,
-        head: head,
-        undo: (slot * Path::CELLS + old) as u64,
-    }
+    Visit::Stored(head, (slot * Path::CELLS + old) as u64)
 }
 
 // Put k stores the head.
 fn put(cells: &mut [u8; Path::CELLS], head: usize, k: u32) -> Visit
     requires { (count_in cells.old ≤ max_literals) × (head < max_words) }
-    ensures { Visited (met_put k head cells.old) cells.old cells.new result }
+    ensures { Visited head (met_put k head cells.old) cells.old cells.new result }
 {
     if k as usize >= Path::SLOTS {
-        return Visit::STUCK;
+        return Visit::Stuck;
     }
     let slot = Path::PUTS + k as usize;
     store(cells, head, slot, head)
@@ -165,50 +149,39 @@ fn put(cells: &mut [u8; Path::CELLS], head: usize, k: u32) -> Visit
 // Push n stores the position to the right.
 fn push(cells: &mut [u8; Path::CELLS], head: usize, n: u32, to: usize) -> Visit
     requires { (count_in cells.old ≤ max_literals) × (to < cell_count) }
-    ensures { Visited (met_push n to head cells.old) cells.old cells.new result }
+    ensures { Visited head (met_push n to head cells.old) cells.old cells.new result }
 {
     if n as usize >= Path::SLOTS {
-        return Visit::STUCK;
+        return Visit::Stuck;
     }
     if to == Path::NONE {
-        return Visit::STUCK;
+        return Visit::Stuck;
     }
     let slot = Path::PUSHES + n as usize;
     store(cells, head, slot, to)
 }
 
 // Pop n puts the head at the position pushed under n.
-fn pop(cells: &[u8; Path::CELLS], head: usize, n: u32) -> Visit
+fn pop(cells: &[u8; Path::CELLS], n: u32) -> Visit
     requires { length cells.now ≡ cell_count }
-    ensures { Visited (met_pop n head cells.now) cells.now cells.now result }
+    ensures { (head : ℕ) → Visited head (met_pop n head cells.now) cells.now cells.now result }
 {
     if n as usize >= Path::SLOTS {
-        return Visit::STUCK;
+        return Visit::Stuck;
     }
     let slot = Path::PUSHES + n as usize;
-    moved(head, wide(cells[slot]))
-}
-
-// A clause word as an operand.
-fn word(w: u16) -> u32
-    ensures { result ≡ w }
-{
-    w as u32
+    moved(usize::from(cells[slot]))
 }
 
 // Check fails on another word.
 fn check(query: &[u16], head: usize, x: u32) -> Visit
     requires { head < length query.now }
-    ensures { (l : List ℕ) → Visited (met_check query.now x head l) l l result }
+    ensures { (l : List ℕ) → Visited head (met_check query.now x head l) l l result }
 {
-    if word(query[head]) == x {
-        Visit {
-            go: Go::Below,
-            head: head,
-            undo: 0,
-        }
+    if u32::from(query[head]) == x {
+        Visit::Below(head)
     } else {
-        Visit::FAILS
+        Visit::Fails
     }
 }
 
@@ -219,42 +192,30 @@ fn same_terms(query: &[u16], tables: &[u8; Clause::TABLES], p: usize, q: usize) 
 {
     let p_cell = Clause::ENDS + p;
     let q_cell = Clause::ENDS + q;
-    let p_end = wide(tables[p_cell]);
-    let q_end = wide(tables[q_cell]);
+    let p_end = usize::from(tables[p_cell]);
+    let q_end = usize::from(tables[q_cell]);
     let at_p = &query[p..p_end];
     let at_q = &query[q..q_end];
     at_p == at_q
 }
 
 // A Success ends the walk; it has one word.
-fn success(words: usize, head: usize) -> Visit
-    ensures { (l : List ℕ) → Visited (met_success words head l) l l result }
+fn success(words: usize) -> Visit
+    ensures { (head : ℕ) (l : List ℕ) → Visited head (met_success words head l) l l result }
 {
-    if words == 1 {
-        Visit {
-            go: Go::Hit,
-            head: head,
-            undo: 0,
-        }
-    } else {
-        Visit::STUCK
-    }
+    if words == 1 { Visit::Hit } else { Visit::Stuck }
 }
 
 // A First tries the literals of the query that are not used, where there is a place for one candidate more.
-fn tries(cells: &[u8; Path::CELLS], head: usize) -> Visit
+fn tries(cells: &[u8; Path::CELLS]) -> Visit
     requires { length cells.now ≡ cell_count }
-    ensures { Visited (met_first head cells.now) cells.now cells.now result
-        × ((result.go ≡ Tries) ⊎ (result.go ≡ Stuck)) }
+    ensures { ((head : ℕ) → Visited head (met_first head cells.now) cells.now cells.now result)
+        × ((result ≡ Tries) ⊎ (result ≡ Stuck)) }
 {
-    if wide(cells[Path::CHOSEN]) < Clause::LITERALS {
-        Visit {
-            go: Go::Tries,
-            head: head,
-            undo: 0,
-        }
+    if usize::from(cells[Path::CHOSEN]) < Clause::LITERALS {
+        Visit::Tries
     } else {
-        Visit::STUCK
+        Visit::Stuck
     }
 }
 
@@ -267,35 +228,31 @@ fn compare(
     x: u32,
 ) -> Visit
     requires { Walkable query.now tables.now head cells.now }
-    ensures { Visited (met_compare query.now (x / 2 ^ 16) (x % 2 ^ 16) head cells.now)
+    ensures { Visited head (met_compare query.now (x / 2 ^ 16) (x % 2 ^ 16) head cells.now)
         cells.now cells.now result }
 {
     let m = (x / Op::PAIR) as usize;
     let k = (x % Op::PAIR) as usize;
     if m >= Path::SLOTS {
-        return Visit::STUCK;
+        return Visit::Stuck;
     }
     if k >= Path::SLOTS {
-        return Visit::STUCK;
+        return Visit::Stuck;
     }
     let m_cell = Path::PUTS + m;
     let k_cell = Path::PUTS + k;
-    let p = wide(cells[m_cell]);
-    let q = wide(cells[k_cell]);
+    let p = usize::from(cells[m_cell]);
+    let q = usize::from(cells[k_cell]);
     if p == Path::NONE {
-        return Visit::STUCK;
+        return Visit::Stuck;
     }
     if q == Path::NONE {
-        return Visit::STUCK;
+        return Visit::Stuck;
     }
     if same_terms(query, tables, p, q) {
-        Visit {
-            go: Go::Below,
-            head: head,
-            undo: 0,
-        }
+        Visit::Below(head)
     } else {
-        Visit::FAILS
+        Visit::Fails
     }
 }
 
@@ -310,12 +267,12 @@ fn act(
     head: usize,
 ) -> Visit
     requires { Walkable query.now tables.now head cells.old × (head < length query.now) }
-    ensures { Visited (with_words op words (met_as query.now (instruction op x) (state_of head cells.old)))
+    ensures { Visited head (with_words op words (met_as query.now (instruction op x) (state_of head cells.old)))
         cells.old cells.new result }
 {
     match op {
-        Op::SUCCESS => success(words, head),
-        Op::FIRST => tries(cells, head),
+        Op::SUCCESS => success(words),
+        Op::FIRST => tries(cells),
         Op::DOWN => down(query, head),
         Op::RIGHT => sibling(query, tables, cells, head),
         Op::PUT => put(cells, head, x),
@@ -323,10 +280,10 @@ fn act(
             let to = right(query, tables, cells, head);
             push(cells, head, x, to)
         }
-        Op::POP => pop(cells, head, x),
+        Op::POP => pop(cells, x),
         Op::CHECK => check(query, head, x),
         Op::COMPARE => compare(query, tables, cells, head, x),
-        _ => Visit::STUCK,
+        _ => Visit::Stuck,
     }
 }
 
@@ -340,14 +297,14 @@ pub fn meet(
     head: usize,
 ) -> Visit
     requires { Walkable query.now tables.now head cells.old × (1 ≤ room) × (head < length query.now) }
-    ensures { Visited (meeting query.now w room (state_of head cells.old)) cells.old cells.new result }
+    ensures { Visited head (meeting query.now w room (state_of head cells.old)) cells.old cells.new result }
 {
     let words = extent(w);
     if words == 0 {
-        return Visit::STUCK;
+        return Visit::Stuck;
     }
     if words > room {
-        return Visit::STUCK;
+        return Visit::Stuck;
     }
     act(operation(w), operand(w), words, query, tables, cells, head)
 }
@@ -361,18 +318,18 @@ pub fn meet_top(
     cells: &[u8; Path::CELLS],
 ) -> Visit
     requires { Walkable query.now tables.now no_position cells.now × (1 ≤ room) }
-    ensures { Visited (meeting query.now w room (state_of no_position cells.now)) cells.now cells.now result
-        × ((result.go ≡ Tries) ⊎ (result.go ≡ Stuck)) }
+    ensures { Visited no_position (meeting query.now w room (state_of no_position cells.now)) cells.now cells.now result
+        × ((result ≡ Tries) ⊎ (result ≡ Stuck)) }
 {
     let words = extent(w);
     if words == 0 {
-        return Visit::STUCK;
+        return Visit::Stuck;
     }
     if words > room {
-        return Visit::STUCK;
+        return Visit::Stuck;
     }
     if operation(w) != Op::FIRST {
-        return Visit::STUCK;
+        return Visit::Stuck;
     }
-    tries(cells, Path::NONE)
+    tries(cells)
 }

@@ -17,9 +17,9 @@ use Rattle.cells.specs.Inner.Cells.{entered, passes_of, pass_state, state_of}
 use Rattle.cells.specs.declared.Above.{Above}
 use Rattle.cells.specs.declared.Above.TheVariants.{First, Step}
 use Rattle.walking.specs.Inner.Findings.{missed, seen, out_by, Walked}
-use Rattle.walking.specs.declared.Finding.{Finding}
+use Rattle.std.specs.Prelude.{Ok, Err}
 use Rattle.walking.specs.declared.End.{End}
-use Rattle.walking.specs.declared.End.TheVariants.{Missed, Found, Broken, Spent}
+use Rattle.walking.specs.declared.End.TheVariants.{Found, Broken, Spent}
 
 -- what comes last hands its answer on: the last word of a row, the last candidate
 pub then_none : {S : Type 0} (a : Answer S) (k : Part S) → ((c : ℕ) → k c ≡ not_covered c) → and_then a k ≡ a
@@ -78,57 +78,50 @@ seen_missed (not_covered i) e = cc
 seen_missed spent e = apart cc
 seen_missed broken e = apart cc
 
-out_missed : (e : End) (n : ℕ) (l : List ℕ) {c : ℕ} → out_by e n l ≡ missed c → e ≡ Missed
+ended : (e : End) (l : List ℕ) {c : ℕ} → out_by (Err e) l ≡ missed c → ⊥
 unfolding out_by
-out_missed Missed n l h = refl
-out_missed (Found k) n l h = apart cc
-out_missed Broken n l h = apart cc
-out_missed Spent n l h = apart cc
+ended (Found k i) l h = apart cc
+ended Broken l h = apart cc
+ended Spent l h = apart cc
 
 -- after a miss the walk goes on, and it ends with anything else
 pub then_on : {a : Answer State} {c : ℕ} (k : Part State) → a ≡ not_covered c → and_then a k ≡ k c
 then_on k e = rw e
 
-pub then_ends : (a : Answer State) (k : Part State) (e : End) (n : ℕ) (l : List ℕ) → (e ≡ Missed → ⊥) → out_by e n l ≡ seen a → and_then a k ≡ a
+pub then_ends : (a : Answer State) (k : Part State) (e : End) (l : List ℕ) → out_by (Err e) l ≡ seen a → and_then a k ≡ a
 unfolding seen
-then_ends (covered i s c) k e n l ne h = refl
-then_ends (not_covered c) k e n l ne h = absurd (ne (out_missed e n l h))
-then_ends spent k e n l ne h = refl
-then_ends broken k e n l ne h = refl
+then_ends (covered i s c) k e l h = refl
+then_ends (not_covered c) k e l h = absurd (ended e l h)
+then_ends spent k e l h = refl
+then_ends broken k e l h = refl
 
-pub missed_of : (a : Answer State) (e : End) (n : ℕ) (l : List ℕ) → e ≡ Missed → out_by e n l ≡ seen a → a ≡ not_covered n
+pub missed_of : (a : Answer State) (n : ℕ) (l : List ℕ) → out_by (Ok n) l ≡ seen a → a ≡ not_covered n
 unfolding out_by
-missed_of a e n l m h = seen_missed a (rw m at h)
+missed_of a n l h = seen_missed a h
 
-pub broken≢missed : Broken ≡ Missed → ⊥
-broken≢missed e = apart cc
+err≢ok : {e : End} {c : ℕ} → Err e ≡ Ok c → ⊥
+err≢ok e = apart cc
 
-pub spent≢missed : Spent ≡ Missed → ⊥
-spent≢missed e = apart cc
-
-pub found≢missed : {n : ℕ} → Found n ≡ Missed → ⊥
-found≢missed e = apart cc
-
--- what a walk's finding says of its answer
+-- what a walk's result says of its answer
 module _ {a : Answer State} {before after : List ℕ} where
-  pub walked_missed : {c : ℕ} → a ≡ not_covered c → after ≡ before → Walked a before after (record { end = Missed; count = c })
+  pub walked_missed : {c : ℕ} → a ≡ not_covered c → after ≡ before → Walked a before after (Ok c)
   unfolding out_by seen
-  walked_missed e b = record { comes = rw e; back = λ _. b; size = rw b }
+  walked_missed e b = record { comes = rw e; back = λ _ _. b; size = rw b }
 
-  pub walked_spent : (c : ℕ) → a ≡ spent → length after ≡ length before → Walked a before after (record { end = Spent; count = c })
+  pub walked_spent : a ≡ spent → length after ≡ length before → Walked a before after (Err Spent)
   unfolding out_by seen
-  walked_spent c e l = record { comes = rw e; back = λ m. absurd (spent≢missed m); size = l }
+  walked_spent e l = record { comes = rw e; back = λ _ m. absurd (err≢ok m); size = l }
 
-  pub walked_broken : (c : ℕ) → a ≡ broken → length after ≡ length before → Walked a before after (record { end = Broken; count = c })
+  pub walked_broken : a ≡ broken → length after ≡ length before → Walked a before after (Err Broken)
   unfolding out_by seen
-  walked_broken c e l = record { comes = rw e; back = λ m. absurd (broken≢missed m); size = l }
+  walked_broken e l = record { comes = rw e; back = λ _ m. absurd (err≢ok m); size = l }
 
-  pub walked_found : (h : ℕ) {n i c : ℕ} → i ≡ n → a ≡ covered n (state_of h after) c → length after ≡ length before → Walked a before after (record { end = Found i; count = c })
+  pub walked_found : (h : ℕ) {n i c : ℕ} → i ≡ n → a ≡ covered n (state_of h after) c → length after ≡ length before → Walked a before after (Err (Found i c))
   unfolding out_by seen shown
-  walked_found h f e l = record { comes = rw (f, e); back = λ m. absurd (found≢missed m); size = l }
+  walked_found h f e l = record { comes = rw (f, e); back = λ _ m. absurd (err≢ok m); size = l }
 
-  pub walked_same : {m : List ℕ} {r : Finding} {x : Answer State} → (r.end ≡ Missed → ⊥) → a ≡ x → Walked x m after r → length m ≡ length before → Walked a before after r
-  walked_same nm e w l = record { comes = rw e w.comes; back = λ m. absurd (nm m); size = w.size ∙ l }
+  pub walked_same : {m : List ℕ} {r : End} {x : Answer State} → a ≡ x → Walked x m after (Err r) → length m ≡ length before → Walked a before after (Err r)
+  walked_same e w l = record { comes = rw e w.comes; back = λ _ m. absurd (err≢ok m); size = w.size ∙ l }
 
 -- a walk that ends ends what follows it
 pub then_broken : {a : Answer State} (k : Part State) → a ≡ broken → and_then a k ≡ broken
@@ -137,5 +130,5 @@ then_broken k e = rw e
 pub then_covered : {a : Answer State} {n c : ℕ} {s : State} (k : Part State) → a ≡ covered n s c → and_then a k ≡ covered n s c
 then_covered k e = rw e
 
-pub then_found : {a x : Answer State} (k : Part State) {m after : List ℕ} {r : Finding} → (r.end ≡ Missed → ⊥) → a ≡ x → Walked x m after r → and_then a k ≡ x
-then_found {x = x} k {after = after} {r} nm e w = rw e (then_ends x k r.end r.count after nm w.comes)
+pub then_found : {a x : Answer State} (k : Part State) {m after : List ℕ} {r : End} → a ≡ x → Walked x m after (Err r) → and_then a k ≡ x
+then_found {x = x} k {after = after} {r} e w = rw e (then_ends x k r after w.comes)

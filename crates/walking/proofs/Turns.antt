@@ -21,8 +21,9 @@ use Rattle.cells.specs.Inner.Cells.{use_limit, bits_of, has_bit, uses_of, saved_
 use Rattle.cells.specs.declared.Above.{Above}
 use Rattle.cells.specs.declared.Above.TheVariants.{First, Step}
 use Rattle.walking.specs.Inner.Findings.{Walked}
-use Rattle.walking.specs.declared.End.TheVariants.{Missed, Found, Broken, Spent}
-use Rattle.walking.specs.declared.Finding.{Finding}
+use Rattle.std.specs.Prelude.{Ok, Err}
+use Rattle.walking.specs.declared.End.{End}
+use Rattle.walking.specs.declared.End.TheVariants.{Found, Broken, Spent}
 use Rattle.cells.proofs.Places.{place_some, above_first, above_step, waiting, waiting_reserve, waiting_next, waiting_release, waiting_size, waiting_few, waiting_state}
 use Rattle.cells.proofs.Bits.{bits_used, low_bit}
 use Rattle.stepping.proofs.Visits.{chosen_length}
@@ -174,7 +175,7 @@ module _ {d t words : List ℕ} {b h : ℕ} {l : List ℕ} {n₀ : ℕ} {above :
     between_literal m e = (between_room e, literal m e)
 
     -- no pass is left
-    pub between_ends : last ≤ j → {out : List ℕ} → out ≡ released above (saved_byte saved) cells → Walked (entered d b (above_of h) k s n₀) l out (record { end = Missed; count = n })
+    pub between_ends : last ≤ j → {out : List ℕ} → out ≡ released above (saved_byte saved) cells → Walked (entered d b (above_of h) k s n₀) l out (Ok n)
     between_ends m o = walked_missed (asked ∙ left ∙ runs_end d b k s above last j n m) (o ∙ rw (E.keeps, held) (waiting_release above l size few B.latest))
 
     -- literal j is used: it is passed over
@@ -188,8 +189,8 @@ module _ {d t words : List ℕ} {b h : ℕ} {l : List ℕ} {n₀ : ℕ} {above :
         }
 
     -- the budget is spent
-    pub between_spent : above ≡ First → j < last → has_bit saved j ≡ false → b ≤ n → Walked (entered d b (above_of h) k s n₀) l cells (record { end = Spent; count = n })
-    between_spent e m u g = walked_spent n (asked ∙ left ∙ runs_spent d b k s (chosen_few e) e last j n m (sym (by_bit e m) ∙ u) g) (between_size ∙ sym size)
+    pub between_spent : above ≡ First → j < last → has_bit saved j ≡ false → b ≤ n → Walked (entered d b (above_of h) k s n₀) l cells (Err Spent)
+    between_spent e m u g = walked_spent (asked ∙ left ∙ runs_spent d b k s (chosen_few e) e last j n m (sym (by_bit e m) ∙ u) g) (between_size ∙ sym size)
 
 module _ {d t words : List ℕ} {b h : ℕ} {l : List ℕ} {n₀ : ℕ} {above : Above} {last saved : ℕ} {l₁ cells : List ℕ} {n j n₁ here : ℕ} {out : List ℕ}
     (P : Begun d t words b h l n₀ above last saved l₁ cells n j n₁ here out) where
@@ -235,13 +236,13 @@ module _ {d t words : List ℕ} {b h : ℕ} {l : List ℕ} {n₀ : ℕ} {above :
 
   -- its row ends with anything else
   module _ {after : List ℕ} (sized : length after ≡ cell_count) where
-    pub pass_broken : (c : ℕ) → row (state_of here out) n₁ ≡ broken → Walked whole l after (record { end = Broken; count = c })
-    pass_broken c e = walked_broken c (asked E ∙ next ∙ then_broken _ e) (sized ∙ sym (size E))
+    pub pass_broken : row (state_of here out) n₁ ≡ broken → Walked whole l after (Err Broken)
+    pass_broken e = walked_broken (asked E ∙ next ∙ then_broken _ e) (sized ∙ sym (size E))
 
-    pub pass_found : (x : ℕ) {m i c : ℕ} → row (state_of here out) n₁ ≡ covered m (state_of x after) c → i ≡ m → Walked whole l after (record { end = Found i; count = c })
+    pub pass_found : (x : ℕ) {m i c : ℕ} → row (state_of here out) n₁ ≡ covered m (state_of x after) c → i ≡ m → Walked whole l after (Err (Found i c))
     pass_found x e f = walked_found x f (asked E ∙ next ∙ then_covered _ e) (sized ∙ sym (size E))
 
   pub pass_ends :
-      {m after : List ℕ} {r : Finding} {a : Answer State} → length m ≡ cell_count → (r.end ≡ Missed → ⊥) → row (state_of here out) n₁ ≡ a → Walked a m after r
-      → Walked whole l after r
-  pass_ends z nm e w = walked_same nm (asked E ∙ next ∙ then_found _ nm e w) w (z ∙ sym (size E))
+      {m after : List ℕ} {r : End} {a : Answer State} → length m ≡ cell_count → row (state_of here out) n₁ ≡ a → Walked a m after (Err r)
+      → Walked whole l after (Err r)
+  pass_ends z e w = walked_same (asked E ∙ next ∙ then_found _ e w) w (z ∙ sym (size E))

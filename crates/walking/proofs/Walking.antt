@@ -23,15 +23,14 @@ use Rattle.walk.specs.Walk.{Answer, covered, not_covered, spent, broken, Part, a
 use Rattle.walk.specs.Words.{extends, walk_words}
 use Rattle.walk.specs.Query.{machine}
 use Rattle.cells.specs.Inner.Cells.{cell_count, no_position, HasPlace, above_of, entered, position_in, state_of, Walkable}
-use Rattle.stepping.specs.Inner.Visits.{Met, bad, firsts, below, stepped, reached, met_as, meeting, met_of}
+use Rattle.stepping.specs.Inner.Visits.{Met, bad, firsts, below, stepped, reached, met_as, meeting, met_of, head_of, undo_of}
 use Rattle.cells.specs.Inner.Cells.{unwound, restored, wanted_at, Skipped}
 use Rattle.stepping.specs.Inner.Visits.{Visited}
 use Rattle.walking.specs.Inner.Findings.{Walked}
-use Rattle.stepping.specs.declared.Go.{Go}
-use Rattle.stepping.specs.declared.Go.TheVariants.{Fails, Stuck, Hit, Tries, Below, Stored}
 use Rattle.stepping.specs.declared.Visit.{Visit}
-use Rattle.walking.specs.declared.End.TheVariants.{Missed}
-use Rattle.walking.specs.declared.Finding.{Finding}
+use Rattle.stepping.specs.declared.Visit.TheVariants.{Fails, Stuck, Hit, Tries, Below, Stored}
+use Rattle.std.specs.Prelude.{Ok, Err}
+use Rattle.walking.specs.declared.End.{End}
 use Rattle.cells.proofs.Rows.{row_end}
 use Rattle.stepping.proofs.Undoing.{undoable_size, undoable_count, undoable_small, undoable_some, undoable_none, restored_undoable}
 use Rattle.walking.proofs.Nodes.{extends_within, going_on, meets}
@@ -88,14 +87,14 @@ module _ (d : List ℕ) (s t : State) where
   firsts_same (some (Success n)) e = absurd (firsts_finish (finish s) e)
 
 -- what a word comes to is broken where its extent is wrong
-bad_stuck : (g : Go) (s : State) → met_of g s ≡ bad → g ≡ Stuck
+bad_stuck : (v : Visit) (s : State) → met_of v s ≡ bad → v ≡ Stuck
 unfolding met_of
 bad_stuck Fails s e = apart cc
 bad_stuck Stuck s e = refl
 bad_stuck Hit s e = apart cc
 bad_stuck Tries s e = apart cc
-bad_stuck Below s e = apart cc
-bad_stuck Stored s e = apart cc
+bad_stuck (Below x) s e = apart cc
+bad_stuck (Stored x u) s e = apart cc
 
 module _ (d : List ℕ) (w room : ℕ) (s : State) where
   fits_met : {m : Met} → meeting d w room s ≡ m → (m ≡ bad → ⊥) → (extends w (room - 1) ≡ true) × (met_as d (instr_of (key_of w)) s ≡ m)
@@ -106,10 +105,10 @@ module _ (d : List ℕ) (w room : ℕ) (s : State) where
       go true f = (f, rw f at e)
       go false f = absurd (n (sym (rw f at e)))
 
-below≢stuck : Below ≡ Stuck → ⊥
+below≢stuck : {x : ℕ} → Below x ≡ Stuck → ⊥
 below≢stuck e = apart cc
 
-stored≢stuck : Stored ≡ Stuck → ⊥
+stored≢stuck : {x u : ℕ} → Stored x u ≡ Stuck → ⊥
 stored≢stuck e = apart cc
 
 fails≢stuck : Fails ≡ Stuck → ⊥
@@ -118,54 +117,72 @@ fails≢stuck e = apart cc
 tries≢stuck : Tries ≡ Stuck → ⊥
 tries≢stuck e = apart cc
 
--- a visit that goes on below, with a store or without
-abbrev pub Lower : Go → Type 0
-Lower g = (g ≡ Below) ⊎ (g ≡ Stored)
+-- a visit that goes on below at a head, with a store or without
+abbrev pub Lower : Visit → ℕ → Type 0
+Lower v x = (v ≡ Below x) ⊎ ((u : ℕ) × (v ≡ Stored x u))
 
-lower≢stuck : {g : Go} → Lower g → g ≡ Stuck → ⊥
-lower≢stuck l f = ⊎_elim (λ e. below≢stuck (sym e ∙ f)) (λ e. stored≢stuck (sym e ∙ f)) l
+lower≢stuck : {v : Visit} {x : ℕ} → Lower v x → v ≡ Stuck → ⊥
+lower≢stuck l f = ⊎_elim (λ e. below≢stuck (sym e ∙ f)) (λ e. stored≢stuck (sym e.1 ∙ f)) l
 
-lower_met : {g : Go} (s : State) → Lower g → met_of g s ≡ below s
+lower_met : {v : Visit} {x : ℕ} (s : State) → Lower v x → met_of v s ≡ below s
 unfolding met_of
-lower_met s l = ⊎_elim (λ e. rw e) (λ e. rw e) l
+lower_met s l = ⊎_elim (λ e. rw e) (λ e. rw e.1) l
+
+lower_head : {v : Visit} {x : ℕ} (h : ℕ) → Lower v x → head_of h v ≡ x
+lower_head h l = ⊎_elim (λ e. rw e) (λ e. rw e.1) l
+
+-- what a call below is handed, by the visit: the head, or none below a First, and the undo
+abbrev pub Onward : Visit → ℕ × ℕ → Type 0
+Onward v p = (((v ≡ Tries) × (p.0 ≡ no_position)) ⊎ Lower v p.0) × (p.1 ≡ undo_of v)
+
+module _ {v : Visit} {p : ℕ × ℕ} where
+  pub onward_tries : v ≡ Tries → p ≡ (no_position, 0) → Onward v p
+  onward_tries e f = rw (e, f) (inl (refl, refl), refl)
+
+  pub onward_below : {x : ℕ} → v ≡ Below x → p ≡ (x, 0) → Onward v p
+  onward_below e f = rw (e, f) (inr (inl refl), refl)
+
+  pub onward_stored : {x u : ℕ} → v ≡ Stored x u → p ≡ (x, u) → Onward v p
+  onward_stored {u = u} e f = rw (e, f) (inr (inr (u, refl)), refl)
 
 -- the visit of a word by a ready state
 module _ (d t : List ℕ) (h : ℕ) (l : List ℕ) (R : Walkable d t h l) (w room : ℕ) (some-room : 1 ≤ room)
-    (m : List ℕ) (v : Visit) (met : Visited (meeting d w room (state_of h l)) l m v) where
-  met_fits : (v.go ≡ Stuck → ⊥) → (extends w (room - 1) ≡ true) × (met_as d (instr_of (key_of w)) (state_of h l) ≡ met_of v.go (state_of v.head m))
-  met_fits n = fits_met d w room (state_of h l) (sym met.comes) (λ e. n (bad_stuck v.go (state_of v.head m) e))
+    (m : List ℕ) (v : Visit) (met : Visited h (meeting d w room (state_of h l)) l m v) where
+  met_fits : (v ≡ Stuck → ⊥) → (extends w (room - 1) ≡ true) × (met_as d (instr_of (key_of w)) (state_of h l) ≡ met_of v (state_of (head_of h v) m))
+  met_fits n = fits_met d w room (state_of h l) (sym met.comes) (λ e. n (bad_stuck v (state_of (head_of h v) m) e))
 
-  visit_fits : (v.go ≡ Stuck → ⊥) → (1 ≤ extent_of w) × (extent_of w ≤ room)
+  visit_fits : (v ≡ Stuck → ⊥) → (1 ≤ extent_of w) × (extent_of w ≤ room)
   visit_fits n = let e = (met_fits n).0 in let b = extends_within w (room - 1) e in (b.0, omega arith)
 
-  ready_as : Safe d (state_of v.head m) → Walkable d t v.head m
-  ready_as S = record { whole = R.whole; tables = R.tables; safe = S; size = undoable_size met.undoable ∙ R.size; few = rw (undoable_count met.undoable) R.few }
+  ready_as : (x : ℕ) → Safe d (state_of x m) → Walkable d t x m
+  ready_as x S = record { whole = R.whole; tables = R.tables; safe = S; size = undoable_size met.undoable ∙ R.size; few = rw (undoable_count met.undoable) R.few }
 
-  below_met : Lower v.go → below (state_of v.head m) ≡ met_as d (instr_of (key_of w)) (state_of h l)
-  below_met g = sym ((met_fits (lower≢stuck g)).1 ∙ lower_met (state_of v.head m) g)
+  below_met : {x : ℕ} → Lower v x → below (state_of x m) ≡ met_as d (instr_of (key_of w)) (state_of h l)
+  below_met g =
+      sym ((met_fits (lower≢stuck g)).1 ∙ lower_met (state_of (head_of h v) m) g ∙ ap (λ (y : ℕ). below (state_of y m)) (lower_head h g))
 
-  pub visit_below : Lower v.go → Walkable d t v.head m
-  visit_below g =
-      ready_as (below_by d (state_of h l) (state_of v.head m) (instr_of (key_of w)) (λ x e. step_safe d (accepted d R.whole) (state_of h l) R.safe x e) (below_met g))
+  pub visit_below : {x : ℕ} → Lower v x → Walkable d t x m
+  visit_below {x} g =
+      ready_as x (below_by d (state_of h l) (state_of x m) (instr_of (key_of w)) (λ y e. step_safe d (accepted d R.whole) (state_of h l) R.safe y e) (below_met g))
 
   -- the head stands in the query
-  pub visit_inside : Lower v.go → v.head < length d
-  visit_inside g =
+  pub visit_inside : {x : ℕ} → Lower v x → x < length d
+  visit_inside {x} g =
       let s = state_of h l in
-      let L = below_by d s (state_of v.head m) {P = Leaves s (state_of v.head m)} (instr_of (key_of w)) (λ x f. step_leaves d s x f) (below_met g) in
-      go L.position L.there (ℕ_discrete v.head no_position)
+      let L = below_by d s (state_of x m) {P = Leaves s (state_of x m)} (instr_of (key_of w)) (λ y f. step_leaves d s y f) (below_met g) in
+      go L.position L.there (ℕ_discrete x no_position)
     where
-      go : (q : ℕ) → position_in v.head ≡ some q → Dec (v.head ≡ no_position) → v.head < length d
+      go : (q : ℕ) → position_in x ≡ some q → Dec (x ≡ no_position) → x < length d
       go q e (yes z) = absurd (none-ne-some q (sym (place_none z) ∙ e))
-      go q e (no n) = (visit_below g).safe.head v.head (place_some n)
+      go q e (no n) = (visit_below g).safe.head x (place_some n)
 
-  pub visit_tries : v.go ≡ Tries → Walkable d t v.head m × (HasPlace m)
+  pub visit_tries : v ≡ Tries → Walkable d t h m × (HasPlace m)
   unfolding met_of
   visit_tries e =
       let f = (met_fits (λ z. tries≢stuck (sym e ∙ z))).1 in
-      let g = firsts_same d (state_of h l) (state_of v.head m) (instr_of (key_of w)) (sym (rw e at f)) in
+      let g = firsts_same d (state_of h l) (state_of h m) (instr_of (key_of w)) (sym (rw e at f)) in
       let few : HasPlace l = rw (chosen_length d t h l R) at g.1 in
-      (ready_as (rw g.0 R.safe), rw (undoable_count met.undoable) few)
+      (ready_as h (rw g.0 R.safe), rw (undoable_count met.undoable) few)
 
 -- without a head the state is as ready
 headless : (d t : List ℕ) (h : ℕ) (l : List ℕ) → Walkable d t h l → Walkable d t no_position l
@@ -243,7 +260,7 @@ pub record Meeting (d t words : List ℕ) (b : ℕ) (s : State) (n₀ : ℕ) (ce
   pub walking : Walking d t words b s n₀ cells₀ cells n here trail rest
   pub some_words : 0 < length rest
   pub extent : x ≡ extent_of (get_or rest 0 0)
-  pub visited : Visited (meeting d (get_or rest 0 0) (length rest) (state_of here cells)) cells m v
+  pub visited : Visited here (meeting d (get_or rest 0 0) (length rest) (state_of here cells)) cells m v
 
 module _ {d t words : List ℕ} {b : ℕ} {s : State} {n₀ : ℕ} {cells₀ cells : List ℕ} {n here trail : ℕ} {rest : List ℕ} {x : ℕ} {m : List ℕ} {v : Visit}
     (M : Meeting d t words b s n₀ cells₀ cells n here trail rest x m v) where
@@ -253,7 +270,7 @@ module _ {d t words : List ℕ} {b : ℕ} {s : State} {n₀ : ℕ} {cells₀ cel
   h : 0 < length rest
   h = M.some_words
 
-  met : Visited (meeting d (get_or rest 0 0) (length rest) (state_of here cells)) cells m v
+  met : Visited here (meeting d (get_or rest 0 0) (length rest) (state_of here cells)) cells m v
   met = M.visited
 
   abbrev part : State → Part State
@@ -262,36 +279,36 @@ module _ {d t words : List ℕ} {b : ℕ} {s : State} {n₀ : ℕ} {cells₀ cel
   abbrev after : Part State
   after = walk_words (machine d) (up_to b) (drop x rest) (state_of here cells)
 
-  node : walk_words (machine d) (up_to b) words s n₀ ≡ and_then (going_on d b (get_or rest 0 0 / 2 ^ 28 % 2 ^ 32) (met_of v.go (state_of v.head m)) part n) after
+  node : walk_words (machine d) (up_to b) words s n₀ ≡ and_then (going_on d b (get_or rest 0 0 / 2 ^ 28 % 2 ^ 32) (met_of v (state_of (head_of here v) m)) part n) after
   node =
       let l = some_literal d (accepted d W.ready.whole) in
       let q : length (literals d) ≡ suc (length (literals d) - 1) = omega arith in
       W.same ∙ meets d b rest h (state_of here cells) n (length (literals d) - 1) q x M.extent ∙ rw met.comes
 
-  word_fits : (v.go ≡ Stuck → ⊥) → (1 ≤ x) × (x ≤ length rest)
+  word_fits : (v ≡ Stuck → ⊥) → (1 ≤ x) × (x ≤ length rest)
   word_fits ns = let f = visit_fits d t here cells W.ready (get_or rest 0 0) (length rest) h m v met ns in (omega (arith, M.extent), omega (arith, M.extent))
 
-  pub fits_fails : v.go ≡ Fails → (1 ≤ x) × (x ≤ length rest)
+  pub fits_fails : v ≡ Fails → (1 ≤ x) × (x ≤ length rest)
   fits_fails g = word_fits (λ z. fails≢stuck (sym g ∙ z))
 
-  pub fits_below : Lower v.go → (1 ≤ x) × (x ≤ length rest)
+  pub fits_below : {y : ℕ} → Lower v y → (1 ≤ x) × (x ≤ length rest)
   fits_below g = word_fits (lower≢stuck g)
 
-  pub fits_tries : v.go ≡ Tries → (1 ≤ x) × (x ≤ length rest)
+  pub fits_tries : v ≡ Tries → (1 ≤ x) × (x ≤ length rest)
   fits_tries g = word_fits (λ z. tries≢stuck (sym g ∙ z))
 
   -- a broken word
-  pub node_stuck : v.go ≡ Stuck → walk_words (machine d) (up_to b) words s n₀ ≡ broken
+  pub node_stuck : v ≡ Stuck → walk_words (machine d) (up_to b) words s n₀ ≡ broken
   unfolding met_of going_on
   node_stuck g = node ∙ rw g
 
   -- a Success
-  pub node_hit : v.go ≡ Hit → walk_words (machine d) (up_to b) words s n₀ ≡ covered (get_or rest 0 0 / 2 ^ 28 % 2 ^ 32) (state_of v.head m) n
+  pub node_hit : v ≡ Hit → walk_words (machine d) (up_to b) words s n₀ ≡ covered (get_or rest 0 0 / 2 ^ 28 % 2 ^ 32) (state_of here m) n
   unfolding met_of going_on
   node_hit g = node ∙ rw g
 
   -- a word that fails
-  pub node_fails : v.go ≡ Fails → Walking d t words b s n₀ cells₀ m n here trail (tail x rest)
+  pub node_fails : v ≡ Fails → Walking d t words b s n₀ cells₀ m n here trail (tail x rest)
   unfolding met_of going_on
   node_fails g =
       let c : m ≡ cells = undoable_none met.undoable (rw g) in
@@ -299,13 +316,13 @@ module _ {d t words : List ℕ} {b : ℕ} {s : State} {n₀ : ℕ} {cells₀ cel
       rw c (record { shorter = tail_le x rest W.shorter; ready = W.ready; undo = W.undo; same = f ∙ rw (tail_drop x rest) })
 
   -- the last word of a row: what stands below it is the row from here on
-  node_on : Lower v.go → x ≡ length rest → (to : ℕ) → unwound to m ≡ unwound trail cells → Walking d t words b s n₀ cells₀ m n v.head to (tail 1 rest)
+  node_on : {y : ℕ} → Lower v y → x ≡ length rest → (to : ℕ) → unwound to m ≡ unwound trail cells → Walking d t words b s n₀ cells₀ m n y to (tail 1 rest)
   unfolding going_on
-  node_on g last to u =
+  node_on {y} g last to u =
       let all : take (x - 1) (drop 1 rest) ≡ drop 1 rest = take_all (x - 1) (drop 1 rest) (simp length-drop (omega (arith, h))) in
-      let f : walk_words (machine d) (up_to b) words s n₀ ≡ part (state_of v.head m) n =
-      node ∙ rw (lower_met (state_of v.head m) g)
-      (then_none (part (state_of v.head m) n) after (λ c. row_end (machine d) (up_to b) rest x (state_of here cells) c (omega arith))) in
+      let f : walk_words (machine d) (up_to b) words s n₀ ≡ part (state_of y m) n =
+      node ∙ rw (lower_met (state_of (head_of here v) m) g, lower_head here g)
+      (then_none (part (state_of y m) n) after (λ c. row_end (machine d) (up_to b) rest x (state_of here cells) c (omega arith))) in
       record {
         shorter = tail_le 1 rest W.shorter;
         ready = visit_below d t here cells W.ready (get_or rest 0 0) (length rest) h m v met g;
@@ -314,66 +331,71 @@ module _ {d t words : List ℕ} {b : ℕ} {s : State} {n₀ : ℕ} {cells₀ cel
       }
 
   -- it stores nothing
-  pub node_plain : v.go ≡ Below → x ≡ length rest → Walking d t words b s n₀ cells₀ m n v.head trail (tail 1 rest)
+  pub node_plain : {y : ℕ} → v ≡ Below y → x ≡ length rest → Walking d t words b s n₀ cells₀ m n y trail (tail 1 rest)
   node_plain g last = node_on (inl g) last trail (ap (unwound trail) (undoable_none met.undoable (rw g)))
 
   -- its store goes on the trail
-  pub node_last : v.go ≡ Stored → x ≡ length rest → trail < 2 ^ 48 → {to : ℕ} → to ≡ trail * 2 ^ 16 + v.undo → Walking d t words b s n₀ cells₀ m n v.head to (tail 1 rest)
-  node_last g last room {to} tr =
-      let u = met.undoable in
-      node_on (inr g) last to (rw tr (unwound_traced trail v.undo m room (undoable_small u) (undoable_some u (rw g)) ∙ rw (restored_undoable u)))
+  pub node_last : {y u : ℕ} → v ≡ Stored y u → x ≡ length rest → trail < 2 ^ 48 → {to : ℕ} → to ≡ trail * 2 ^ 16 + u → Walking d t words b s n₀ cells₀ m n y to (tail 1 rest)
+  node_last {u = u} g last room {to} tr =
+      let U = met.undoable in
+      let k : u ≡ undo_of v = rw g in
+      node_on (inr (u, g)) last to (rw (tr, k) (unwound_traced trail (undo_of v) m room (undoable_small U) (undoable_some U (rw g)) ∙ rw (restored_undoable U)))
 
   pub met_size : length m ≡ cell_count
   met_size = undoable_size met.undoable ∙ W.ready.size
 
-  pub node_inside : Lower v.go → v.head < length d
+  pub node_inside : {y : ℕ} → Lower v y → y < length d
   node_inside = visit_inside d t here cells W.ready (get_or rest 0 0) (length rest) h m v met
 
   -- a call on the words below: the candidates of a First, which hands on no head, or below any other word
-  module _ {to : ℕ} (kind : ((v.go ≡ Tries) × (to ≡ no_position)) ⊎ (Lower v.go × (to ≡ v.head))) where
+  module _ {to : ℕ} (kind : ((v ≡ Tries) × (to ≡ no_position)) ⊎ Lower v to) where
     pub call_ready : Walkable d t to m × (to ≡ no_position → HasPlace m)
     call_ready =
         ⊎_elim
-        (λ k. let f = visit_tries d t here cells W.ready (get_or rest 0 0) (length rest) h m v met k.0 in (rw k.1 (headless d t v.head m f.0), λ _. f.1))
+        (λ k. let f = visit_tries d t here cells W.ready (get_or rest 0 0) (length rest) h m v met k.0 in (rw k.1 (headless d t here m f.0), λ _. f.1))
         (λ k. (
-          rw k.1 (visit_below d t here cells W.ready (get_or rest 0 0) (length rest) h m v met k.0),
-          λ z. absurd (omega (arith, node_inside k.0, few_words W.ready, k.1)),
+          visit_below d t here cells W.ready (get_or rest 0 0) (length rest) h m v met k,
+          λ z. absurd (omega (arith, node_inside {y = to} k, few_words W.ready)),
         ))
         kind
 
     pub call_fits : (1 ≤ x) × (x ≤ length rest)
-    call_fits = ⊎_elim (λ k. fits_tries k.0) (λ k. fits_below k.0) kind
+    call_fits = ⊎_elim (λ k. fits_tries k.0) (λ k. fits_below k) kind
 
-    called_as : going_on d b (get_or rest 0 0 / 2 ^ 28 % 2 ^ 32) (met_of v.go (state_of v.head m)) part n ≡ entered d b (above_of to) part (state_of to m) n
+    called_as : going_on d b (get_or rest 0 0 / 2 ^ 28 % 2 ^ 32) (met_of v (state_of (head_of here v) m)) part n ≡ entered d b (above_of to) part (state_of to m) n
     unfolding met_of going_on above_of entered
     called_as =
         ⊎_elim
-        (λ k. rw (k.0, k.1) (tries_head d b part v.head m (length (literals d)) 0 n))
-        (λ k. rw (lower_met (state_of v.head m) k.0, k.1, ne_eqb v.head no_position (λ z. omega (arith, node_inside k.0, few_words W.ready))))
+        (λ k. rw (k.0, k.1) (tries_head d b part here m (length (literals d)) 0 n))
+        (λ (k : Lower v to).
+        let i = node_inside k in
+        rw (lower_met (state_of (head_of here v) m) k, lower_head here k, ne_eqb to no_position (λ z. omega (arith, i, few_words W.ready))))
         kind
 
-    module _ {out : List ℕ} {r : Finding} (walked : Walked (entered d b (above_of to) part (state_of to m) n) m out r) where
-      node_call : walk_words (machine d) (up_to b) words s n₀ ≡ and_then (entered d b (above_of to) part (state_of to m) n) after
-      node_call = node ∙ ap (λ (a : Answer State). and_then a after) called_as
+    node_call : walk_words (machine d) (up_to b) words s n₀ ≡ and_then (entered d b (above_of to) part (state_of to m) n) after
+    node_call = node ∙ ap (λ (a : Answer State). and_then a after) called_as
 
-      pub node_ends : (r.end ≡ Missed → ⊥) → walk_words (machine d) (up_to b) words s n₀ ≡ entered d b (above_of to) part (state_of to m) n
-      node_ends nm = node_call ∙ then_ends (entered d b (above_of to) part (state_of to m) n) after r.end r.count out nm walked.comes
+    module _ {out : List ℕ} where
+      pub node_ends : {e : End} → Walked (entered d b (above_of to) part (state_of to m) n) m out (Err e)
+          → walk_words (machine d) (up_to b) words s n₀ ≡ entered d b (above_of to) part (state_of to m) n
+      node_ends {e} w = node_call ∙ then_ends (entered d b (above_of to) part (state_of to m) n) after e out w.comes
 
-      pub node_back : r.end ≡ Missed → restored v.undo out ≡ cells
-      node_back e = ap (restored v.undo) (walked.back e) ∙ restored_undoable met.undoable
+      module _ {c : ℕ} (w : Walked (entered d b (above_of to) part (state_of to m) n) m out (Ok c)) {u : ℕ} (k : u ≡ undo_of v) where
+        node_back : restored u out ≡ cells
+        node_back = rw k (ap (restored (undo_of v)) (w.back c refl) ∙ restored_undoable met.undoable)
 
-      -- after a miss the row goes on behind the word
-      pub node_next : r.end ≡ Missed → {l : List ℕ} → l ≡ restored v.undo out → Walking d t words b s n₀ cells₀ l r.count here trail (tail x rest)
-      node_next e f =
-          let g : walk_words (machine d) (up_to b) words s n₀ ≡ after r.count =
-          node_call ∙ then_on after (missed_of (entered d b (above_of to) part (state_of to m) n) r.end r.count out e walked.comes) in
-          rw (f ∙ node_back e) (record { shorter = tail_le x rest W.shorter; ready = W.ready; undo = W.undo; same = g ∙ rw (tail_drop x rest) })
+        -- after a miss the row goes on behind the word
+        pub node_next : {l : List ℕ} → l ≡ restored u out → Walking d t words b s n₀ cells₀ l c here trail (tail x rest)
+        node_next f =
+            let g : walk_words (machine d) (up_to b) words s n₀ ≡ after c =
+            node_call ∙ then_on after (missed_of (entered d b (above_of to) part (state_of to m) n) c out w.comes) in
+            rw (f ∙ node_back) (record { shorter = tail_le x rest W.shorter; ready = W.ready; undo = W.undo; same = g ∙ rw (tail_drop x rest) })
 
-      -- and past the Checks that fail there
-      pub node_missed : r.end ≡ Missed → here < length d → {key : ℕ} → key ≡ wanted_at d here → {p : ℕ} → Skipped rest x key p → {l : List ℕ} → l ≡ restored v.undo out
-          → Walking d t words b s n₀ cells₀ l r.count here trail (tail p rest)
-      node_missed e i {key} k {p} P {l} f =
-          let N = node_next e f in
-          let g : walk_words (machine d) (up_to b) (tail x rest) (state_of here l) r.count ≡ walk_words (machine d) (up_to b) (tail p rest) (state_of here l) r.count =
-          rw (tail_drop x rest, tail_drop p rest) (passing d t b here l N.ready i rest x key r.count k P) in
-          record { shorter = tail_le p rest W.shorter; ready = N.ready; undo = N.undo; same = N.same ∙ g }
+        -- and past the Checks that fail there
+        pub node_missed : here < length d → {key : ℕ} → key ≡ wanted_at d here → {p : ℕ} → Skipped rest x key p → {l : List ℕ} → l ≡ restored u out
+            → Walking d t words b s n₀ cells₀ l c here trail (tail p rest)
+        node_missed i {key} z {p} P {l} f =
+            let N = node_next f in
+            let g : walk_words (machine d) (up_to b) (tail x rest) (state_of here l) c ≡ walk_words (machine d) (up_to b) (tail p rest) (state_of here l) c =
+            rw (tail_drop x rest, tail_drop p rest) (passing d t b here l N.ready i rest x key c z P) in
+            record { shorter = tail_le p rest W.shorter; ready = N.ready; undo = N.undo; same = N.same ∙ g }

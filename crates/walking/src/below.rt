@@ -3,12 +3,12 @@ ghost use Rattle.std.specs.Prelude.{◌≡◌};
 ghost use Rattle.cells.specs.Inner.Cells.{no_position, HasPlace, Walkable};
 ghost use Rattle.walking.specs.Inner.Findings.{walk_below, Walked};
 
-use crate::{End, Finding};
+use crate::End;
 use cells::{
     Above, Path, begin, in_use, passes, release, reserve, restore, skip, trace, unwind, wanted,
 };
 use clause::Clause;
-use stepping::{Go, meet, operand};
+use stepping::{Visit, meet, operand};
 use tree::extent;
 
 // Walks the words below a node: from each candidate of a First, which hands on no head, or once, siblings in order. After a miss the cells are as before.
@@ -23,34 +23,21 @@ pub fn walk(
     head: usize,
     count: u64,
     budget: u64,
-) -> Finding
+) -> Result<u64, End>
     requires { Walkable query.now tables.now head cells.old × (head ≡ no_position → HasPlace cells.old) }
     ensures { Walked (walk_below query.now words.now budget head cells.old count)
         cells.old cells.new result }
 {
     let above = Above::of(head);
-    let last = passes(tables, above);
     let saved = reserve(cells, above);
     let mut n = count;
-    let mut j = 0;
-    'tries: loop {
-        if j >= last {
-            release(cells, above, saved);
-            break 'tries Finding {
-                end: End::Missed,
-                count: n,
-            };
-        }
+    for j in 0..passes(tables, above) {
         if let Above::First = above {
             if in_use(saved, j) {
-                j += 1;
-                continue 'tries;
+                continue;
             }
             if n >= budget {
-                break 'tries Finding {
-                    end: End::Spent,
-                    count: n,
-                };
+                return Err(End::Spent);
             }
             n += 1;
         }
@@ -61,55 +48,42 @@ pub fn walk(
         let mut rest = &words[start..];
         while rest.len() > 0 {
             let w = rest[0];
-            let v = meet(w, rest.len(), query, tables, cells, here);
-            let go = v.go;
+            let visit = meet(w, rest.len(), query, tables, cells, here);
             let size = extent(w);
-            let to = match go {
-                Go::Stuck => break 'tries Finding {
-                    end: End::Broken,
-                    count: n,
-                },
-                Go::Hit => break 'tries Finding {
-                    end: End::Found(operand(w)),
-                    count: n,
-                },
-                Go::Fails => {
+            let (to, undo) = match visit {
+                Visit::Stuck => return Err(End::Broken),
+                Visit::Hit => return Err(End::Found(operand(w), n)),
+                Visit::Fails => {
                     rest = &rest[size..];
                     continue;
                 }
-                Go::Tries => Path::BEFORE,
-                Go::Below => {
+                Visit::Tries => (Path::BEFORE, 0),
+                Visit::Below(head) => {
                     if size == rest.len() {
-                        here = v.head;
+                        here = head;
                         rest = &rest[1..];
                         continue;
                     }
-                    v.head
+                    (head, 0)
                 }
-                Go::Stored => {
-                    if size == rest.len() {
-                        if trail < Path::TRAIL {
-                            trail = trace(trail, v.undo);
-                            here = v.head;
-                            rest = &rest[1..];
-                            continue;
-                        }
+                Visit::Stored(head, undo) => {
+                    if size == rest.len() && trail < Path::TRAIL {
+                        trail = trace(trail, undo);
+                        here = head;
+                        rest = &rest[1..];
+                        continue;
                     }
-                    v.head
+                    (head, undo)
                 }
             };
-            let finding = walk(&rest[1..size], query, tables, cells, to, n, budget);
-            let end = finding.end;
-            let End::Missed = end else {
-                break 'tries finding;
-            };
-            restore(cells, v.undo);
-            n = finding.count;
+            n = walk(&rest[1..size], query, tables, cells, to, n, budget)?;
+            restore(cells, undo);
             let more = skip(rest, size, wanted(query, here));
             let next = rest.len() - more;
             rest = &rest[next..];
         }
         unwind(cells, trail);
-        j += 1;
     }
+    release(cells, above, saved);
+    Ok(n)
 }

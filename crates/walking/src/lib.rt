@@ -5,18 +5,10 @@ mod below;
 
 pub use below::walk;
 
-// How a walk ends: without a find, at the clause with this number, at a broken word, at the budget.
+// What ends a walk before it has gone through all candidates: a find, at the clause with this number, by this count; a broken word; the budget.
 #[derive(Clone, Copy)]
 pub enum End {
-    Missed,
-    Found(u32),
+    Found(u32, u64),
     Broken,
     Spent,
-}
-
-// A walk's end, with the count reached.
-#[derive(Clone, Copy)]
-pub struct Finding {
-    pub end: End,
-    pub count: u64,
 }

@@ -22,13 +22,13 @@ onward q at count e f = e ∙ ap (read_on q at count) f
 pub loop-argument-init : goal.loop-argument-init
 loop-argument-init c = (search rules, λ h e. cc, refl)
 
-pub returns-in-Err : goal.returns-in-Err
-returns-in-Err c =
-    sym (onward c.args.words.now _ _ c.loop-argument.invariant.2 c.in-Some.is ∙ read_off _ _ _ _ (sym c.past.ensures ∙ c.in-Err.is))
+pub returns-in_default-passed : goal.returns-in_default-passed
+returns-in_default-passed c =
+    sym (onward c.args.words.now _ _ c.loop-argument.invariant.2 c.in-Some.is ∙ read_off _ _ _ _ (sym c.past-passed.ensures ∙ c.unwrap_err.ensures))
 
 pub loop-argument-smaller-in-Some : goal.loop-argument-smaller-in-Some
 loop-argument-smaller-in-Some c =
-    let h = past_on _ _ _ (sym c.past.ensures ∙ c.in-Ok.is) in
+    let h = past_on _ _ _ (sym c.past-passed.ensures ∙ c.in-Ok.is) in
     omega (arith, h, c.loop-argument.invariant.1 _ c.in-Some.is)
 
 pub loop-argument-preserved-in-Some : goal.loop-argument-preserved-in-Some
@@ -38,7 +38,7 @@ loop-argument-preserved-in-Some c =
       c.loop-argument.invariant.0,
       λ s f. first_at here.left n.at s (sym c.right-argument.ensures ∙ f),
       onward c.args.words.now _ _ c.loop-argument.invariant.2 c.in-Some.is
-          ∙ read_right _ _ _ n (sym c.past.ensures ∙ c.in-Ok.is)
+          ∙ read_right _ _ _ n (sym c.past-passed.ensures ∙ c.in-Ok.is)
           ∙ ap (read_on c.args.words.now n.at c.loop-argument.count) (sym c.right-argument.ensures),
     )
 

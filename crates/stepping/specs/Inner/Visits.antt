@@ -7,9 +7,8 @@ use Rattle.machine.specs.Machine.{State, Effect, next, fails, stuck, step, finis
 use Rattle.tree.specs.Laid.{key_of}
 use Rattle.walk.specs.Words.{extends}
 use Rattle.cells.specs.Inner.Cells.{puts_at, pushes_at, count_at, undo_base, count_in, position_in, placed, state_of}
-use Rattle.stepping.specs.declared.Go.{Go}
-use Rattle.stepping.specs.declared.Go.TheVariants.{Fails, Stuck, Hit, Tries, Below, Stored}
 use Rattle.stepping.specs.declared.Visit.{Visit}
+use Rattle.stepping.specs.declared.Visit.TheVariants.{Fails, Stuck, Hit, Tries, Below, Stored}
 
 -- what a word comes to: past it, broken, the end, the candidates of a First, or the words below it
 pub data Met : Type 0 where
@@ -39,14 +38,14 @@ met_as d (some (Do x)) s = stepped (step d x s)
 unfoldable pub meeting : List ℕ → (w room : ℕ) → State → Met
 meeting d w room s = cond (extends w (room - 1)) (met_as d (instr_of (key_of w)) s) bad
 
--- the same, as a visit tells it
-unfoldable pub met_of : Go → State → Met
+-- the same, as a visit tells it, with the state after it
+unfoldable pub met_of : Visit → State → Met
 met_of Fails s = past
 met_of Stuck s = bad
 met_of Hit s = hit s
 met_of Tries s = firsts s
-met_of Below s = below s
-met_of Stored s = below s
+met_of (Below x) s = below s
+met_of (Stored x u) s = below s
 
 -- an operation with so many words: a Success has one
 unfoldable pub with_words : (op words : ℕ) → Met → Met
@@ -83,21 +82,39 @@ met_check d x h l = stepped (require fails (eqb (get_or d h 0) x) (next (state_o
 abbrev pub met_compare : List ℕ → (m k head : ℕ) → List ℕ → Met
 met_compare d m k h l = stepped (step_at d (Compare m k) (state_of h l) h)
 
+-- the head after a visit at a head: another one where the walk goes on below
+abbrev pub head_of : ℕ → Visit → ℕ
+head_of h Fails = h
+head_of h Stuck = h
+head_of h Hit = h
+head_of h Tries = h
+head_of h (Below x) = x
+head_of h (Stored x u) = x
+
+-- the undo of a visit; 0 stands for none
+abbrev pub undo_of : Visit → ℕ
+undo_of Fails = 0
+undo_of Stuck = 0
+undo_of Hit = 0
+undo_of Tries = 0
+undo_of (Below x) = 0
+undo_of (Stored x u) = u
+
 -- whether a visit stores a position
-abbrev pub stores : Go → Bool
+abbrev pub stores : Visit → Bool
 stores Fails = false
 stores Stuck = false
 stores Hit = false
 stores Tries = false
-stores Below = false
-stores Stored = true
+stores (Below x) = false
+stores (Stored x u) = true
 
 -- what a visit does to the cells: one position is stored, and a number brings back what stood there, or they stay as they are
-pub data Undoable (l : List ℕ) : Go → ℕ → List ℕ → Type 0 where
-  plain : (g : Go) → stores g ≡ false → Undoable l g 0 l
-  store : (i x : ℕ) → puts_at ≤ i → i < count_at → get_or l i 0 < undo_base → Undoable l Stored (i * undo_base + get_or l i 0) (set l i x)
+pub data Undoable (l : List ℕ) : Visit → List ℕ → Type 0 where
+  plain : (v : Visit) → stores v ≡ false → Undoable l v l
+  store : (h i x : ℕ) → puts_at ≤ i → i < count_at → get_or l i 0 < undo_base → Undoable l (Stored h (i * undo_base + get_or l i 0)) (set l i x)
 
--- a visit: what the word comes to, and what was stored
-pub record Visited (m : Met) (before after : List ℕ) (r : Visit) : Type 0 where
-  pub comes : met_of r.go (state_of r.head after) ≡ m
-  pub undoable : Undoable before r.go r.undo after
+-- a visit at a head: what the word comes to, and what was stored
+pub record Visited (h : ℕ) (m : Met) (before after : List ℕ) (v : Visit) : Type 0 where
+  pub comes : met_of v (state_of (head_of h v) after) ≡ m
+  pub undoable : Undoable before v after

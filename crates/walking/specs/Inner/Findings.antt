@@ -1,5 +1,5 @@
 -- What the walk's code finds.
-use Rattle.std.specs.Prelude.{◌≡◌, List, ℕ, length}
+use Rattle.std.specs.Prelude.{◌≡◌, List, ℕ, Result, Ok, Err, length}
 use Rattle.std.proofs.Math.Option.{Option}
 use Rattle.machine.specs.Machine.{State}
 use Rattle.walk.specs.Walk.{Answer, covered, not_covered, spent, broken, Part, up_to}
@@ -7,8 +7,7 @@ use Rattle.walk.specs.Words.{walk_words}
 use Rattle.walk.specs.Query.{machine, shown}
 use Rattle.cells.specs.Inner.Cells.{no_position, state_of, above_of, entered}
 use Rattle.walking.specs.declared.End.{End}
-use Rattle.walking.specs.declared.End.TheVariants.{Missed, Found, Broken, Spent}
-use Rattle.walking.specs.declared.Finding.{Finding}
+use Rattle.walking.specs.declared.End.TheVariants.{Found, Broken, Spent}
 
 -- the walk below a node, by the head that it hands on and the cells
 abbrev pub walk_below : (query words : List ℕ) (budget head : ℕ) (cells : List ℕ) → Part State
@@ -31,15 +30,15 @@ seen (not_covered c) = missed c
 seen spent = exhausted
 seen broken = damaged
 
--- the same, as a finding and the cells tell it
-unfoldable pub out_by : End → ℕ → List ℕ → Out
-out_by Missed c l = missed c
-out_by (Found n) c l = found n (shown (state_of no_position l)) c
-out_by Broken c l = damaged
-out_by Spent c l = exhausted
+-- the same, as what a walk returns and the cells tell it: the count after a miss, or what ended it
+unfoldable pub out_by : Result ℕ End → List ℕ → Out
+out_by (Ok c) l = missed c
+out_by (Err (Found n c)) l = found n (shown (state_of no_position l)) c
+out_by (Err Broken) l = damaged
+out_by (Err Spent) l = exhausted
 
 -- a walk ended: what is seen of it, and after a miss the cells are as before
-pub record Walked (a : Answer State) (before after : List ℕ) (r : Finding) : Type 0 where
-  pub comes : out_by r.end r.count after ≡ seen a
-  pub back : r.end ≡ Missed → after ≡ before
+pub record Walked (a : Answer State) (before after : List ℕ) (r : Result ℕ End) : Type 0 where
+  pub comes : out_by r after ≡ seen a
+  pub back : (c : ℕ) → r ≡ Ok c → after ≡ before
   pub size : length after ≡ length before

@@ -13,7 +13,7 @@ returns-then-self-mark-eq-TAKEN-clause-entered c =
     keep_marked g c.if-self-mark-eq-TAKEN.true c.code.ensures
 
 pub compile-count-requires : goal.compile-count-requires
-compile-count-requires c = (clause_short _ c.requires.1, omega arith)
+compile-count-requires c = (clause_short _ c.requires.1, search rules)
 
 pub bounds-words-0 : goal.bounds-words-0
 bounds-words-0 c = clause_some c.args.words.now c.requires.1

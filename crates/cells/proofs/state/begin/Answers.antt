@@ -4,9 +4,6 @@ use Rattle.clause.proofs.Literals.{accepted}
 use Rattle.cells.specs.Inner.Cells.{candidate, pass_head}
 use Rattle.cells.proofs.state.begin.Goals as goal
 
-pub overflow_cast-slot : goal.overflow_cast-slot
-overflow_cast-slot c = omega (arith, c.requires.3 c.in-First.is)
-
 pub overflow_sub-slot : goal.overflow_sub-slot
 overflow_sub-slot c = omega (arith, c.requires.3 c.in-First.is)
 
@@ -24,7 +21,7 @@ unfolding candidate pass_head
 returns-in-First c =
     let p = c.requires in
     let e = c.in-First.is in
-    (rw e (c.wide.ensures.0 ∙ p.1.starts _ (p.3 e).1), rw e)
+    (rw e (c.from.ensures ∙ p.1.starts _ (p.3 e).1), rw (e, c.from-slot.ensures))
 
 pub returns-in-Step : goal.returns-in-Step
 unfolding candidate pass_head

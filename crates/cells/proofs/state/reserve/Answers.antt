@@ -4,11 +4,8 @@ use Rattle.cells.specs.Inner.Cells.{count_at, use_limit, count_in, reserved, kep
 use Rattle.cells.proofs.Bits.{taken_low}
 use Rattle.cells.proofs.state.reserve.Goals as goal
 
-pub overflow_cast-result : goal.overflow_cast-result
-overflow_cast-result c = record { fits = omega (arith, c.wide.ensures.1) }
-
 pub overflow_add-result : goal.overflow_add-result
-overflow_add-result c = record { fits = omega (arith, c.wide.ensures.1, c.used-bits.ensures, taken_low c.args.cells.now c.requires.0 c.requires.1) }
+overflow_add-result c = record { fits = omega (arith, c.from.ensures, c.used-bits.ensures, taken_low c.args.cells.now c.requires.0 c.requires.1) }
 
 pub returns-in-First : goal.returns-in-First
 unfolding reserved kept_in uses_of
@@ -18,11 +15,11 @@ returns-in-First c =
     let l = c.args.cells.now in
     let n = count_in l in
     let low = taken_low l c.requires.0 c.requires.1 in
-    let bits : (c.wide.result * use_limit + u.result) % use_limit ≡ u.result = omega (arith, u.ensures, low) in
-    let high : (c.wide.result * use_limit + u.result) / use_limit ≡ c.wide.result = omega (arith, u.ensures, low) in
-    let byte : saved_byte (c.wide.result * use_limit + u.result) ≡ c.wide.result = rw high (omega (arith, c.wide.ensures.1)) in
+    let bits : (c.from.result * use_limit + u.result) % use_limit ≡ u.result = omega (arith, u.ensures, low) in
+    let high : (c.from.result * use_limit + u.result) / use_limit ≡ c.from.result = omega (arith, u.ensures, low) in
+    let byte : saved_byte (c.from.result * use_limit + u.result) ≡ c.from.result = rw high (omega (arith, c.from.ensures)) in
     let kept = get_or-set_other l count_at n (n + 1) 0 (λ e. omega (arith, c.requires.1.0)) in
-    (bits ∙ u.ensures ∙ rw t, byte ∙ c.wide.ensures.0 ∙ rw t kept, rw t)
+    (bits ∙ u.ensures ∙ rw t, byte ∙ c.from.ensures ∙ rw (t, c.from-slot.ensures) kept, rw t)
 
 pub returns-in-Step : goal.returns-in-Step
 unfolding reserved kept_in uses_of

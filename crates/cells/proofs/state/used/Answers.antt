@@ -1,20 +1,12 @@
--- `used` meets its contract.
+-- `used` meets its contract: its bits are those of the candidates gone through, the latest first.
 use Rattle.std.proofs.Common.{◌≡◌, ◌∙◌, arith}
 use Rattle.cells.proofs.Bits.{bits_none, bits_more, candidate_small}
 use Rattle.cells.proofs.state.used.Goals as goal
 
 pub loop-i-init : goal.loop-i-init
-loop-i-init c = (omega arith, bits_none c.args.cells.now c.requires.0 c.requires.1)
-
-pub bounds-cells-i : goal.bounds-cells-i
-bounds-cells-i c = omega (arith, c.requires.1.0, c.loop-i.invariant.0)
+loop-i-init c = rw c.from-i.ensures (omega arith, bits_none c.args.cells.now c.requires.0 c.requires.1)
 
 -- the cell that is read holds a literal
-pub overflow_cast-bits : goal.overflow_cast-bits
-overflow_cast-bits c =
-    let small = candidate_small c.args.cells.now c.requires.0 c.requires.1 c.loop-i.i c.loop-i-test.true c.loop-i.invariant.0 in
-    record { fits = omega (arith, small) }
-
 pub overflow_shl-bits : goal.overflow_shl-bits
 overflow_shl-bits c =
     let small = candidate_small c.args.cells.now c.requires.0 c.requires.1 c.loop-i.i c.loop-i-test.true c.loop-i.invariant.0 in

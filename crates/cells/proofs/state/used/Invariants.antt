@@ -5,6 +5,3 @@ use Rattle.cells.proofs.state.used.Given as goal
 
 abbrev pub invariant-loop-i : goal.invariant-loop-i
 invariant-loop-i l = (l.i ≤ count_in l.cells) × (l.bits ≡ bits_of (drop l.i (take (count_in l.cells) l.cells)))
-
-abbrev pub decreases-loop-i : goal.decreases-loop-i
-decreases-loop-i l = l.i

@@ -11,7 +11,7 @@ use Rattle.clause.specs.Inner.Tables.{at_count}
 use Rattle.cells.specs.Inner.Cells.{no_position, above_of, state_of, has_bit, count_in, Walkable}
 use Rattle.cells.specs.Inner.Cells.{use_limit, uses_of, saved_byte, reserved, candidate, kept_in, pass_head, passes_of}
 use Rattle.cells.specs.declared.Above.TheVariants.{First}
-use Rattle.walking.specs.declared.End.TheVariants.{Missed}
+use Rattle.std.proofs.lemmas.Result.{err_from_is_err_and}
 use Rattle.walking.proofs.Passes.{missed_of, walked_missed}
 use Rattle.walking.proofs.Turns.{walkable_literals, Entry, Between, Begun, entry_start, by_bit}
 use Rattle.walking.proofs.Turns.{between_size, between_room, between_literal, between_ends, between_spent}
@@ -52,53 +52,53 @@ returns-then-words-eq0 c =
 pub reserve-saved-requires : goal.reserve-saved-requires
 reserve-saved-requires c = (c.requires.2.size, walkable_literals c.requires.2, λ z. omega (arith, c.requires.3))
 
-pub tries-init : goal.tries-init
-tries-init c =
-    let e = entry c.args.words.now c.args.budget c.requires.2 c.requires.3 c.passes-last.ensures c.reserve-saved.ensures in
+pub loop-j-init : goal.loop-j-init
+loop-j-init c =
+    let e = entry c.args.words.now c.args.budget c.requires.2 c.requires.3 c.passes-j-end.ensures c.reserve-saved.ensures in
     entry_start e
 
 pub release-requires : goal.release-requires
 release-requires c =
-    let e = entry c.args.words.now c.args.budget c.requires.2 c.requires.3 c.passes-last.ensures c.reserve-saved.ensures in
-    (between_size e c.tries.invariant, between_room e c.tries.invariant)
+    let e = entry c.args.words.now c.args.budget c.requires.2 c.requires.3 c.passes-j-end.ensures c.reserve-saved.ensures in
+    (between_size e c.loop-j.invariant, between_room e c.loop-j.invariant)
 
 pub begin-here-requires : goal.begin-here-requires
 begin-here-requires c =
-    let e = entry c.args.words.now c.args.budget c.requires.2 c.requires.3 c.passes-last.ensures c.reserve-saved.ensures in
-    (e.ready.whole, e.ready.tables, between_size e c.tries.invariant, between_literal e c.tries.invariant c.if-j-last.false)
+    let e = entry c.args.words.now c.args.budget c.requires.2 c.requires.3 c.passes-j-end.ensures c.reserve-saved.ensures in
+    (e.ready.whole, e.ready.tables, between_size e c.loop-j.invariant, between_literal e c.loop-j.invariant c.loop-j-test.true)
 
-pub walk_head-finding-requires : goal.walk_head-finding-requires
-walk_head-finding-requires c =
-    let e = entry c.args.words.now c.args.budget c.requires.2 c.requires.3 c.passes-last.ensures c.reserve-saved.ensures in
-    let p = begun e c.tries.invariant c.requires.3 c.if-j-last.false c.if-n-budget.false c.begin-here.ensures in
+pub walk_head-requires : goal.walk_head-requires
+walk_head-requires c =
+    let e = entry c.args.words.now c.args.budget c.requires.2 c.requires.3 c.passes-j-end.ensures c.reserve-saved.ensures in
+    let p = begun e c.loop-j.invariant c.requires.3 c.loop-j-test.true c.if-n-budget.false c.begin-here.ensures in
     let r = begun_ready p in
     (c.requires.0, c.requires.1, r.0, r.1, omega (arith, c.if-words-eq0.false))
 
-pub tries-preserved : goal.tries-preserved
-tries-preserved c =
-    let e = entry c.args.words.now c.args.budget c.requires.2 c.requires.3 c.passes-last.ensures c.reserve-saved.ensures in
-    let p = begun e c.tries.invariant c.requires.3 c.if-j-last.false c.if-n-budget.false c.begin-here.ensures in
-    let w = c.walk_head-finding.ensures in
-    let m = c.in-Missed.is in
-    pass_missed p (missed_of _ _ _ _ m w.comes) (w.back m)
+pub loop-j-preserved : goal.loop-j-preserved
+loop-j-preserved c =
+    let e = entry c.args.words.now c.args.budget c.requires.2 c.requires.3 c.passes-j-end.ensures c.reserve-saved.ensures in
+    let p = begun e c.loop-j.invariant c.requires.3 c.loop-j-test.true c.if-n-budget.false c.begin-here.ensures in
+    let w = c.in_ok-n.ensures in
+    pass_missed p (missed_of _ _ _ w.comes) (w.back _ refl)
 
 -- what the passes have found is what the walk has
-pub returns-then-j-last : goal.returns-then-j-last
-returns-then-j-last c =
-    let e = entry c.args.words.now c.args.budget c.requires.2 c.requires.3 c.passes-last.ensures c.reserve-saved.ensures in
+pub returns : goal.returns
+returns c =
+    let e = entry c.args.words.now c.args.budget c.requires.2 c.requires.3 c.passes-j-end.ensures c.reserve-saved.ensures in
     walked_top c.args.words.now c.args.query.now c.args.budget c.requires.0 c.requires.1.tree (omega (arith, c.if-words-eq0.false))
-    (between_ends e c.tries.invariant c.if-j-last.true c.release.ensures)
+    (between_ends e c.loop-j.invariant c.loop-j-test.false c.release.ensures)
 
 pub returns-then-n-budget : goal.returns-then-n-budget
 returns-then-n-budget c =
-    let e = entry c.args.words.now c.args.budget c.requires.2 c.requires.3 c.passes-last.ensures c.reserve-saved.ensures in
+    let e = entry c.args.words.now c.args.budget c.requires.2 c.requires.3 c.passes-j-end.ensures c.reserve-saved.ensures in
     walked_top c.args.words.now c.args.query.now c.args.budget c.requires.0 c.requires.1.tree (omega (arith, c.if-words-eq0.false))
-    (between_spent e c.tries.invariant refl c.if-j-last.false (unused e c.requires.3 c.if-j-last.false) c.if-n-budget.true)
+    (between_spent e c.loop-j.invariant refl c.loop-j-test.true (unused e c.requires.3 c.loop-j-test.true) c.if-n-budget.true)
 
-pub returns-in_default : goal.returns-in_default
-returns-in_default c =
-    let e = entry c.args.words.now c.args.budget c.requires.2 c.requires.3 c.passes-last.ensures c.reserve-saved.ensures in
-    let p = begun e c.tries.invariant c.requires.3 c.if-j-last.false c.if-n-budget.false c.begin-here.ensures in
-    let nm : c.walk_head-finding.result.end ≡ Missed → ⊥ = c.in_default.not-Missed in
-    walked_top c.args.words.now c.args.query.now c.args.budget c.requires.0 c.requires.1.tree (omega (arith, c.if-words-eq0.false))
-    (pass_ends p (begun_ready p).0.size nm refl c.walk_head-finding.ensures)
+pub returns-in_err-n : goal.returns-in_err-n
+returns-in_err-n c =
+    let e = entry c.args.words.now c.args.budget c.requires.2 c.requires.3 c.passes-j-end.ensures c.reserve-saved.ensures in
+    let p = begun e c.loop-j.invariant c.requires.3 c.loop-j-test.true c.if-n-budget.false c.begin-here.ensures in
+    let r = err_from_is_err_and c.from_residual.result c.from_residual.ensures.1 in
+    rw (r.1, r.2)
+    (walked_top c.args.words.now c.args.query.now c.args.budget c.requires.0 c.requires.1.tree (omega (arith, c.if-words-eq0.false))
+    (pass_ends p (begun_ready p).0.size refl c.in_err-n.ensures))

@@ -1,6 +1,6 @@
 -- `walk_head` meets its contract: the index leads to the Check of the word at the head, and the words below it are walked; or there is none.
 use Prim.Native.Nat.{ℕ, ◌+◌, ◌-◌, ◌≤◌, ◌<◌}
-use mathlib.Core.Path.{◌≡◌, refl, sym, ◌∙◌}
+use mathlib.Core.Path.{◌≡◌, refl, sym, ap, ◌∙◌}
 use mathlib.Core.Logic.{◌≢◌}
 use mathlib.Core.List.{List}
 use native.Mathlib.Omega.{arith}
@@ -19,30 +19,23 @@ use Rattle.index.proofs.head.walk_head.Goals as goal
 
 -- the words below the Check that stands at the place that the index leads to
 found :
-    {words heads d t l : List ℕ} {here : ℕ} (b n : ℕ)
+    {words heads d t l : List ℕ} {here head at : ℕ} (b n : ℕ)
     → Encoded words × IndexOf (parse words) heads × Walkable d t here l × (here < length d) × (1 ≤ length words)
-    → get_or d here 0 < entry_count → get_or heads (get_or d here 0) 0 ≢ 0
-    → {x : ℕ} → x ≡ extent_of (get_or words (get_or heads (get_or d here 0) 0) 0)
-    → let M = machine d in
-    let at = get_or heads (get_or d here 0) 0 in
-    (1 ≤ x) × (at + x ≤ length words)
-    × (walk_words M (up_to b) (drop 1 words) (state_of here l) n
-    ≡ walk_words M (up_to b) (take (at + x - (at + 1)) (drop (at + 1) words)) (state_of here l) n)
-found {words} {heads} {d} {t} {l} {here} b n p w some e =
+    → get_or d here 0 < entry_count → head ≡ get_or d here 0 → at ≡ get_or heads head 0 → at ≢ 0
+    → {x : ℕ} → x ≡ extent_of (get_or words at 0)
+    → (1 ≤ x) × (at + x ≤ length words)
+    × (walk_words (machine d) (up_to b) (drop 1 words) (state_of here l) n
+    ≡ walk_words (machine d) (up_to b) (take (at + x - (at + 1)) (drop (at + 1) words)) (state_of here l) n)
+found {words} {heads} {d} {t} {l} {here} b n p w h a some e =
     let R = row_of words p.0 p.1.tree p.4 in
-    head_found words p.0 d (up_to b) (state_of here l) here (head_some d t here l p.2 p.3) R.1 n (entry_place p.1 R.1 (get_or d here 0) w) some e
-
-pub overflow_cast-head : goal.overflow_cast-head
-overflow_cast-head c = omega (arith, c.type_inv.query c.args.here)
+    head_found words p.0 d (up_to b) (state_of here l) here (head_some d t here l p.2 p.3) R.1 n
+    (a ∙ ap (λ (i : ℕ). get_or heads i 0) h ∙ entry_place p.1 R.1 (get_or d here 0) w) some e
 
 pub offset_bounds-heads-head : goal.offset_bounds-heads-head
 offset_bounds-heads-head c = omega (arith, c.type_inv.query c.args.here)
 
 pub bounds-heads-head : goal.bounds-heads-head
 bounds-heads-head c = omega (arith, c.type_inv.query c.args.here, c.requires.1.long)
-
-pub overflow_cast-at : goal.overflow_cast-at
-overflow_cast-at c = omega (arith, c.type_inv.heads (get_or c.args.query.now c.args.here 0))
 
 pub returns-then-at-eq0 : goal.returns-then-at-eq0
 returns-then-at-eq0 c =
@@ -52,47 +45,48 @@ returns-then-at-eq0 c =
     walked_missed
     (head_missed a.words.now c.requires.0 a.query.now (up_to a.budget) (state_of a.here a.cells.now) a.here
     (head_some a.query.now a.tables.now a.here a.cells.now c.requires.2 c.requires.3) R.1 a.count
-    (sym (entry_place c.requires.1 R.1 (get_or a.query.now a.here 0) w) ∙ c.if-at-eq0.true))
+    (sym (c.from-at.ensures ∙ ap (λ (i : ℕ). get_or a.heads.now i 0) c.from-head.ensures ∙ entry_place c.requires.1 R.1 (get_or a.query.now a.here 0) w)
+    ∙ c.if-at-eq0.true))
     refl
 
 pub overflow_add-from : goal.overflow_add-from
 overflow_add-from c =
-    let f = found c.args.budget c.args.count c.requires (omega (arith, c.type_inv.query c.args.here)) c.if-at-eq0.false refl in
+    let f = found c.args.budget c.args.count c.requires (omega (arith, c.type_inv.query c.args.here)) c.from-head.ensures c.from-at.ensures c.if-at-eq0.false refl in
     omega (arith, f.1, c.requires.0.few)
 
 pub offset_bounds-words-at : goal.offset_bounds-words-at
 offset_bounds-words-at c =
-    let f = found c.args.budget c.args.count c.requires (omega (arith, c.type_inv.query c.args.here)) c.if-at-eq0.false refl in
+    let f = found c.args.budget c.args.count c.requires (omega (arith, c.type_inv.query c.args.here)) c.from-head.ensures c.from-at.ensures c.if-at-eq0.false refl in
     omega (arith, f.1, c.requires.0.few)
 
 pub bounds-words-at : goal.bounds-words-at
 bounds-words-at c =
-    let f = found c.args.budget c.args.count c.requires (omega (arith, c.type_inv.query c.args.here)) c.if-at-eq0.false refl in
+    let f = found c.args.budget c.args.count c.requires (omega (arith, c.type_inv.query c.args.here)) c.from-head.ensures c.from-at.ensures c.if-at-eq0.false refl in
     omega (arith, f.0, f.1)
 
 pub overflow_add-to : goal.overflow_add-to
 overflow_add-to c =
-    let f = found c.args.budget c.args.count c.requires (omega (arith, c.type_inv.query c.args.here)) c.if-at-eq0.false c.extent.ensures in
+    let f = found c.args.budget c.args.count c.requires (omega (arith, c.type_inv.query c.args.here)) c.from-head.ensures c.from-at.ensures c.if-at-eq0.false c.extent.ensures in
     omega (arith, f.1, c.requires.0.few)
 
 pub offset_bounds-words-from : goal.offset_bounds-words-from
 offset_bounds-words-from c =
-    let f = found c.args.budget c.args.count c.requires (omega (arith, c.type_inv.query c.args.here)) c.if-at-eq0.false c.extent.ensures in
+    let f = found c.args.budget c.args.count c.requires (omega (arith, c.type_inv.query c.args.here)) c.from-head.ensures c.from-at.ensures c.if-at-eq0.false c.extent.ensures in
     omega (arith, f.0, f.1, c.requires.0.few)
 
 pub slice_bounds-walk-count : goal.slice_bounds-walk-count
 slice_bounds-walk-count c =
-    let f = found c.args.budget c.args.count c.requires (omega (arith, c.type_inv.query c.args.here)) c.if-at-eq0.false c.extent.ensures in
+    let f = found c.args.budget c.args.count c.requires (omega (arith, c.type_inv.query c.args.here)) c.from-head.ensures c.from-at.ensures c.if-at-eq0.false c.extent.ensures in
     omega (arith, f.0)
 
 pub slice_bounds-walk-start : goal.slice_bounds-walk-start
 slice_bounds-walk-start c =
-    let f = found c.args.budget c.args.count c.requires (omega (arith, c.type_inv.query c.args.here)) c.if-at-eq0.false c.extent.ensures in
+    let f = found c.args.budget c.args.count c.requires (omega (arith, c.type_inv.query c.args.here)) c.from-head.ensures c.from-at.ensures c.if-at-eq0.false c.extent.ensures in
     omega (arith, f.0)
 
 pub slice_bounds-walk-end : goal.slice_bounds-walk-end
 slice_bounds-walk-end c =
-    let f = found c.args.budget c.args.count c.requires (omega (arith, c.type_inv.query c.args.here)) c.if-at-eq0.false c.extent.ensures in
+    let f = found c.args.budget c.args.count c.requires (omega (arith, c.type_inv.query c.args.here)) c.from-head.ensures c.from-at.ensures c.if-at-eq0.false c.extent.ensures in
     f.1
 
 pub walk-requires : goal.walk-requires
@@ -101,6 +95,6 @@ walk-requires c = (c.requires.2, λ z. absurd (omega (arith, c.requires.3, few_w
 pub returns : goal.returns
 returns c =
     let a = c.args in
-    let at = get_or a.heads.now (get_or a.query.now a.here 0) 0 in
-    let f = found c.args.budget c.args.count c.requires (omega (arith, c.type_inv.query c.args.here)) c.if-at-eq0.false c.extent.ensures in
+    let at = c.from-at.result in
+    let f = found c.args.budget c.args.count c.requires (omega (arith, c.type_inv.query c.args.here)) c.from-head.ensures c.from-at.ensures c.if-at-eq0.false c.extent.ensures in
     walked_step (take (at + c.extent.result - (at + 1)) (drop (at + 1) a.words.now)) a.budget a.count c.requires.2 c.requires.3 f.2 c.walk.ensures

@@ -19,7 +19,7 @@ returns-in-0 c =
     let d = a.query.now in
     let t = a.tables.now in
     let l = a.cells.now in
-    rw (c.in-0.is, act_success d t a.head l c.requires.0 c.requires.1 a.x) (c.success.ensures l)
+    rw (c.in-0.is, act_success d t a.head l c.requires.0 c.requires.1 a.x) (c.success.ensures a.head l)
 
 pub returns-in-1 : goal.returns-in-1
 returns-in-1 c =
@@ -28,7 +28,7 @@ returns-in-1 c =
     let t = a.tables.now in
     let l = a.cells.now in
     let e = c.in-1.is in
-    rw (sized_other a.op a.words (λ z. omega (arith, z, e)) (act_first d t a.head l c.requires.0 a.op a.x e)) c.tries.ensures.0
+    rw (sized_other a.op a.words (λ z. omega (arith, z, e)) (act_first d t a.head l c.requires.0 a.op a.x e)) (c.tries.ensures.0 a.head)
 
 pub returns-in-2 : goal.returns-in-2
 returns-in-2 c =
@@ -74,7 +74,7 @@ returns-in-6 c =
     let t = a.tables.now in
     let l = a.cells.now in
     let e = c.in-6.is in
-    rw (sized_other a.op a.words (λ z. omega (arith, z, e)) (act_pop d t a.head l c.requires.0 c.requires.1 a.op a.x e)) c.pop.ensures
+    rw (sized_other a.op a.words (λ z. omega (arith, z, e)) (act_pop d t a.head l c.requires.0 c.requires.1 a.op a.x e)) (c.pop.ensures a.head)
 
 pub returns-in-7 : goal.returns-in-7
 returns-in-7 c =
@@ -101,4 +101,4 @@ returns-in_default c =
     let t = a.tables.now in
     let l = a.cells.now in
     let o : 9 ≤ a.op = omega arith in
-    sticks _ (sym (sized_other a.op a.words (λ z. omega (arith, z, o)) (sym (act_over d t a.head l c.requires.0 c.requires.1 a.op a.x o))))
+    sticks _ _ (sym (sized_other a.op a.words (λ z. omega (arith, z, o)) (sym (act_over d t a.head l c.requires.0 c.requires.1 a.op a.x o))))

@@ -6,7 +6,7 @@ use Rattle.stepping.proofs.step.down.Goals as goal
 
 pub returns-then-query-head-eq0 : goal.returns-then-query-head-eq0
 unfolding arity
-returns-then-query-head-eq0 c = λ l. sticks l (down_stuck _ _ l c.if-query-head-eq0.true)
+returns-then-query-head-eq0 c = λ l. sticks _ l (down_stuck _ _ l c.if-query-head-eq0.true)
 
 pub returns-else-query-head-eq0 : goal.returns-else-query-head-eq0
 unfolding arity

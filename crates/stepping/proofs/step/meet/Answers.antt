@@ -10,14 +10,14 @@ pub returns-then-words-eq0 : goal.returns-then-words-eq0
 unfolding met_of
 returns-then-words-eq0 c =
     let a = c.args in
-    sticks _ (sym (met_unfit _ a.w a.room _ (extends_zero a.w a.room c.requires.1 (sym c.extent-words.ensures ∙ c.if-words-eq0.true))))
+    sticks _ _ (sym (met_unfit _ a.w a.room _ (extends_zero a.w a.room c.requires.1 (sym c.extent-words.ensures ∙ c.if-words-eq0.true))))
 
 pub returns-then-words-room : goal.returns-then-words-room
 unfolding met_of
 returns-then-words-room c =
     let a = c.args in
     let e = c.extent-words.ensures in
-    sticks _ (sym (met_unfit _ a.w a.room _ (extends_long a.w a.room c.requires.1
+    sticks _ _ (sym (met_unfit _ a.w a.room _ (extends_long a.w a.room c.requires.1
     (omega (arith, e, c.if-words-eq0.false)) (omega (arith, e, c.if-words-room.true)))))
 
 pub returns : goal.returns

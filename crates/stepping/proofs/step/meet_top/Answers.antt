@@ -14,7 +14,7 @@ unfolding met_of
 returns-then-words-eq0 c =
     let a = c.args in
     let e = extends_zero a.w a.room c.requires.1 (sym c.extent-words.ensures ∙ c.if-words-eq0.true) in
-    (sticks _ (sym (met_unfit _ a.w a.room _ e)), inr refl)
+    (sticks _ _ (sym (met_unfit _ a.w a.room _ e)), inr refl)
 
 pub returns-then-words-room : goal.returns-then-words-room
 unfolding met_of
@@ -22,13 +22,13 @@ returns-then-words-room c =
     let a = c.args in
     let e = c.extent-words.ensures in
     let f = extends_long a.w a.room c.requires.1 (omega (arith, e, c.if-words-eq0.false)) (omega (arith, e, c.if-words-room.true)) in
-    (sticks _ (sym (met_unfit _ a.w a.room _ f)), inr refl)
+    (sticks _ _ (sym (met_unfit _ a.w a.room _ f)), inr refl)
 
 pub returns-then-operation-ne-FIRST : goal.returns-then-operation-ne-FIRST
 unfolding met_of
 returns-then-operation-ne-FIRST c =
     let a = c.args in
-    (sticks _ (sym (met_early _ a.w a.room _ c.operation.ensures c.if-operation-ne-FIRST.true (place_none refl))), inr refl)
+    (sticks _ _ (sym (met_early _ a.w a.room _ c.operation.ensures c.if-operation-ne-FIRST.true (place_none refl))), inr refl)
 
 pub returns : goal.returns
 returns c =
@@ -37,4 +37,4 @@ returns c =
     let ok = extends_in a.w a.room c.requires.1 c.extent-words.ensures c.if-words-eq0.false c.if-words-room.false
     (λ z. absurd (omega (arith, o, c.if-operation-ne-FIRST.false, z))) in
     let f = met_tries a.query.now a.tables.now no_position a.cells.now c.requires.0 a.w a.room ok o c.if-operation-ne-FIRST.false in
-    (rw f c.tries.ensures.0, c.tries.ensures.1)
+    (rw f (c.tries.ensures.0 no_position), c.tries.ensures.1)

@@ -3,10 +3,10 @@ use Rattle.stepping.proofs.Visits.{sticks, over, pop_visit}
 use Rattle.stepping.proofs.step.pop.Goals as goal
 
 pub returns-then-n-ge-SLOTS : goal.returns-then-n-ge-SLOTS
-returns-then-n-ge-SLOTS c = sticks _ (over _ _ c.if-n-ge-SLOTS.true)
+returns-then-n-ge-SLOTS c h = sticks h _ (over _ _ c.if-n-ge-SLOTS.true)
 
 pub returns : goal.returns
-returns c =
+returns c h =
     let a = c.args in
-    let p = pop_visit a.head a.cells.now c.requires a.n c.if-n-ge-SLOTS.false in
-    rw (← p, ← c.wide.ensures.0) (c.moved.ensures a.cells.now)
+    let p = pop_visit h a.cells.now c.requires a.n c.if-n-ge-SLOTS.false in
+    rw (← p, ← c.from.ensures) (c.moved.ensures h a.cells.now)

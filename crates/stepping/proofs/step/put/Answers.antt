@@ -3,7 +3,7 @@ use Rattle.stepping.proofs.Visits.{sticks, over, put_visit}
 use Rattle.stepping.proofs.step.put.Goals as goal
 
 pub returns-then-k-ge-SLOTS : goal.returns-then-k-ge-SLOTS
-returns-then-k-ge-SLOTS c = sticks _ (over _ _ c.if-k-ge-SLOTS.true)
+returns-then-k-ge-SLOTS c = sticks _ _ (over _ _ c.if-k-ge-SLOTS.true)
 
 pub returns : goal.returns
 returns c =

@@ -14,4 +14,4 @@ pub returns-then-tables-siblings-eq0 : goal.returns-then-tables-siblings-eq0
 returns-then-tables-siblings-eq0 c = (right_none _ _ _ _ c.requires.0 c.requires.1 c.if-tables-siblings-eq0.true, omega arith)
 
 pub returns-else-tables-siblings-eq0 : goal.returns-else-tables-siblings-eq0
-returns-else-tables-siblings-eq0 c = let p = c.requires in ((right_some _ _ _ _ p.0 p.1 c.if-tables-siblings-eq0.false c.wide.ensures.0).0, c.wide.ensures.1)
+returns-else-tables-siblings-eq0 c = let p = c.requires in ((right_some _ _ _ _ p.0 p.1 c.if-tables-siblings-eq0.false c.from.ensures).0, omega (arith, c.from.ensures))

@@ -12,7 +12,7 @@ pub bounds-tables-end : goal.bounds-tables-end
 bounds-tables-end c = omega (arith, few_words c.requires.0)
 
 pub returns-then-tables-siblings-eq0 : goal.returns-then-tables-siblings-eq0
-returns-then-tables-siblings-eq0 c = sticks _ (right_stuck _ _ _ _ c.requires.0 c.requires.1 c.if-tables-siblings-eq0.true)
+returns-then-tables-siblings-eq0 c = sticks _ _ (right_stuck _ _ _ _ c.requires.0 c.requires.1 c.if-tables-siblings-eq0.true)
 
 pub returns-else-tables-siblings-eq0 : goal.returns-else-tables-siblings-eq0
-returns-else-tables-siblings-eq0 c = let p = c.requires in stays _ _ _ refl (right_below _ _ _ _ p.0 p.1 c.if-tables-siblings-eq0.false c.wide.ensures.0)
+returns-else-tables-siblings-eq0 c = let p = c.requires in stays _ _ _ refl (right_below _ _ _ _ p.0 p.1 c.if-tables-siblings-eq0.false c.from.ensures)

@@ -4,4 +4,4 @@ use mathlib.Core.Path.{refl}
 use Rattle.stepping.proofs.step.store.Goals as goal
 
 pub returns : goal.returns
-returns c = (rw c.wide-old.ensures.0, refl, omega arith)
+returns c = (rw c.from-old.ensures, refl, omega arith)

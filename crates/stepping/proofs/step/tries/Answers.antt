@@ -9,13 +9,13 @@ use Rattle.stepping.specs.Inner.Visits.{met_of}
 use Rattle.stepping.proofs.Visits.{stays, sticks}
 use Rattle.stepping.proofs.step.tries.Goals as goal
 
-pub returns-then-wide-lt-LITERALS : goal.returns-then-wide-lt-LITERALS
+pub returns-then-from-lt-LITERALS : goal.returns-then-from-lt-LITERALS
 unfolding met_of
-returns-then-wide-lt-LITERALS c =
+returns-then-from-lt-LITERALS c =
     let n = count_in c.args.cells.now in
-    (stays _ _ _ refl (rw (lt-ltb n max_literals (omega (arith, c.wide.ensures.0, c.if-wide-lt-LITERALS.true)))), inl refl)
+    (λ h. stays _ h _ refl (rw (lt-ltb n max_literals (omega (arith, c.from.ensures, c.if-from-lt-LITERALS.true)))), inl refl)
 
-pub returns-else-wide-lt-LITERALS : goal.returns-else-wide-lt-LITERALS
-returns-else-wide-lt-LITERALS c =
+pub returns-else-from-lt-LITERALS : goal.returns-else-from-lt-LITERALS
+returns-else-from-lt-LITERALS c =
     let n = count_in c.args.cells.now in
-    (sticks _ (rw (le-ltb n max_literals (omega (arith, c.wide.ensures.0, c.if-wide-lt-LITERALS.false)))), inr refl)
+    (λ h. sticks h _ (rw (le-ltb n max_literals (omega (arith, c.from.ensures, c.if-from-lt-LITERALS.false)))), inr refl)

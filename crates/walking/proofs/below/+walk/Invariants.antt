@@ -1,5 +1,5 @@
 -- `walk`: over the passes the invariant is `Between`, along a row `Walking`; the words below a node are fewer.
-use Rattle.std.proofs.Common.{◌-◌, ◌<◌, length}
+use Rattle.std.proofs.Common.{◌<◌, length}
 use Rattle.cells.specs.Inner.Cells.{state_of}
 use Rattle.walking.proofs.Walking.{Walking}
 use Rattle.walking.proofs.Turns.{Between}
@@ -15,11 +15,8 @@ abbrev pub decreases-loop-rest : goal.decreases-loop-rest
 decreases-loop-rest l = length l.rest
 
 -- over the passes
-abbrev pub invariant-tries : goal.invariant-tries
-invariant-tries l = Between l.query l.words l.budget l.head l.initial.n l.above l.last l.saved l.initial.cells l.cells l.n l.j
-
-abbrev pub decreases-tries : goal.decreases-tries
-decreases-tries l = l.last - l.j
+abbrev pub invariant-loop-j : goal.invariant-loop-j
+invariant-loop-j l = Between l.query l.words l.budget l.head l.initial.n l.above l.j-end l.saved l.initial.cells l.cells l.n l.j
 
 abbrev pub decreases-walk : goal.decreases-walk
 decreases-walk l = length l.words.now
