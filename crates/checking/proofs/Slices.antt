@@ -1,18 +1,18 @@
--- The used words of a well-laid slice, as the code lends them to the pass.
-use mathlib.Core.Path.{◌≡◌, sym, ap, ◌∙◌}
+-- The used words of a well-laid slice, which the pass goes over.
+use mathlib.Core.Path.{◌≡◌, refl, sym, ap, ◌∙◌}
 use mathlib.Core.Bool.{Bool, true, false, cond, true≢false, and-eq-true_iff}
 use mathlib.Core.Option.{none, some}
 use mathlib.Core.List.{List, [], ◌∷◌}
-use Prim.Native.Nat.{ℕ, ◌+◌, ◌-◌, ◌^◌, ◌≤◌, ◌<◌}
+use Prim.Native.Nat.{ℕ, ◌^◌, ◌≤◌, ◌<◌}
 use native.Mathlib.Omega.{arith}
 use lib.Dec.{eqb}
-use lib.ListN.{length, get_or, take, drop}
-use Rattle.std.specs.Prelude.{Ok}
+use lib.ListN.{length}
+use Rattle.std.specs.Prelude.{Result, Ok, Err, IsOk}
 use Rattle.clause.specs.Clause.{max_words}
 use Rattle.clause.proofs.Apart.{apart}
 use Rattle.tree.specs.Keys.{first_key}
 use Rattle.tree.specs.Forest.{size, encode, find}
-use Rattle.tree.specs.Laid.{max_kept, used_of, region, sized, well_laid, decode}
+use Rattle.tree.specs.Laid.{max_kept, region, sized, well_laid, decode}
 use Rattle.tree.specs.Entries.{Entry}
 use Rattle.tree.specs.Laws.{Stands, paths_of, first_with}
 use Rattle.tree.proofs.Grow.{laid_decode, sized_high}
@@ -23,35 +23,27 @@ use Rattle.readback.specs.Calls.{check, unread, written_out, read_back}
 use Rattle.tree.specs.declared.Refusal.TheVariants.{NoSuchNumber}
 use Rattle.readback.proofs.Listed.{length_paths}
 use Rattle.readback.proofs.Laws.{Passing, check_passing, written_is}
-use Rattle.decompiling.specs.Inner.Reader.{Modest, Written}
+use Rattle.decompiling.specs.Inner.Reader.{Written}
+use Rattle.decompiling.specs.declared.Foreign.{Foreign}
 use Rattle.decompiling.proofs.Wording.{unreadable}
 use Rattle.checking.specs.Inner.Scan.{Nested, scan}
 use Rattle.checking.proofs.Scanning.{scan_paths, nested_forest}
-
--- the words from the second on, as many as are used
-abbrev pub lent : List ℕ → List ℕ
-lent T = take (used_of (get_or T 0 0) + 1 - 1) (drop 1 T)
 
 module _ (T : List ℕ) (s : sized T ≡ true) (w : well_laid T ≡ true) where
   stands : Stands T (decode T)
   stands = laid_decode T (omega (arith, sized_high T s)) (rw w tt)
 
-  lent_region : (U : List ℕ) → well_laid U ≡ true → lent U ≡ region U
-  unfolding region well_laid
-  lent_region [] e = apart cc
-  lent_region (h ∷ ws) e = let u : used_of h + 1 - 1 ≡ used_of h = omega arith in rw u
-
-  lent_is : lent T ≡ encode (decode T)
-  lent_is = lent_region T w ∙ ap region stands.words ∙ region_layout (length T) (decode T) (omega (arith, stands.room, sized_high T s))
+  region_is : region T ≡ encode (decode T)
+  region_is = ap region stands.words ∙ region_layout (length T) (decode T) (omega (arith, stands.room, sized_high T s))
 
   small : size (decode T) < 2 ^ 28
   small = omega (arith, stands.room, sized_high T s)
 
-  pub lent_paths : scan (lent T) 0 [] ≡ paths_of (decode T)
-  lent_paths = ap (λ l. scan l 0 []) lent_is ∙ scan_paths (decode T) stands.formed small
+  pub region_paths : scan (region T) 0 [] ≡ paths_of (decode T)
+  region_paths = ap (λ l. scan l 0 []) region_is ∙ scan_paths (decode T) stands.formed small
 
-  pub lent_nested : Nested (lent T)
-  lent_nested = rw lent_is (nested_forest (decode T) stands.formed small)
+  pub region_nested : Nested (region T)
+  region_nested = rw region_is (nested_forest (decode T) stands.formed small)
 
   pub paths_few : length (paths_of (decode T)) ≤ max_kept
   paths_few = omega (arith, length_paths 0 (decode T) stands.formed, stands.small)
@@ -74,6 +66,11 @@ found_readable n (d ∷ es) p r e = go (eqb d.number n) e (found_readable n es p
     go true e ih = let q : d.keys ≡ p = cc in rw q at both.0
     go false e ih = ih both.1 e
 
+-- what is readable is read off
+pub is_read : (p W U : List ℕ) (r : Result ℕ Foreign) → readable p ≡ true → Written p W r U → IsOk r
+is_read p W U (Ok n) e w = refl
+is_read p W U (Err f) e w = absurd (true≢false (sym e ∙ unreadable p w))
+
 module _ (T : List ℕ) (passed : check T ≡ Ok tt) where
   passing : Passing T
   passing = check_passing T passed
@@ -89,8 +86,8 @@ module _ (T : List ℕ) (passed : check T ≡ Ok tt) where
   passed_clauses = ((and-eq-true_iff (all_readable (paths_of (decode T))) _).0 passing.of_clauses_lem).0
 
   -- what is found is a path that a clause has
-  pub read_foreign : {A : Type 0} (n : ℕ) (p : List ℕ) → first_with n (paths_of (decode T)) ≡ some p → (Modest p → ⊥) → A
-  read_foreign n p e f = absurd (true≢false (sym (found_readable n (paths_of (decode T)) p passed_clauses e) ∙ unreadable p f))
+  pub found_read : (n : ℕ) (p W U : List ℕ) (r : Result ℕ Foreign) → first_with n (paths_of (decode T)) ≡ some p → Written p W r U → IsOk r
+  found_read n p W U r e = is_read p W U r (found_readable n (paths_of (decode T)) p passed_clauses e)
 
   module _ (n : ℕ) (l : n < first_key) (W : List ℕ) (room : max_words ≤ length W) where
     found : read_back T n W ≡ written_out (first_with n (paths_of (decode T))) W

@@ -86,9 +86,8 @@ impl<'a> Pass<'a> {
         requires { (sized tree.now ≡ true) × (well_laid tree.now ≡ true) }
         ensures { result.left ≡ paths_of (decode tree.now) }
     {
-        let end = Tree::used(tree[0]) + 1;
         Pass {
-            words: &tree[1..end],
+            words: Tree::region(tree),
             at: 0,
             above: 0,
             keys: [0; Sequence::KEYS],

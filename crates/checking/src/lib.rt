@@ -89,11 +89,7 @@ pub fn read_known(tree: &[u64], number: u32, out: &mut [u16]) -> Result<usize, R
     let Some(path) = path_to(&mut pass, number) else {
         return Err(Refusal::NoSuchNumber);
     };
-    let read = read_off(path, out);
-    let Ok(count) = read else {
-        return Err(Refusal::NoSuchTree);
-    };
-    Ok(count)
+    Ok(read_off(path, out).unwrap())
 }
 
 // Reads the clause with a number back out of a slice of any words.
