@@ -39,8 +39,8 @@ impl Path {
     // What stands for no position: a byte like any cell, where an Option would take two.
     pub const NONE: usize = 255;
 
-    // The head that is handed to the words below a First: none, each candidate has its own. A number, since the walk with an enum for it, tried, takes 1 to 3 %
-    // more instructions.
+    // The head that is handed to the words below a First: none, each candidate has its own.
+    // A number: the walk with an enum in its place was tried and takes 1 to 3 % more instructions.
     pub const BEFORE: usize = Path::NONE;
 
     // The literals of a query as bits are below this.

@@ -1,5 +1,7 @@
 pub mod Stores
-pub mod Puts
+pub mod Writing
+pub mod Putting
+pub mod Stack
 pub mod Rows
 pub mod Spots
 pub mod Turns

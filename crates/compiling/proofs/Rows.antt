@@ -8,14 +8,16 @@ use native.Mathlib.Nat.{add-zero, add-suc}
 use native.Mathlib.Omega.{arith}
 use native.Mathlib.Numerals.{add-one}
 use native.Mathlib.Decide.{dec_lt}
-use lib.ListN.{length, get_or, set, length-append, length-map}
+use lib.ListN.{length, get_or, length-append, length-map}
 use lib.Dec.{leb, ltb, eqb}
 use borrow.Author.Tests.{eq-eqb, ne_eqb, le-leb, lt-leb, lt-ltb, le-ltb}
 use Rattle.clause.specs.Lists.{numbers_below}
 use Rattle.machine.specs.Instr.{Compare, Do, key, Step}
 use Rattle.machine.specs.Compile.{first, repeats, compares}
-use Rattle.compiling.specs.Inner.Compiling.{Stored, firsts_of, repeats_by, row_keys, compare_keys, step_keys}
-use Rattle.compiling.proofs.Stores.{stored_none, stored_append, stored_snoc}
+use Rattle.compiling.specs.Inner.Rows.{firsts_of, repeats_by, row_keys, compare_keys}
+use Rattle.compiling.specs.Inner.Compiling.{Writes, step_keys}
+use Rattle.compiling.specs.declared.keys.Keys.{Keys}
+use Rattle.compiling.proofs.Writing.{writes_append}
 use Rattle.machine.proofs.Length.{flat_map_numbers_below}
 use Rattle.clause.proofs.Lists.{get_or-map-lt}
 
@@ -88,17 +90,14 @@ module _ (firsts : List ℕ) (from m : ℕ) where
       let one_more = ap length (row_hit k h g e) ∙ length-append (row_to k) (key (Do (Compare m k)) ∷ []) in
       omega (arith, one_more, row_le (k + 1) (length firsts) (omega arith), ap length row_to_whole)
 
-  -- nothing stored yet, a Compare more, no Compare
-  pub row_start : {before : List ℕ} {at : ℕ} (k : ℕ) → row_to k ≡ [] → Stored (row_to k) before at before at
-  row_start k e = rw e (stored_none _ _)
+  -- a Compare more, no Compare
+  module _ {a b : Keys} (k : ℕ) (h : from ≤ k) (g : m < k) where
+    pub row_writes : {c : Keys} → get_or firsts k 0 ≡ m → Writes (row_to k) a b
+        → Writes ((0x8_0000_0000 + m * 0x1_0000 + k) ∷ []) b c → Writes (row_to (k + 1)) a c
+    row_writes e s t = rw (row_hit k h g e, ← compare_key m k) (writes_append s t)
 
-  module _ {before after : List ℕ} {at end : ℕ} where
-    pub row_stored : (k : ℕ) → from ≤ k → m < k → get_or firsts k 0 ≡ m → Stored (row_to k) before at after end
-        → Stored (row_to (k + 1)) before at (set after end (0x8_0000_0000 + m * 0x1_0000 + k)) (end + 1)
-    row_stored k h g e s = rw (row_hit k h g e, compare_key) (stored_snoc (key (Do (Compare m k))) s)
-
-    pub row_over : (k : ℕ) → from ≤ k → m < k → get_or firsts k 0 ≢ m → Stored (row_to k) before at after end → Stored (row_to (k + 1)) before at after end
-    row_over k h g n s = rw (row_miss k h g n) s
+    pub row_over : get_or firsts k 0 ≢ m → Writes (row_to k) a b → Writes (row_to (k + 1)) a b
+    row_over n s = rw (row_miss k h g n) s
 
 -- the Compares of the first n puts with all
 module _ (firsts : List ℕ) (from : ℕ) where
@@ -133,10 +132,8 @@ module _ (firsts : List ℕ) (from : ℕ) where
   unfolding rows_to numbers_below flat_map
   rows_none = refl
 
-  pub rows_stored : {before after next : List ℕ} {at end stop : ℕ} (m : ℕ) → Stored (rows_to m) before at after end
-      → Stored (row_keys firsts from m) after end next stop
-      → Stored (rows_to (m + 1)) before at next stop
-  rows_stored m s t = rw rows_suc (stored_append s t)
+  pub rows_writes : {a b c : Keys} (m : ℕ) → Writes (rows_to m) a b → Writes (row_keys firsts from m) b c → Writes (rows_to (m + 1)) a c
+  rows_writes m s t = rw rows_suc (writes_append s t)
 
 -- the numbers of the first puts give a literal's Compares
 steps_append : (xs ys : List Step) → step_keys (xs ++ ys) ≡ step_keys xs ++ step_keys ys

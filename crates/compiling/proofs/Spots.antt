@@ -1,58 +1,52 @@
 -- The spot as it goes from word to word.
-use mathlib.Core.Path.{◌≡◌, refl, sym, ap, ap₂, ◌∙◌}
-use mathlib.Core.Logic.{◌≢◌}
-use mathlib.Core.Bool.{true, false, cond}
-use mathlib.Core.List.{List, [], ◌∷◌}
-use Prim.Native.Nat.{ℕ, zero, suc, ◌+◌, ◌-◌, ◌*◌, ◌/◌, ◌%◌, ◌≤◌, ◌<◌}
+use mathlib.Core.Path.{◌≡◌, refl, sym, ap, ◌∙◌}
+use mathlib.Core.List.{List, [], ◌∷◌, map}
+use Prim.Native.Nat.{ℕ, zero, suc, ◌+◌, ◌-◌, ◌≤◌, ◌<◌}
 use native.Mathlib.Omega.{arith}
 use native.Mathlib.Numerals.{add-one}
-use lib.ListN.{length, get_or, set}
-use lib.Seq.{get_or-set_same, get_or-set_other}
-use Rattle.clause.specs.Word.{arities}
+use lib.ListN.{length}
+use Rattle.std.specs.Prelude.{Some, None}
 use Rattle.machine.specs.Instr.{Down, Right, Push, Pop, key}
-use Rattle.machine.specs.Compile.{Saved, ended, inside, Way, way}
-use Rattle.compiling.specs.Inner.Compiling.{Stored, opening_keys, at_head, opened, saved_in, step_keys, Went}
+use Rattle.machine.specs.Compile.{Saved, ended, inside, Way, way, way_from, opening, begun}
+use Rattle.compiling.specs.Inner.Compiling.{Writes, place_in, opening_keys, Opened, step_keys, Went}
+use Rattle.compiling.specs.declared.keys.Keys.{Keys}
 use Rattle.compiling.specs.declared.Spot.{Spot}
-use Rattle.compiling.proofs.Stores.{stored_none}
+use Rattle.compiling.proofs.Writing.{writes_none}
 
--- a literal goes on, or begins
-pub open_on : (s : Spot) (keys : List ℕ) → s.inside ≡ true → (s ≡ opened s) × Stored (opening_keys s.inside) keys s.written keys s.written
-open_on s keys e =
-    (sym (ap (λ b. cond b s (at_head s)) e), let h : opening_keys s.inside ≡ [] = ap opening_keys e in rw h (stored_none keys s.written))
+-- ---- a literal goes on, or begins
 
-pub open_new : (s : Spot) (keys : List ℕ) → s.inside ≡ false
-    → (at_head s ≡ opened s) × Stored (opening_keys s.inside) keys s.written (set keys s.written 0x1_0000_0000) (s.written + 1)
-unfolding key
-open_new s keys e = (
-  sym (ap (λ b. cond b s (at_head s)) e),
-  let h : opening_keys s.inside ≡ 0x1_0000_0000 ∷ [] = ap opening_keys e in rw h (record { after_is = refl; end_is = refl }),
+pub open_on : (s : Spot) (l : ℕ) (k : Keys) → s.left ≡ Some l → Opened s l s × Writes (opening_keys s) k k
+unfolding way_from opening begun
+open_on s l k e = (
+  record {
+    ways = λ a n. ap (λ o. way_from (place_in o s.saved) a n) e;
+    pushed = refl;
+    puts = refl;
+    from = sym (ap (λ o. begun (place_in o s.saved) s.puts s.from) e);
+    saved_low = omega arith;
+  },
+  let h : opening_keys s ≡ [] = ap (λ o. map key (opening (place_in o s.saved))) e in rw h (writes_none k),
 )
 
--- the positions to come back to: none of them is at or above the depth
-saved_set : (saved : List ℕ) (d x k : ℕ) → k ≤ d → saved_in (set saved d x) k ≡ saved_in saved k
-unfolding saved_in
-saved_set saved d x zero h = refl
-saved_set saved d x (suc k) h =
-    let n : k ≢ d = omega arith in
-    rw (get_or-set_other saved d k x 0 n, saved_set saved d x k (omega arith))
+-- First is written
+pub opening_one : (s : Spot) → s.left ≡ None → opening_keys s ≡ 0x1_0000_0000 ∷ []
+unfolding opening key
+opening_one s e = ap (λ o. map key (opening (place_in o s.saved))) e
 
--- one more
-saved_push : (saved : List ℕ) (d n l : ℕ) → d < length saved → l < arities
-    → saved_in (set saved d (n * arities + l)) (d + 1) ≡ record { slot = n; left = l } ∷ saved_in saved d
-unfolding saved_in
-saved_push saved d n l h g =
-    let a : (n * arities + l) / arities ≡ n = omega arith in
-    let b : (n * arities + l) % arities ≡ l = omega arith in
-    rw (add-one, get_or-set_same saved d (n * arities + l) 0 h, a, b, saved_set saved d (n * arities + l) d (omega arith))
+pub open_new : (s : Spot) (n : ℕ) (v : List Saved) → s.left ≡ None → n ≡ length s.puts → v ≡ []
+    → Opened s 0 (record { left = s.left; pushed = s.pushed; from = n; puts = s.puts; saved = v })
+unfolding way_from begun
+open_new s n v e f g =
+    record {
+      ways = λ a m. ap (λ o. way_from (place_in o s.saved) a m) e ∙ ap (λ v. way a 0 v m) (sym g);
+      pushed = refl;
+      puts = refl;
+      from = f ∙ sym (ap (λ o. begun (place_in o s.saved) s.puts s.from) e);
+      saved_low = rw g (omega arith);
+    }
 
--- the latest
-saved_top : (saved : List ℕ) (d : ℕ) → 0 < d
-    → saved_in saved d ≡ record { slot = get_or saved (d - 1) 0 / arities; left = get_or saved (d - 1) 0 % arities } ∷ saved_in saved (d - 1)
-unfolding saved_in
-saved_top saved zero h = absurd (omega arith)
-saved_top saved (suc d) h = let e : suc d - 1 ≡ d = omega arith in rw e
+-- ---- the five ways, by what the code tests
 
--- the five ways, by what the code tests
 way_push : (a l : ℕ) (saved : List Saved) (n : ℕ) → 0 < a → 0 < l
     → way a l saved n ≡ record { steps = Push n ∷ Down ∷ []; place = inside (a - 1) (record { slot = n; left = l - 1 } ∷ saved); pushed = n + 1 }
 unfolding way
@@ -81,128 +75,61 @@ way_end : (n : ℕ) → way 0 0 [] n ≡ record { steps = []; place = ended; pus
 unfolding way
 way_end n = refl
 
--- how many keys each of them takes
-module _ (saved : List Saved) (n : ℕ) where
-  pub push_two : (a l : ℕ) → 0 < a → 0 < l → length (step_keys (way a l saved n).steps) ≡ 2
-  push_two a l h g = rw (way_push a l saved n h g)
+-- at most one more position is pushed
+pub way_pushed : (a l : ℕ) (saved : List Saved) (n : ℕ) → (way a l saved n).pushed ≤ n + 1
+unfolding way
+way_pushed (suc a) (suc l) saved n = omega arith
+way_pushed (suc a) zero saved n = omega arith
+way_pushed zero (suc l) saved n = omega arith
+way_pushed zero zero (v ∷ saved) n = omega arith
+way_pushed zero zero [] n = omega arith
 
-  pub down_one : (a l : ℕ) → 0 < a → l ≡ 0 → length (step_keys (way a l saved n).steps) ≡ 1
-  down_one a l h e = rw (e, way_down a saved n h)
+-- what each of them writes, and the spot that it leads to
+module _ (a l : ℕ) (s : Spot) (low : length s.saved ≤ s.pushed) where
+  abbrev pub here : Way
+  here = way a l s.saved s.pushed
 
-  pub right_one : (a l : ℕ) → a ≡ 0 → 0 < l → length (step_keys (way a l saved n).steps) ≡ 1
-  right_one a l e h = rw (e, way_right l saved n h)
+  module _ (h : 0 < a) (g : 0 < l) where
+    pub push_keys : step_keys here.steps ≡ (0x5_0000_0000 + s.pushed) ∷ 0x2_0000_0000 ∷ []
+    unfolding key
+    push_keys = rw (way_push a l s.saved s.pushed h g) (ap (λ x. x ∷ 0x2_0000_0000 ∷ []) (omega arith))
 
-pub pop_one : (saved : List ℕ) (d n a l : ℕ) → a ≡ 0 → l ≡ 0 → 0 < d → length (step_keys (way a l (saved_in saved d) n).steps) ≡ 1
-pop_one saved d n a l e f h = rw (e, f, saved_top saved d h, way_pop)
+    pub went_push : (v : List Saved) → v ≡ record { slot = s.pushed; left = l - 1 } ∷ s.saved
+        → Went here s (record { left = Some (a - 1); pushed = s.pushed + 1; from = s.from; puts = s.puts; saved = v })
+    went_push v e =
+        rw (way_push a l s.saved s.pushed h g)
+        (record { place = ap (inside (a - 1)) e; pushed = refl; puts = refl; from = refl; saved_low = rw e (omega arith) })
 
--- the spot that each of them leads to
-module _ (a : ℕ) (s : Spot) (saved keys : List ℕ) (within : s.inside ≡ true) (small : a < arities) (lefts : s.left < arities) (low : s.depth ≤ s.pushed) where
-  abbrev here : Way
-  here = way a s.left (saved_in saved s.depth) s.pushed
+  module _ (h : 0 < a) (e : l ≡ 0) where
+    pub down_keys : step_keys here.steps ≡ 0x2_0000_0000 ∷ []
+    unfolding key
+    down_keys = rw (e, way_down a s.saved s.pushed h)
 
-  place_inside : (l : ℕ) (v : List Saved) → cond s.inside (inside l v) ended ≡ inside l v
-  place_inside l v = ap (λ b. cond b (inside l v) ended) within
+    pub went_down : Went here s (record { left = Some (a - 1); pushed = s.pushed; from = s.from; puts = s.puts; saved = s.saved })
+    went_down = rw (e, way_down a s.saved s.pushed h) (record { place = refl; pushed = refl; puts = refl; from = refl; saved_low = low })
 
-  pub went_push : 0 < a → 0 < s.left → s.depth < length saved
-      → Went here s
-      (record { inside = s.inside; left = a - 1; depth = s.depth + 1; pushed = s.pushed + 1; count = s.count; from = s.from; written = s.written + 2 })
-      (set saved s.depth (s.pushed * arities + (s.left - 1))) keys (set (set keys s.written (0x5_0000_0000 + s.pushed)) (s.written + 1) 0x2_0000_0000)
-  unfolding key
-  went_push h g r =
-      rw (way_push a s.left (saved_in saved s.depth) s.pushed h g)
-      (record {
-        place = place_inside _ _ ∙ ap (inside (a - 1)) (saved_push saved s.depth s.pushed (s.left - 1) r (omega arith));
-        pushed = refl;
-        stored = record { after_is = rw add-one; end_is = refl };
-        same_count = refl;
-        same_from = refl;
-        left_small = omega arith;
-        depth_low = omega arith;
-        one_more = omega arith;
-      })
+  module _ (e : a ≡ 0) (g : 0 < l) where
+    pub right_keys : step_keys here.steps ≡ 0x3_0000_0000 ∷ []
+    unfolding key
+    right_keys = rw (e, way_right l s.saved s.pushed g)
 
-  pub went_down : 0 < a → s.left ≡ 0
-      → Went here s
-      (record { inside = s.inside; left = a - 1; depth = s.depth; pushed = s.pushed; count = s.count; from = s.from; written = s.written + 1 })
-      saved keys (set keys s.written 0x2_0000_0000)
-  unfolding key
-  went_down h g =
-      rw (ap (λ l. way a l (saved_in saved s.depth) s.pushed) g ∙ way_down a (saved_in saved s.depth) s.pushed h)
-      (record {
-        place = place_inside _ _;
-        pushed = refl;
-        stored = record { after_is = refl; end_is = refl };
-        same_count = refl;
-        same_from = refl;
-        left_small = omega arith;
-        depth_low = omega arith;
-        one_more = omega arith;
-      })
+    pub went_right : Went here s (record { left = Some (l - 1); pushed = s.pushed; from = s.from; puts = s.puts; saved = s.saved })
+    went_right = rw (e, way_right l s.saved s.pushed g) (record { place = refl; pushed = refl; puts = refl; from = refl; saved_low = low })
 
-  pub went_right : a ≡ 0 → 0 < s.left
-      → Went here s
-      (record { inside = s.inside; left = s.left - 1; depth = s.depth; pushed = s.pushed; count = s.count; from = s.from; written = s.written + 1 })
-      saved keys (set keys s.written 0x3_0000_0000)
-  unfolding key
-  went_right e g =
-      rw (ap (λ a. way a s.left (saved_in saved s.depth) s.pushed) e ∙ way_right s.left (saved_in saved s.depth) s.pushed g)
-      (record {
-        place = place_inside _ _;
-        pushed = refl;
-        stored = record { after_is = refl; end_is = refl };
-        same_count = refl;
-        same_from = refl;
-        left_small = omega arith;
-        depth_low = omega arith;
-        one_more = omega arith;
-      })
+  module _ (e : a ≡ 0) (f : l ≡ 0) where
+    module _ (p : Saved) (v : List Saved) (g : s.saved ≡ p ∷ v) where
+      pub pop_keys : step_keys here.steps ≡ (0x6_0000_0000 + p.slot) ∷ []
+      unfolding key
+      pop_keys = rw (e, f, g, way_pop p v s.pushed) (ap (λ x. x ∷ []) (omega arith))
 
-  pub went_pop : a ≡ 0 → s.left ≡ 0 → 0 < s.depth
-      → Went here s
-      (record {
-        inside = s.inside;
-        left = get_or saved (s.depth - 1) 0 % arities;
-        depth = s.depth - 1;
-        pushed = s.pushed;
-        count = s.count;
-        from = s.from;
-        written = s.written + 1;
-      })
-      saved keys (set keys s.written (0x6_0000_0000 + get_or saved (s.depth - 1) 0 / arities))
-  unfolding key
-  went_pop e f h =
-      rw (ap₂ (λ a l. way a l (saved_in saved s.depth) s.pushed) e f ∙ ap (λ v. way 0 0 v s.pushed) (saved_top saved s.depth h) ∙ way_pop _ _ _)
-      (record {
-        place = place_inside _ _;
-        pushed = refl;
-        stored = record { after_is = refl; end_is = refl };
-        same_count = refl;
-        same_from = refl;
-        left_small = omega arith;
-        depth_low = omega arith;
-        one_more = omega arith;
-      })
+      pub went_pop : Went here s (record { left = Some p.left; pushed = s.pushed; from = s.from; puts = s.puts; saved = v })
+      went_pop =
+          let n : length v ≤ s.pushed = omega (arith, ap length g, low) in
+          rw (e, f, g, way_pop p v s.pushed) (record { place = refl; pushed = refl; puts = refl; from = refl; saved_low = n })
 
-  pub went_out : a ≡ 0 → s.left ≡ 0 → s.depth ≡ 0
-      → Went here s (record {
-        inside = false;
-        left = s.left;
-        depth = s.depth;
-        pushed = s.pushed;
-        count = s.count;
-        from = s.from;
-        written = s.written;
-      }) saved keys keys
-  unfolding saved_in
-  went_out e f g =
-      rw (ap₂ (λ a l. way a l (saved_in saved s.depth) s.pushed) e f ∙ ap (λ d. way 0 0 (saved_in saved d) s.pushed) g ∙ way_end s.pushed)
-      (record {
-        place = refl;
-        pushed = refl;
-        stored = stored_none keys s.written;
-        same_count = refl;
-        same_from = refl;
-        left_small = omega arith;
-        depth_low = omega arith;
-        one_more = omega arith;
-      })
+    module _ (g : s.saved ≡ []) where
+      pub end_keys : step_keys here.steps ≡ []
+      end_keys = rw (e, f, g, way_end s.pushed)
+
+      pub went_out : (v : List Saved) → v ≡ [] → Went here s (record { left = None; pushed = s.pushed; from = s.from; puts = s.puts; saved = v })
+      went_out v i = rw (e, f, g, way_end s.pushed) (record { place = refl; pushed = refl; puts = refl; from = refl; saved_low = rw i (omega arith) })

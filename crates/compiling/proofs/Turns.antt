@@ -1,319 +1,211 @@
 -- What compiling one word comes to: the keys to come are the word's own and those after it.
-use mathlib.Core.Path.{◌≡◌, refl, sym, ap, ap₂, ◌∙◌}
-use mathlib.Core.Bool.{Bool, true, false, cond}
+use mathlib.Core.Path.{◌≡◌, refl, sym, ap, ◌∙◌}
 use mathlib.Core.List.{List, [], ◌∷◌, ◌++◌, map, map-append, append_assoc, append-nil}
 use Prim.Native.Nat.{ℕ, suc, ◌+◌, ◌≤◌, ◌<◌}
 use native.Mathlib.Nat.{zero-add}
 use native.Mathlib.Omega.{arith}
 use native.Mathlib.Numerals.{add-one}
-use lib.ListN.{length, get_or, take, drop, length-map, length-append, length-set, drop_of_length-le}
-use lib.Seq.{drop-cons, length-take-le, sets-eq}
+use lib.ListN.{length, get_or, drop, length-map, length-append, drop_of_length-le}
+use lib.Seq.{drop-cons, sets-eq}
+use Rattle.std.specs.Prelude.{Bool, true, false, not, Option, Some, None}
+use Rattle.std.specs.Option.{is_some}
 use Rattle.clause.specs.Clause.{max_words}
-use Rattle.clause.specs.Word.{arities, arity}
+use Rattle.clause.specs.Word.{arity}
 use Rattle.machine.specs.Instr.{Do, key}
-use Rattle.machine.specs.Machine.{slots}
-use Rattle.machine.specs.Compile.{Place, ended, inside, Way, way, way_from, opening, begun, closing, act, puts_after, sequence_from, sequence, keys}
+use Rattle.machine.specs.Compile.{Saved, Place, ended, inside, Way, way, way_from, begun, closing, act, puts_after, sequence_from, sequence, keys}
 use Rattle.machine.specs.Compiled.{max_keys, Compiled}
-use Rattle.compiling.specs.Inner.Compiling.{Room, firsts_of, compare_keys, saved_in, place_at, opening_keys, opened, step_keys, to_come, Stored}
-use Rattle.compiling.specs.Inner.Compiling.{Acted, Went, CompilingAt, Advanced}
+use Rattle.compiling.specs.Inner.Rows.{firsts_of, compare_keys}
+use Rattle.compiling.specs.Inner.Compiling.{HasRoom, Writes, place_in, place_of, opening_keys, step_keys, to_come}
+use Rattle.compiling.specs.Inner.Compiling.{Opened, Went, Orderly, way_of, word_keys, Turned}
+use Rattle.compiling.specs.declared.keys.Keys.{Keys}
 use Rattle.compiling.specs.declared.Spot.{Spot}
-use Rattle.compiling.proofs.Stores.{stored_none, stored_append, stored_length}
+use Rattle.compiling.proofs.Writing.{writes_none, writes_append, wrote}
 use Rattle.compiling.proofs.Rows.{compare_keys_lem}
+use Rattle.compiling.proofs.Spots.{way_pushed}
+use Rattle.machine.proofs.Codes.{length_puts}
 use Rattle.machine.proofs.Length.{sequence_few}
 
 -- ---- the keys of a word
 
--- from a place
-keys_word : (w : ℕ) (ws : List ℕ) (place : Place) (puts : List ℕ) (from n : ℕ)
-    → map key (sequence_from (w ∷ ws) place puts from n)
-    ≡ map key (opening place)
-    ++ (key (Do (act puts w))
-    ∷ (step_keys (way_from place (arity w) n).steps
-    ++ (step_keys (closing (way_from place (arity w) n).place (puts_after puts w) (begun place puts from))
-    ++ map key (sequence_from ws (way_from place (arity w) n).place (puts_after puts w) (begun place puts from) (way_from place (arity w) n).pushed))))
-unfolding sequence_from
-keys_word w ws place puts from n = simp map-append
+-- those at its end
+abbrev pub ending_keys : (w : ℕ) → Spot → List ℕ
+ending_keys w s = step_keys (closing (way_of w s).place (puts_after s.puts w) (begun (place_of s) s.puts s.from))
 
--- the way from a spot inside a literal
-abbrev pub way_at : Spot → (saved : List ℕ) (w : ℕ) → Way
-way_at o saved w = way (arity w) o.left (saved_in saved o.depth) o.pushed
+pub word_length : (w : ℕ) (s : Spot)
+    → length (word_keys w s) ≡ length (opening_keys s) + (1 + (length (step_keys (way_of w s).steps) + length (ending_keys w s)))
+unfolding word_keys
+word_length w s = simp length-append (omega arith)
 
--- the keys at its end, and those after it
-unfoldable pub closing_keys : Spot → (saved puts : List ℕ) (w : ℕ) → List ℕ
-closing_keys o saved puts w = step_keys (closing (way_at o saved w).place (puts_after puts w) o.from)
+-- a literal begins at a put there is
+begun_low : (p : Place) (puts : List ℕ) (from : ℕ) → from ≤ length puts → begun p puts from ≤ length puts
+unfolding begun
+begun_low ended puts from h = omega arith
+begun_low (inside l v) puts from h = h
 
-unfoldable pub after : (ws : List ℕ) → Spot → (saved puts : List ℕ) (w : ℕ) → List ℕ
-after ws o saved puts w = map key (sequence_from ws (way_at o saved w).place (puts_after puts w) o.from (way_at o saved w).pushed)
+-- a word puts one variable at most
+puts_grow : (puts : List ℕ) (w : ℕ) → (length puts ≤ length (puts_after puts w)) × (length (puts_after puts w) ≤ length puts + 1)
+unfolding puts_after
+puts_grow puts w = (simp length-append (omega arith), omega (arith, length_puts puts w))
 
--- all of them, from a spot before a word
-abbrev pub all_keys : (ws : List ℕ) (s o : Spot) (saved puts : List ℕ) (w : ℕ) → List ℕ
-all_keys ws s o saved puts w =
-    opening_keys s.inside ++ (key (Do (act puts w)) ∷ (step_keys (way_at o saved w).steps ++ (closing_keys o saved puts w ++ after ws o saved puts w)))
+pub way_grows : (p : Place) (a n : ℕ) → (way_from p a n).pushed ≤ n + 1
+unfolding way_from
+way_grows ended a n = way_pushed a 0 [] n
+way_grows (inside l v) a n = way_pushed a l v n
 
-keys_spot : (w : ℕ) (ws : List ℕ) (s : Spot) (saved puts : List ℕ) → length puts ≡ s.count
-    → map key (sequence_from (w ∷ ws) (place_at s saved) puts s.from s.pushed) ≡ all_keys ws s (opened s) saved puts w
-unfolding after closing_keys opening begun way_from saved_in
-keys_spot w ws s saved puts e = go s.inside s.left s.depth s.pushed s.count s.from s.written e
-  where
-    go : (b : Bool) (l d n c f k : ℕ) → length puts ≡ c
-        → let s : Spot = record { inside = b; left = l; depth = d; pushed = n; count = c; from = f; written = k } in
-        map key (sequence_from (w ∷ ws) (place_at s saved) puts f n) ≡ all_keys ws s (opened s) saved puts w
-    go true l d n c f k e = keys_word w ws (inside l (saved_in saved d)) puts f n
-    go false l d n c f k e = rw (← e) (keys_word w ws ended puts f n)
+-- the way from a spot that was opened
+way_is : (w : ℕ) {left : ℕ} {s r : Spot} → Opened s left r → way (arity w) left r.saved r.pushed ≡ way_of w s
+way_is w {s = s} O = rw O.pushed (sym (O.ways (arity w) s.pushed))
 
--- ---- from one word to the next
+-- whether a spot is inside a literal
+none_left : (o : Option ℕ) {b : Bool} → is_some o ≡ not b → b ≡ true → o ≡ None
+none_left None e f = refl
+none_left (Some l) e f = let g = rw f at e in cc
 
--- a spot that was opened
-pub record Opened (s o : Spot) : Type 0 where
-  pub within : o.inside ≡ true
-  pub left : o.left ≤ s.left
-  pub depth : o.depth ≤ s.depth
-  pub pushed : o.pushed ≡ s.pushed
-  pub count : o.count ≡ s.count
-  pub from : s.from ≤ s.count → o.from ≤ s.count
+none_closes : (o : Option ℕ) (saved : List Saved) {b : Bool} (puts : List ℕ) (from : ℕ) → is_some o ≡ not b → b ≡ false
+    → closing (place_in o saved) puts from ≡ []
+unfolding closing
+none_closes None saved puts from e f = let g = rw f at e in cc
+none_closes (Some l) saved puts from e f = refl
 
-pub opens : (s : Spot) {o : Spot} → o ≡ opened s → Opened s o
-opens s e = rw e (go s.inside s.left s.depth s.pushed s.count s.from s.written)
-  where
-    go : (b : Bool) (l d n c f k : ℕ)
-        → let s : Spot = record { inside = b; left = l; depth = d; pushed = n; count = c; from = f; written = k } in
-        Opened s (opened s)
-    go true l d n c f k = record { within = refl; left = omega arith; depth = omega arith; pushed = refl; count = refl; from = λ h. h }
-    go false l d n c f k = record { within = refl; left = omega arith; depth = omega arith; pushed = refl; count = refl; from = λ h. omega arith }
+module _ (w : ℕ) {left : ℕ} {s o : Spot} {k₀ k₁ : Keys} (O : Opened s left o) (w₁ : Writes (opening_keys s) k₀ k₁) where
+  -- what the instruction of the word asks
+  pub act_room : HasRoom (length (word_keys w s)) k₀ → HasRoom 1 k₁
+  act_room h = omega (arith, h, word_length w s, wrote w₁)
 
--- a spot with so many keys written
-abbrev pub ended_at : Spot → (end : ℕ) → Spot
-ended_at r e = record { inside = r.inside; left = r.left; depth = r.depth; pushed = r.pushed; count = r.count; from = r.from; written = e }
+  module _ {k₂ : Keys} (w₂ : Writes (key (Do (act o.puts w)) ∷ []) k₁ k₂) where
+    -- what the way asks
+    pub way_room : HasRoom (length (word_keys w s)) k₀ → HasRoom (length (step_keys (way (arity w) left o.saved o.pushed).steps)) k₂
+    way_room h = rw (way_is w O) (omega (arith, h, word_length w s, wrote w₁, wrote w₂))
 
--- word i, and the variables put before it
-abbrev pub word_at : (words : List ℕ) (i : ℕ) → ℕ
-word_at words i = get_or words i 0
+    module _ {p : List ℕ} {r : Spot} {k₃ : Keys} (order : Orderly s) (P : p ≡ puts_after o.puts w)
+        (W : Went (way (arity w) left o.saved o.pushed) (record { left = o.left; pushed = o.pushed; from = o.from; puts = p; saved = o.saved }) r)
+        (w₃ : Writes (step_keys (way (arity w) left o.saved o.pushed).steps) k₂ k₃)
+      where
+        puts_is : r.puts ≡ puts_after s.puts w
+        puts_is = W.puts ∙ P ∙ ap (λ l. puts_after l w) O.puts
 
-abbrev pub puts_of : Spot → (variables : List ℕ) → List ℕ
-puts_of s variables = take s.count variables
-
-module _ {words : List ℕ} {i : ℕ} {s : Spot} {variables firsts saved keys : List ℕ} (R : CompilingAt words i s variables firsts saved keys)
-    (h : i < length words)
-    {o : Spot} (eo : o ≡ opened s) where
-  split : to_come words i s variables saved ≡ all_keys (drop (i + 1) words) s o saved (puts_of s variables) (word_at words i)
-  unfolding to_come
-  split = rw (add-one, drop-cons words i 0 h, eo)
-      (keys_spot (word_at words i) (drop (suc i) words) s saved (puts_of s variables) (length-take-le s.count variables (omega arith)))
-
-  -- there is room for all of them
-  word_room : s.written + (length (opening_keys s.inside) + (1 + (length (step_keys (way_at o saved (word_at words i)).steps)
-      + length (closing_keys o saved (puts_of s variables) (word_at words i))))) ≤ length keys
-  word_room = omega (arith, R.room, simp length-append at (ap length split))
-
-  -- what the word's functions ask
-  pub open_asks : s.written + length (opening_keys s.inside) ≤ length keys
-  open_asks = omega (arith, word_room)
-
-  pub act_asks : {keys₁ : List ℕ} → Stored (opening_keys s.inside) keys s.written keys₁ o.written
-      → (o.count < length variables) × (o.count < length firsts) × (o.written < length keys₁) × (o.count < slots)
-      × (take o.count firsts ≡ firsts_of (take o.count variables))
-  act_asks so =
-      let p = opens s eo in (
-        omega (arith, p.count, R.variables_size, R.count_low, R.few_words),
-        omega (arith, p.count, R.firsts_size, R.count_low, R.few_words),
-        omega (arith, word_room, so.end_is, stored_length so),
-        omega (arith, p.count, R.count_low, R.few_words),
-        rw p.count R.numbers,
-      )
-
-  pub onward_asks : {keys₁ keys₂ variables' firsts' : List ℕ} {count : ℕ} → Stored (opening_keys s.inside) keys s.written keys₁ o.written
-      → Acted (word_at words i) o.count variables count variables' firsts' keys₁ o.written keys₂
-      → (o.inside ≡ true) × (arity (word_at words i) < arities) × (o.left < arities) × (o.depth ≤ o.pushed) × (o.pushed < slots) × (length saved ≡ slots)
-      × Room (step_keys (way_at o saved (word_at words i)).steps) (o.written + 1) keys₂
-  unfolding arity
-  onward_asks {keys₁} {keys₂} so ac =
-      let p = opens s eo in
-      let n : length keys₂ ≡ length keys₁ = ap length ac.stored ∙ simp length-set in (
-        p.within,
-        omega arith,
-        omega (arith, p.left, R.left_small),
-        omega (arith, p.depth, p.pushed, R.depth_low),
-        omega (arith, p.pushed, R.pushed_low, R.few_words),
-        R.saved_size,
-        omega (arith, word_room, so.end_is, stored_length so),
-      )
-
-  -- First, the instruction and the way are written
-  module _ {keys₁ keys₂ keys₃ variables' firsts' saved' : List ℕ} {count : ℕ} {r : Spot}
-      (so : Stored (opening_keys s.inside) keys s.written keys₁ o.written)
-      (ac : Acted (word_at words i) o.count variables count variables' firsts' keys₁ o.written keys₂)
-      (we : Went (way_at o saved (word_at words i))
-      (record {
-        inside = o.inside;
-        left = o.left;
-        depth = o.depth;
-        pushed = o.pushed;
-        count = count;
-        from = o.from;
-        written = o.written + 1;
-      }) r saved' keys₂ keys₃)
-    where
-      acts : Stored (key (Do (act (puts_of s variables) (word_at words i))) ∷ []) keys₁ o.written keys₂ (o.written + 1)
-      acts = let a : o.count ≡ s.count = (opens s eo).count in record { after_is = rw a at ac.stored; end_is = refl }
-
-      puts_after_lem : take r.count variables' ≡ puts_after (puts_of s variables) (word_at words i)
-      puts_after_lem =
-          let a = (opens s eo).count in
-          let b = we.same_count in
-          rw (b, ← a) ac.puts
-
-      place_when : {b : Bool} → r.inside ≡ b → place_at r saved' ≡ cond b (inside r.left (saved_in saved' r.depth)) ended
-      place_when e = ap (λ b. cond b (inside r.left (saved_in saved' r.depth)) ended) e
-
-      -- the literal goes on, or ends with its Compares
-      pub closing_on : r.inside ≡ true → [] ≡ closing_keys o saved (puts_of s variables) (word_at words i)
-      unfolding closing_keys closing
-      closing_on e = ap (λ q. step_keys (closing q (puts_after (puts_of s variables) (word_at words i)) o.from)) (sym (place_when e) ∙ we.place)
-
-      pub closing_out : r.inside ≡ false → compare_keys (take count firsts') r.from ≡ closing_keys o saved (puts_of s variables) (word_at words i)
-      unfolding closing_keys closing
-      closing_out e =
-          let f : take count firsts' ≡ firsts_of (puts_after (puts_of s variables) (word_at words i)) =
-          ac.numbers ∙ ap firsts_of (rw we.same_count at puts_after_lem) in
-          ap₂ compare_keys f we.same_from
-          ∙ sym (compare_keys_lem (puts_after (puts_of s variables) (word_at words i)) o.from)
-          ∙ ap (λ q. step_keys (closing q (puts_after (puts_of s variables) (word_at words i)) o.from)) (sym (place_when e) ∙ we.place)
-
-      -- what the Compares ask
-      pub count_fits : length firsts' ≡ length firsts → count ≤ length firsts'
-      count_fits lf = let p = opens s eo in omega (arith, p.count, ac.high, R.count_low, R.few_words, R.firsts_size)
-
-      pub close_asks : r.inside ≡ false → length firsts' ≡ length firsts
-          → (r.from ≤ length (take count firsts')) × (length (take count firsts') ≤ slots) × Room (compare_keys (take count firsts') r.from) r.written keys₃
-      close_asks e lf =
-          let p = opens s eo in
-          let low : o.from ≤ s.count = p.from R.from_low in
-          let few : count ≤ length firsts' = count_fits lf in
-          let n : length (take count firsts') ≡ count = length-take-le count firsts' few in (
-            omega (arith, p.count, ac.low, we.same_from),
-            omega (arith, R.firsts_size),
-            omega (
-              arith,
-              word_room,
-              so.end_is,
-              stored_length so,
-              stored_length acts,
-              stored_length we.stored,
-              we.stored.end_is,
-              ap length (closing_out e),
-            ),
-          )
-
-      module _ {C keys₄ : List ℕ} {end : ℕ} (e_c : C ≡ closing_keys o saved (puts_of s variables) (word_at words i))
-          (s_c : Stored C keys₃ r.written keys₄ end) where
-        rest_is : to_come words (i + 1) (ended_at r end) variables' saved' ≡ after (drop (i + 1) words) o saved (puts_of s variables) (word_at words i)
-        unfolding to_come after
-        rest_is = rw (we.place, puts_after_lem, we.same_from, we.pushed)
-
-        pub advanced : Advanced words i s variables saved keys (ended_at r end) variables' saved' keys₄
-        advanced =
+        pub turned : Turned w s r
+        turned =
             record {
-              new = opening_keys s.inside ++
-                  (key (Do (act (puts_of s variables) (word_at words i))) ∷ (step_keys (way_at o saved (word_at words i)).steps ++ C));
-              comes = split ∙ rw (rest_is, ← e_c) (simp append_assoc);
-              stored = stored_append so (stored_append acts (stored_append we.stored s_c));
+              place = W.place ∙ ap (λ (t : Way). t.place) (way_is w O);
+              pushed = W.pushed ∙ ap (λ (t : Way). t.pushed) (way_is w O);
+              puts = puts_is;
+              from = W.from ∙ O.from;
+              orderly =
+                  record {
+                    saved_low = W.saved_low;
+                    from_low = omega (arith, begun_low (place_of s) s.puts s.from order.from_low, puts_grow s.puts w, ap length puts_is, W.from, O.from);
+                  };
             }
 
-        pub ready : length variables' ≡ length variables → length firsts' ≡ length firsts → length saved' ≡ length saved
-            → CompilingAt words (i + 1) (ended_at r end) variables' firsts' saved' keys₄
-        ready lv lf ls =
-            let p = opens s eo in
-            let low : o.from ≤ s.count = p.from R.from_low in
-            record {
-              few_words = R.few_words;
-              variables_size = lv ∙ R.variables_size;
-              firsts_size = lf ∙ R.firsts_size;
-              saved_size = ls ∙ R.saved_size;
-              numbers = rw we.same_count ac.numbers;
-              left_small = we.left_small;
-              depth_low = we.depth_low;
-              pushed_low = omega (arith, p.pushed, we.one_more, R.pushed_low);
-              count_low = omega (arith, p.count, ac.high, we.same_count, R.count_low);
-              from_low = omega (arith, p.count, ac.low, we.same_count, we.same_from);
-              room = omega (arith, R.room, simp length-append at (ap length advanced.comes), advanced.stored.end_is, stored_length advanced.stored);
-            }
+        ending_is : ending_keys w s ≡ step_keys (closing (place_of r) r.puts r.from)
+        ending_is = let t = turned in rw (t.place, t.puts, t.from)
 
-      -- the next word's spot
-      module _ (lv : length variables' ≡ length variables) (lf : length firsts' ≡ length firsts) (ls : length saved' ≡ length saved) where
-        pub turn_on : r.inside ≡ true
-            → CompilingAt words (i + 1) r variables' firsts' saved' keys₃ × Advanced words i s variables saved keys r variables' saved' keys₃
-        turn_on e = let n = stored_none keys₃ r.written in (ready (closing_on e) n lv lf ls, advanced (closing_on e) n)
+        -- the literal goes on, or ends with its Compares
+        pub ending_on : {b : Bool} → is_some r.left ≡ not b → b ≡ false → [] ≡ ending_keys w s
+        ending_on e f = sym (ending_is ∙ ap step_keys (none_closes r.left r.saved r.puts r.from e f))
 
-        pub turn_out : {keys₄ : List ℕ} {end : ℕ} → r.inside ≡ false → Stored (compare_keys (take count firsts') r.from) keys₃ r.written keys₄ end
-            → CompilingAt words (i + 1) (ended_at r end) variables' firsts' saved' keys₄
-            × Advanced words i s variables saved keys (ended_at r end) variables' saved' keys₄
-        turn_out e s_c = (ready (closing_out e) s_c lv lf ls, advanced (closing_out e) s_c)
+        pub ending_out : {b : Bool} {f : List ℕ} → is_some r.left ≡ not b → b ≡ true → f ≡ firsts_of r.puts → compare_keys f r.from ≡ ending_keys w s
+        unfolding closing
+        ending_out d e g =
+            ap (λ f. compare_keys f r.from) g
+            ∙ sym (compare_keys_lem r.puts r.from)
+            ∙ sym (ending_is ∙ ap (λ o. step_keys (closing (place_in o r.saved) r.puts r.from)) (none_left r.left d e))
+
+        pub puts_few : length r.puts ≤ length s.puts + 1
+        puts_few = omega (arith, puts_grow s.puts w, ap length puts_is)
+
+        module _ {C : List ℕ} (e : C ≡ ending_keys w s) where
+          pub ending_room : HasRoom (length (word_keys w s)) k₀ → HasRoom (length C) k₃
+          ending_room h = rw e (omega (arith, h, word_length w s, wrote w₁, wrote w₂, wrote w₃, ap (λ (t : Way). length (step_keys t.steps)) (way_is w O)))
+
+          pub word_written : {k₄ : Keys} → Writes C k₃ k₄ → Writes (word_keys w s) k₀ k₄
+          unfolding word_keys
+          word_written {k₄} w₄ =
+              let v : Writes (step_keys (way_of w s).steps) k₂ k₃ = rw (← way_is w O) w₃ in
+              let a : Writes (key (Do (act s.puts w)) ∷ []) k₁ k₂ = rw (← O.puts) w₂ in
+              let z : Writes (ending_keys w s) k₃ k₄ = rw (← e) w₄ in
+              writes_append w₁ (writes_append a (writes_append v z))
 
 -- ---- all words
 
 -- the words before i are compiled
-pub record Compiling (words before : List ℕ) (i : ℕ) (s : Spot) (variables firsts saved now : List ℕ) : Type 0 where
+pub record Compiling (words : List ℕ) (i : ℕ) (s : Spot) (before now : Keys) : Type 0 where
   pub low : i ≤ length words
-  pub ready : CompilingAt words i s variables firsts saved now
+  pub pushed_low : s.pushed ≤ i
+  pub puts_low : length s.puts ≤ i
+  pub orderly : Orderly s
   pub done : List ℕ
-  pub comes : keys words ≡ done ++ to_come words i s variables saved
-  pub stored : Stored done before 0 now s.written
+  pub comes : keys words ≡ done ++ to_come (drop i words) s
+  pub writes : Writes done before now
 
-abbrev first_spot : Spot
-first_spot = record { inside = false; left = 0; depth = 0; pushed = 0; count = 0; from = 0; written = 0 }
+abbrev pub first_spot : Spot
+first_spot = record { left = None; pushed = 0; from = 0; puts = []; saved = [] }
 
-all_to_come : (words variables saved : List ℕ) → keys words ≡ to_come words 0 first_spot variables saved
-unfolding to_come sequence
-all_to_come words variables saved = refl
-
-pub compiling_starts : {words before variables firsts saved : List ℕ} → length words ≤ max_words → max_keys ≤ length before → length variables ≡ max_words
-    → length firsts ≡ max_words → length saved ≡ max_words → Compiling words before 0 first_spot variables firsts saved before
-compiling_starts {words} {before} {variables} {firsts} {saved} few wide lv lf ls =
-    let e = all_to_come words variables saved in
-    record {
+pub compiling_starts : {words : List ℕ} {s : Spot} (k : Keys) → s ≡ first_spot → Compiling words 0 s k k
+unfolding sequence
+compiling_starts k e =
+    rw e
+    (record {
       low = omega arith;
-      ready =
-          record {
-            few_words = few;
-            variables_size = lv;
-            firsts_size = lf;
-            saved_size = ls;
-            numbers = refl;
-            left_small = omega arith;
-            depth_low = omega arith;
-            pushed_low = omega arith;
-            count_low = omega arith;
-            from_low = omega arith;
-            room = omega (arith, ap length e, length-map (sequence words) key, sequence_few words);
-          };
+      pushed_low = omega arith;
+      puts_low = omega arith;
+      orderly = record { saved_low = omega arith; from_low = omega arith };
       done = [];
-      comes = e;
-      stored = stored_none before 0;
-    }
+      comes = refl;
+      writes = writes_none k;
+    })
 
-pub compiling_goes_on : {words before variables firsts saved now variables' firsts' saved' now' : List ℕ} {i : ℕ} {s r : Spot}
-    → Compiling words before i s variables firsts saved now → i < length words → CompilingAt words (i + 1) r variables' firsts' saved' now'
-    → Advanced words i s variables saved now r variables' saved' now' → Compiling words before (i + 1) r variables' firsts' saved' now'
-compiling_goes_on C h R A =
-    record {
-      low = omega arith;
-      ready = R;
-      done = C.done ++ A.new;
-      comes = C.comes ∙ rw A.comes (sym (append_assoc C.done A.new _));
-      stored = stored_append C.stored A.stored;
-    }
+-- the keys to come are the word's own and those after it
+abbrev after : (w : ℕ) (ws : List ℕ) → Spot → List ℕ
+after w ws s = map key (sequence_from ws (way_of w s).place (puts_after s.puts w) (begun (place_of s) s.puts s.from) (way_of w s).pushed)
 
-none_to_come : (words : List ℕ) (i : ℕ) (s : Spot) (variables saved : List ℕ) → length words ≤ i → to_come words i s variables saved ≡ []
-unfolding to_come sequence_from
-none_to_come words i s variables saved h = rw (drop_of_length-le words h)
+comes_word : (w : ℕ) (ws : List ℕ) (s : Spot) → to_come (w ∷ ws) s ≡ word_keys w s ++ after w ws s
+unfolding sequence_from word_keys
+comes_word w ws s = simp (map-append, append_assoc)
 
-pub compiling_ends : {words before variables firsts saved now : List ℕ} {i : ℕ} {s : Spot} → Compiling words before i s variables firsts saved now
-    → length words ≤ i
-    → max_keys ≤ length before → Compiled words before s.written now
-compiling_ends {words} {before} {variables} {saved = saved} {i = i} {s = s} C h wide =
-    let e : keys words ≡ C.done = C.comes ∙ ap (λ l. C.done ++ l) (none_to_come words i s variables saved h) ∙ append-nil C.done in
-    let n : length C.done ≤ length before = omega (arith, ap length e, length-map (sequence words) key, sequence_few words, C.ready.few_words) in
-    record {
-      answer_is = omega (arith, C.stored.end_is, ap length e);
-      after_is = rw e (C.stored.after_is ∙ sets-eq C.done before 0 (omega arith) ∙ rw zero-add);
-    }
+module _ {words : List ℕ} {i : ℕ} {s : Spot} {before now : Keys} (C : Compiling words i s before now) where
+  comes_at : i < length words → keys words ≡ (C.done ++ word_keys (get_or words i 0) s) ++ after (get_or words i 0) (drop (i + 1) words) s
+  comes_at h =
+      C.comes
+      ∙ ap (λ l. C.done ++ l) (rw (add-one, drop-cons words i 0 h) (comes_word (get_or words i 0) (drop (suc i) words) s))
+      ∙ sym (append_assoc C.done _ _)
+
+  -- there is room for the word's keys
+  pub compiling_room : length words ≤ max_words → max_keys ≤ length before.words.now → before.written ≡ 0 → i < length words
+      → HasRoom (length (word_keys (get_or words i 0) s)) now
+  compiling_room few wide z h =
+      omega (
+        arith,
+        wrote C.writes,
+        simp length-append at (ap length (comes_at h)),
+        length-map (sequence words) key,
+        sequence_few words,
+      )
+
+  pub compiling_goes_on : {r : Spot} {next : Keys} → i < length words → Turned (get_or words i 0) s r → Writes (word_keys (get_or words i 0) s) now next
+      → Compiling words (i + 1) r before next
+  compiling_goes_on {r} h T W =
+      record {
+        low = omega arith;
+        pushed_low = omega (arith, T.pushed, way_grows (place_of s) (arity (get_or words i 0)) s.pushed, C.pushed_low);
+        puts_low = omega (arith, ap length T.puts, puts_grow s.puts (get_or words i 0), C.puts_low);
+        orderly = T.orderly;
+        done = C.done ++ word_keys (get_or words i 0) s;
+        comes = rw (T.place, T.puts, T.from, T.pushed) (comes_at h);
+        writes = writes_append C.writes W;
+      }
+
+  none_to_come : length words ≤ i → to_come (drop i words) s ≡ []
+  unfolding sequence_from
+  none_to_come h = rw (drop_of_length-le words h)
+
+  pub compiling_ends : length words ≤ i → length words ≤ max_words → max_keys ≤ length before.words.now → before.written ≡ 0
+      → Compiled words before.words.now now.written now.words.now
+  compiling_ends h few wide z =
+      let e : keys words ≡ C.done = C.comes ∙ ap (λ l. C.done ++ l) (none_to_come h) ∙ append-nil C.done in
+      let n : length C.done ≤ length before.words.now = omega (arith, ap length e, length-map (sequence words) key, sequence_few words) in
+      record {
+        answer_is = omega (arith, C.writes.stored.end_is, ap length e, z);
+        after_is = rw e (C.writes.stored.after_is ∙ sets-eq C.done before.words.now before.written (omega arith) ∙ rw (z, zero-add));
+      }

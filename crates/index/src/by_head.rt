@@ -29,14 +29,20 @@ pub(crate) fn walk_heads(
         return Ok(n);
     }
     let saved = reserve(cells, Above::First);
-    for j in 0..passes(tables, Above::First) {
-        if n >= budget {
-            return Err(End::Spent);
+    'tries: {
+        for j in 0..passes(tables, Above::First) {
+            if n >= budget {
+                break 'tries Err(End::Spent);
+            }
+            n += 1;
+            let here = begin(query, tables, cells, Above::First, Path::BEFORE, j);
+            let found = walk_head(words, heads, query, tables, cells, here, n, budget);
+            let Ok(next) = found else {
+                break 'tries found;
+            };
+            n = next;
         }
-        n += 1;
-        let here = begin(query, tables, cells, Above::First, Path::BEFORE, j);
-        n = walk_head(words, heads, query, tables, cells, here, n, budget)?;
+        release(cells, Above::First, saved);
+        Ok(n)
     }
-    release(cells, Above::First, saved);
-    Ok(n)
 }

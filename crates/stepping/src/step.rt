@@ -309,7 +309,8 @@ pub fn meet(
     act(operation(w), operand(w), words, query, tables, cells, head)
 }
 
-// What a word of the topmost row comes to, before the first candidate: only a First is sound there. Apart from `meet`, which has a head to stand at and may store.
+// What a word of the topmost row comes to, before the first candidate: only a First is sound there.
+// Apart from `meet`, which has a head to stand at and may store.
 pub fn meet_top(
     w: u64,
     room: usize,

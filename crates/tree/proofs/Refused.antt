@@ -12,10 +12,10 @@ refused_as r f h = let (e, is, same) = err_from_is_err_and r h in is ∙ ap Err 
 pub answer_as : {A : Type 0} {r : Result A Refusal} {v w : A} → r ≡ Ok v → v ≡ w → r ≡ Ok w
 answer_as is same = is ∙ ap Ok same
 
--- an answer that has no value is a refusal
-pub refusal_in : {A : Type 0} (r : Result A Refusal) → ((v : A) → r ≡ Ok v → ⊥) → (f : Refusal) × (r ≡ Err f)
+-- an answer that has no value has an error
+pub refusal_in : {A E : Type 0} (r : Result A E) → ((v : A) → r ≡ Ok v → ⊥) → (f : E) × (r ≡ Err f)
 refusal_in r none = go r none
   where
-    go : {A : Type 0} (r : Result A Refusal) → ((v : A) → r ≡ Ok v → ⊥) → (f : Refusal) × (r ≡ Err f)
+    go : {A E : Type 0} (r : Result A E) → ((v : A) → r ≡ Ok v → ⊥) → (f : E) × (r ≡ Err f)
     go (Err f) none = (f, refl)
     go (Ok v) none = absurd (none v refl)

@@ -31,60 +31,66 @@ pub fn walk(
     let above = Above::of(head);
     let saved = reserve(cells, above);
     let mut n = count;
-    for j in 0..passes(tables, above) {
-        if let Above::First = above {
-            if in_use(saved, j) {
-                continue;
-            }
-            if n >= budget {
-                return Err(End::Spent);
-            }
-            n += 1;
-        }
-        let mut here = begin(query, tables, cells, above, head, j);
-        let mut trail: u64 = 0;
-        let left = skip(words, 0, wanted(query, here));
-        let start = words.len() - left;
-        let mut rest = &words[start..];
-        // It hops by extents, so no `for` counts it.
-        while rest.len() > 0 {
-            let w = rest[0];
-            let visit = meet(w, rest.len(), query, tables, cells, here);
-            let size = extent(w);
-            let (to, undo) = match visit {
-                Visit::Stuck => return Err(End::Broken),
-                Visit::Hit => return Err(End::Found(operand(w), n)),
-                Visit::Fails => {
-                    rest = &rest[size..];
+    'tries: {
+        for j in 0..passes(tables, above) {
+            if let Above::First = above {
+                if in_use(saved, j) {
                     continue;
                 }
-                Visit::Tries => (Path::BEFORE, 0),
-                Visit::Below(head) => {
-                    if size == rest.len() {
-                        here = head;
-                        rest = &rest[1..];
+                if n >= budget {
+                    break 'tries Err(End::Spent);
+                }
+                n += 1;
+            }
+            let mut here = begin(query, tables, cells, above, head, j);
+            let mut trail: u64 = 0;
+            let left = skip(words, 0, wanted(query, here));
+            let start = words.len() - left;
+            let mut rest = &words[start..];
+            // It hops by extents, so no `for` counts it.
+            while rest.len() > 0 {
+                let w = rest[0];
+                let visit = meet(w, rest.len(), query, tables, cells, here);
+                let size = extent(w);
+                let (to, undo) = match visit {
+                    Visit::Stuck => break 'tries Err(End::Broken),
+                    Visit::Hit => break 'tries Err(End::Found(operand(w), n)),
+                    Visit::Fails => {
+                        rest = &rest[size..];
                         continue;
                     }
-                    (head, 0)
-                }
-                Visit::Stored(head, undo) => {
-                    if size == rest.len() && trail < Path::TRAIL {
-                        trail = trace(trail, undo);
-                        here = head;
-                        rest = &rest[1..];
-                        continue;
+                    Visit::Tries => (Path::BEFORE, 0),
+                    Visit::Below(head) => {
+                        if size == rest.len() {
+                            here = head;
+                            rest = &rest[1..];
+                            continue;
+                        }
+                        (head, 0)
                     }
-                    (head, undo)
-                }
-            };
-            n = walk(&rest[1..size], query, tables, cells, to, n, budget)?;
-            restore(cells, undo);
-            let more = skip(rest, size, wanted(query, here));
-            let next = rest.len() - more;
-            rest = &rest[next..];
+                    Visit::Stored(head, undo) => {
+                        if size == rest.len() && trail < Path::TRAIL {
+                            trail = trace(trail, undo);
+                            here = head;
+                            rest = &rest[1..];
+                            continue;
+                        }
+                        (head, undo)
+                    }
+                };
+                let found = walk(&rest[1..size], query, tables, cells, to, n, budget);
+                let Ok(next) = found else {
+                    break 'tries found;
+                };
+                n = next;
+                restore(cells, undo);
+                let more = skip(rest, size, wanted(query, here));
+                let next = rest.len() - more;
+                rest = &rest[next..];
+            }
+            unwind(cells, trail);
         }
-        unwind(cells, trail);
+        release(cells, above, saved);
+        Ok(n)
     }
-    release(cells, above, saved);
-    Ok(n)
 }

@@ -1,9 +1,7 @@
--- `compare_row` stores the Compares of one first put.
-use mathlib.Core.Path.{◌≡◌}
-use lib.ListN.{length}
-use Rattle.compiling.specs.Inner.Compiling.{Stored}
+-- `compare_row` writes the Compares of one first put.
+use Rattle.compiling.specs.Inner.Compiling.{Writes}
 use Rattle.compiling.proofs.Rows.{row_to}
 use Rattle.compiling.proofs.compare_row.Given as goal
 
 abbrev pub invariant-loop-k : goal.invariant-loop-k
-invariant-loop-k l = (length l.keys ≡ length l.initial.keys) × Stored (row_to l.firsts l.from l.m l.k) l.initial.keys l.written l.keys l.at
+invariant-loop-k l = Writes (row_to l.firsts l.from l.m l.k) l.initial.keys l.keys

@@ -2,5 +2,5 @@
 use Rattle.compiling.proofs.Turns.{Compiling}
 use Rattle.compiling.proofs.compile.Given as goal
 
-abbrev pub invariant-loop-i : goal.invariant-loop-i
-invariant-loop-i l = Compiling l.words l.initial.keys l.i l.s l.variables l.firsts l.saved l.keys
+abbrev pub invariant-loop-word : goal.invariant-loop-word
+invariant-loop-word l = Compiling l.words l.word-index l.spot l.initial.out l.out

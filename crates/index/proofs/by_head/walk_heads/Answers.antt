@@ -11,7 +11,7 @@ use Rattle.clause.specs.Inner.Tables.{at_count}
 use Rattle.cells.specs.Inner.Cells.{no_position, above_of, state_of, has_bit, count_in, Walkable}
 use Rattle.cells.specs.Inner.Cells.{use_limit, uses_of, saved_byte, reserved, candidate, kept_in, pass_head, passes_of}
 use Rattle.cells.specs.declared.Above.TheVariants.{First}
-use Rattle.std.proofs.lemmas.Result.{err_from_is_err_and}
+use Rattle.tree.proofs.Refused.{refusal_in}
 use Rattle.walking.proofs.Passes.{missed_of, walked_missed}
 use Rattle.walking.proofs.Turns.{walkable_literals, Entry, Between, Begun, entry_start, by_bit}
 use Rattle.walking.proofs.Turns.{between_size, between_room, between_literal, between_ends, between_spent}
@@ -67,8 +67,8 @@ begin-here-requires c =
     let e = entry c.args.words.now c.args.budget c.requires.2 c.requires.3 c.passes-j-end.ensures c.reserve-saved.ensures in
     (e.ready.whole, e.ready.tables, between_size e c.loop-j.invariant, between_literal e c.loop-j.invariant c.loop-j-test.true)
 
-pub walk_head-requires : goal.walk_head-requires
-walk_head-requires c =
+pub walk_head-found-requires : goal.walk_head-found-requires
+walk_head-found-requires c =
     let e = entry c.args.words.now c.args.budget c.requires.2 c.requires.3 c.passes-j-end.ensures c.reserve-saved.ensures in
     let p = begun e c.loop-j.invariant c.requires.3 c.loop-j-test.true c.if-n-budget.false c.begin-here.ensures in
     let r = begun_ready p in
@@ -78,12 +78,12 @@ pub loop-j-preserved : goal.loop-j-preserved
 loop-j-preserved c =
     let e = entry c.args.words.now c.args.budget c.requires.2 c.requires.3 c.passes-j-end.ensures c.reserve-saved.ensures in
     let p = begun e c.loop-j.invariant c.requires.3 c.loop-j-test.true c.if-n-budget.false c.begin-here.ensures in
-    let w = c.in_ok-n.ensures in
+    let w = rw c.in-Ok.is at c.walk_head-found.ensures in
     pass_missed p (missed_of _ _ _ w.comes) (w.back _ refl)
 
 -- what the passes have found is what the walk has
-pub returns : goal.returns
-returns c =
+pub returns-after-loop-j : goal.returns-after-loop-j
+returns-after-loop-j c =
     let e = entry c.args.words.now c.args.budget c.requires.2 c.requires.3 c.passes-j-end.ensures c.reserve-saved.ensures in
     walked_top c.args.words.now c.args.query.now c.args.budget c.requires.0 c.requires.1.tree (omega (arith, c.if-words-eq0.false))
     (between_ends e c.loop-j.invariant c.loop-j-test.false c.release.ensures)
@@ -94,11 +94,11 @@ returns-then-n-budget c =
     walked_top c.args.words.now c.args.query.now c.args.budget c.requires.0 c.requires.1.tree (omega (arith, c.if-words-eq0.false))
     (between_spent e c.loop-j.invariant refl c.loop-j-test.true (unused e c.requires.3 c.loop-j-test.true) c.if-n-budget.true)
 
-pub returns-in_err-n : goal.returns-in_err-n
-returns-in_err-n c =
+pub returns-in_default : goal.returns-in_default
+returns-in_default c =
     let e = entry c.args.words.now c.args.budget c.requires.2 c.requires.3 c.passes-j-end.ensures c.reserve-saved.ensures in
     let p = begun e c.loop-j.invariant c.requires.3 c.loop-j-test.true c.if-n-budget.false c.begin-here.ensures in
-    let r = err_from_is_err_and c.from_residual.result c.from_residual.ensures.1 in
-    rw (r.1, r.2)
+    let r = refusal_in c.walk_head-found.result c.in_default.not-Ok in
+    rw r.1
     (walked_top c.args.words.now c.args.query.now c.args.budget c.requires.0 c.requires.1.tree (omega (arith, c.if-words-eq0.false))
-    (pass_ends p (begun_ready p).0.size refl c.in_err-n.ensures))
+    (pass_ends p (begun_ready p).0.size refl (rw r.1 at c.walk_head-found.ensures)))

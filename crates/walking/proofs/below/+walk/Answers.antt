@@ -21,7 +21,7 @@ use Rattle.walking.proofs.Walking.{node_ends, node_missed, fits_fails, call_fits
 use Rattle.walking.proofs.Turns.{small, walkable_literals, Entry, Between, Begun, first_few, entry_start}
 use Rattle.walking.proofs.Turns.{between_size, between_room, between_literal, between_over, between_ends, between_spent}
 use Rattle.walking.proofs.Turns.{begun_ready, pass_missed, pass_broken, pass_found, pass_ends}
-use Rattle.std.proofs.lemmas.Result.{err_from_is_err_and}
+use Rattle.tree.proofs.Refused.{refusal_in}
 use Rattle.walking.proofs.below.+walk.Goals as goal
 use Rattle.walking.proofs.below.+walk.Goals.{in-First+else-in_use+else-n-budget, in_default}
 use Rattle.walking.proofs.below.+walk.Goals.{in-Tries, in-Below+else-size-rest, in-Stored+else-size-rest-2}
@@ -168,8 +168,8 @@ slice_bounds-walk-end t c =
     ] in
     (call_fits w on.0).1
 
-pub walk-requires : goal.walk-requires
-walk-requires t c =
+pub walk-found-requires : goal.walk-found-requires
+walk-found-requires t c =
     let w = word c.loop-rest.invariant.0 c.loop-rest-test.true c.extent-size.ensures c.meet-visit.ensures in
     let on : Onward c.meet-visit.result c.match-visit.to =
     elim c.match-visit.branch [
@@ -203,7 +203,7 @@ loop-rest-preserved t c =
       | in-Stored+else-size-rest-2 w ↦ onward_stored w.in-Stored.is w.to-is
     ] in
     let i = c.loop-rest.invariant.1 in
-    (node_missed w on.0 c.in_ok-n.ensures on.1 i c.wanted-in-loop-rest.ensures.0 c.skip-more.ensures.1 c.restore.ensures, i)
+    (node_missed w on.0 (rw c.in-Ok.is at c.walk-found.ensures) on.1 i c.wanted-in-loop-rest.ensures.0 c.skip-more.ensures.1 c.restore.ensures, i)
 
 pub loop-j-preserved : goal.loop-j-preserved
 loop-j-preserved t c =
@@ -216,8 +216,8 @@ loop-j-preserved t c =
     let w = c.loop-rest.invariant.0 in
     pass_missed p (walking_end w c.loop-rest-test.false) (c.unwind.ensures ∙ w.undo)
 
-pub returns : goal.returns
-returns t c =
+pub returns-after-loop-j : goal.returns-after-loop-j
+returns-after-loop-j t c =
     let e = entry c.args.words.now c.args.budget c.args.count c.requires c.of-above.ensures c.passes-j-end.ensures c.reserve-saved.ensures in
     between_ends e c.loop-j.invariant c.loop-j-test.false c.release.ensures
 
@@ -248,8 +248,8 @@ returns-in-Hit t c =
     let w = word c.loop-rest.invariant.0 c.loop-rest-test.true c.extent-size.ensures c.meet-visit.ensures in
     pass_found p (met_size w) _ (node_hit w c.in-Hit.is) c.operand.ensures
 
-pub returns-in_err-n : goal.returns-in_err-n
-returns-in_err-n t c =
+pub returns-in_default-found : goal.returns-in_default-found
+returns-in_default-found t c =
     let e = entry c.args.words.now c.args.budget c.args.count c.requires c.of-above.ensures c.passes-j-end.ensures c.reserve-saved.ensures in
     let p = begun c.match-above.n e c.loop-j.invariant c.loop-j-test.true
     (elim c.match-above.branch [
@@ -263,5 +263,5 @@ returns-in_err-n t c =
       | in-Below+else-size-rest w ↦ onward_below w.in-Below.is w.to-is
       | in-Stored+else-size-rest-2 w ↦ onward_stored w.in-Stored.is w.to-is
     ] in
-    let r = err_from_is_err_and c.from_residual.result c.from_residual.ensures.1 in
-    rw (r.1, r.2) (pass_ends p (met_size w) (node_ends w on.0 c.in_err-n.ensures) c.in_err-n.ensures)
+    let r = refusal_in c.walk-found.result c.in_default-found.not-Ok in
+    rw r.1 (pass_ends p (met_size w) (node_ends w on.0 (rw r.1 at c.walk-found.ensures)) (rw r.1 at c.walk-found.ensures))

@@ -7,11 +7,12 @@ use borrow.Author.Tests.{tests}
 use Rattle.std.specs.Prelude.{unwrap_or}
 use Rattle.std.proofs.lemmas.Iterator.{YieldsList-from_slice}
 use Rattle.std.proofs.lemmas.Iterator.Search.{position_from_yields_List}
-use Rattle.compiling.proofs.Puts.{first_found}
-use Rattle.compiling.proofs.first_put.Goals as goal
+use Rattle.compiling.proofs.Putting.{first_found}
+use Rattle.compiling.proofs.puts.first_put.Goals as goal
 
 pub returns : goal.returns
 returns c =
     let us = c.args.variables.now in
-    let e = position_from_yields_List (λ u. eqb u c.args.v) _ _ c.position.result c.position.ensures.ran (YieldsList-from_slice us cc) (λ x b q k. search (rules, tests)) in
+    let ran = c.position.ensures.ran in
+    let e = position_from_yields_List (λ u. eqb u c.args.v) _ _ c.position.result ran (YieldsList-from_slice us cc) (λ x b q k. search (rules, tests)) in
     c.unwrap_or.ensures ∙ ap (λ o. unwrap_or o (length us)) e ∙ first_found c.args.v us

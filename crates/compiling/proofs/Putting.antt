@@ -7,7 +7,7 @@ use native.Mathlib.Nat.{mod-eq_of_lt}
 use native.Mathlib.Omega.{arith}
 use native.Mathlib.Numerals.{add-one, one-add}
 use lib.ListN.{length, get_or, take, set}
-use lib.Seq.{take-suc-set, length-take-le}
+use lib.Seq.{take-suc-set}
 use lib.Dec.{eqb}
 use Rattle.std.proofs.lemmas.List.Recursion.{is_position_or_len}
 use mathlib.Core.Bool.{Bool, true, false, cond}
@@ -16,9 +16,10 @@ use Rattle.std.specs.Prelude.{position, unwrap_or, Some, None}
 use Rattle.std.specs.List.{position_or_len}
 use borrow.Author.Tests.{eq-eqb, ltb-false}
 use Rattle.clause.specs.Word.{kind, arity, sort_by, sort, variable, if_variable}
-use Rattle.machine.specs.Instr.{key}
+use Rattle.machine.specs.Instr.{Do, key}
+use Rattle.machine.specs.Machine.{slots}
 use Rattle.machine.specs.Compile.{first, act, puts_after}
-use Rattle.compiling.specs.Inner.Compiling.{firsts_of, Acted}
+use Rattle.compiling.specs.Inner.Rows.{firsts_of, Numbered}
 use Rattle.machine.proofs.Compares.{first_le}
 use Rattle.machine.proofs.Agree.{first_append}
 
@@ -85,31 +86,30 @@ other_word {A} w h n x y = go (w / 0x4000 % 4) (w / 0x800 % 8) refl refl
     go (suc zero) (suc a) e f = refl
     go (suc (suc k)) a e f = refl
 
--- a variable is put
-module _ (w count number : ℕ) (variables firsts keys : List ℕ) (at : ℕ) (i : count < length variables) (j : count < length firsts) where
-  pub acted_put : w / 0x800 ≡ 8 → take count firsts ≡ firsts_of (take count variables) → number ≡ first w (take count variables)
-      → Acted w count variables (count + 1) (set variables count w) (set firsts count number) keys at (set keys at (0x4_0000_0000 + count))
-  unfolding puts_after act key
-  acted_put e f g =
-      let within : count ≤ length variables = omega arith in
-      let p : take (count + 1) (set variables count w) ≡ take count variables ++ (w ∷ []) = rw (add-one, take-suc-set variables count w i) in
+-- one more variable is put: its number is that of its first put
+pub put_one : (w count number : ℕ) (variables firsts : List ℕ) → count < length variables → count < length firsts → count < slots
+    → Numbered count variables firsts → number ≡ first w (take count variables)
+    → Numbered (count + 1) (set variables count w) (set firsts count number)
+    × (take (count + 1) (set variables count w) ≡ take count variables ++ (w ∷ []))
+put_one w count number variables firsts i j few N g =
+    let p : take (count + 1) (set variables count w) ≡ take count variables ++ (w ∷ []) = rw (add-one, take-suc-set variables count w i) in
+    let f = N.numbers in (
       record {
-        puts = p ∙ rw (variable_word_lem w e);
+        few = omega arith;
         numbers = rw (add-one, take-suc-set firsts count number j, ← add-one, p, firsts_snoc, f, g);
-        stored = rw (variable_word_lem w e, length-take-le count variables) (ap (λ k. set keys at k) (omega arith));
-        low = omega arith;
-        high = omega arith;
-      }
+      },
+      p,
+    )
 
--- any other word is checked
-pub acted_check : (w count : ℕ) (variables firsts keys : List ℕ) (at : ℕ) → w < 0x1_0000 → w / 0x800 ≢ 8 → take count firsts ≡ firsts_of (take count variables)
-    → Acted w count variables count variables firsts keys at (set keys at (0x7_0000_0000 + w))
+-- the instruction of a variable, and of any other word
+pub act_variable : (puts : List ℕ) (w : ℕ) → w / 0x800 ≡ 8
+    → (puts ++ (w ∷ []) ≡ puts_after puts w) × (0x4_0000_0000 + length puts ≡ key (Do (act puts w)))
 unfolding puts_after act key
-acted_check w count variables firsts keys at h n f =
-    record {
-      puts = sym (ap (λ l. take count variables ++ l) (other_word w h n (w ∷ []) []) ∙ append-nil (take count variables));
-      numbers = f;
-      stored = rw (other_word w h n) (ap (λ k. set keys at k) (omega arith));
-      low = omega arith;
-      high = omega arith;
-    }
+act_variable puts w e = (rw (variable_word_lem w e), rw (variable_word_lem w e) (omega arith))
+
+pub act_other : (puts : List ℕ) (w : ℕ) → w < 0x1_0000 → w / 0x800 ≢ 8 → (puts ≡ puts_after puts w) × (0x7_0000_0000 + w ≡ key (Do (act puts w)))
+unfolding puts_after act key
+act_other puts w h n = (
+  sym (ap (λ l. puts ++ l) (other_word w h n (w ∷ []) []) ∙ append-nil puts),
+  rw (other_word w h n) (omega arith),
+)
