@@ -22,7 +22,6 @@ use Rattle.tree.specs.Laid.{used_of, sized, well_laid, decode, region}
 use Rattle.tree.specs.Inner.Cut.{locate}
 use Rattle.tree.specs.Entries.{entry}
 use Rattle.tree.specs.Changes.{Change, refuse, change, insert_into}
-use Rattle.tree.specs.Refusal.{code_of}
 use Rattle.tree.specs.Calls.{Called, changed, insertion}
 use Rattle.tree.specs.Inner.ByWords.{insert_by_words}
 use Rattle.tree.specs.declared.Refusal.{Refusal}
@@ -112,9 +111,9 @@ module _ {S K c : List ℕ} {n : ℕ} (g : Insertable S K c n) where
   unfolding insertion
   by_tree = rw (steady_sized g.steady, g.accepts.1, steady_laid g.steady)
 
-  pub keep_marked : {code : ℕ} → get_or K n 0 ≡ taken → code ≡ code_of NumberTaken → record { outcome = Refused code; removed = []; slice = S } ≡ entered [] S (of c n)
+  pub keep_marked : get_or K n 0 ≡ taken → record { outcome = Refused NumberTaken; removed = []; slice = S } ≡ entered [] S (of c n)
   unfolding entered insert_into
-  keep_marked m p = let (ks, e) = number_found m in rw (by_tree, e, p, insert_into)
+  keep_marked m = let (ks, e) = number_found m in rw (by_tree, e, insert_into)
 
   -- the keys are those of the clause, and they are inserted under a number that is not marked
   module _ {ks R : List ℕ} {r : Result Done Refusal} (e : ks ≡ keys c)
@@ -124,12 +123,12 @@ module _ {S K c : List ℕ} {n : ℕ} (g : Insertable S K c n) where
         let l : n < 2 ^ 32 = omega (arith, g.number) in
         w ∙ rw e (sym (insertion_words S (steady_sized g.steady) (steady_laid g.steady) c n g.accepts.0 g.accepts.1 g.words l))
 
-    pub keep_refused : {code : ℕ} (f : Refusal) → r ≡ Err f → code ≡ code_of f → record { outcome = Refused code; removed = []; slice = R } ≡ entered [] S (of c n)
-    keep_refused {code} f q p =
+    pub keep_refused : (f : Refusal) → r ≡ Err f → record { outcome = Refused f; removed = []; slice = R } ≡ entered [] S (of c n)
+    keep_refused f q =
         let t = called ∙ by_tree in
         let y : Change = insert_into (length S) (decode S) (entry (record { number = n; clause = c })) in
         let same : R ≡ S = ap (λ (x : Called). x.slice) t ∙ change_left S y f (sym (ap (λ (x : Called). x.answer) t) ∙ q) in
-        ap (λ (T : List ℕ). record { outcome = Refused code; removed = []; slice = T }) same ∙ enters_refused S [] (of c n) refl called f q p
+        ap (λ (T : List ℕ). record { outcome = Refused f; removed = []; slice = T }) same ∙ enters_refused S [] (of c n) refl called f q
 
     pub keep_kept : {used : ℕ} → ((f : Refusal) → r ≡ Err f → ⊥) → used ≡ used_of (get_or R 0 0)
         → record { outcome = Kept used; removed = []; slice = R } ≡ entered [] S (of c n)
@@ -137,9 +136,9 @@ module _ {S K c : List ℕ} {n : ℕ} (g : Insertable S K c n) where
 
   -- ---- in place of kept clauses
 
-  pub exchange_marked : {code : ℕ} (ns : List ℕ) → get_or K n 0 ≡ taken → code ≡ code_of NumberTaken
-      → record { outcome = Refused code; removed = []; slice = S } ≡ unless_taken (find n (decode S)) S (entered ns S (of c n))
-  exchange_marked ns m p = let (ks, e) = number_found m in rw (e, p)
+  pub exchange_marked : (ns : List ℕ) → get_or K n 0 ≡ taken
+      → record { outcome = Refused NumberTaken; removed = []; slice = S } ≡ unless_taken (find n (decode S)) S (entered ns S (of c n))
+  exchange_marked ns m = let (ks, e) = number_found m in rw e
 
   pub exchange_free : (ns : List ℕ) → get_or K n 0 ≢ taken → entered ns S (of c n) ≡ unless_taken (find n (decode S)) S (entered ns S (of c n))
   exchange_free ns m = rw (number_missing m)
@@ -196,10 +195,10 @@ module _ {S K c : List ℕ} {n : ℕ} (g : Insertable S K c n) (L : List ℕ) {M
       ap (λ (b : Backed). replaced_as b.answer b.list S (of c n)) w
       ∙ made_apart S (of c n) L (replicate list_words 0) (same ∙ sym (length-replicate {A = ℕ} list_words 0))
 
-  pub back_refused : {code : ℕ} (f : Refusal) → r ≡ Err f → code ≡ code_of f
-      → CameOut (replaced S (of c n)) n K (record { outcome = Refused code; removed = 0 }) M S K
-  back_refused f e p =
-      record { many = omega arith; answer = rw p (sym (ap (λ (b : Result Listed Refusal). replaced_as b M S (of c n)) e) ∙ is_replaced); marking = refl }
+  pub back_refused : (f : Refusal) → r ≡ Err f
+      → CameOut (replaced S (of c n)) n K (record { outcome = Refused f; removed = 0 }) M S K
+  back_refused f e =
+      record { many = omega arith; answer = sym (ap (λ (b : Result Listed Refusal). replaced_as b M S (of c n)) e) ∙ is_replaced; marking = refl }
 
   -- the numbers that are listed
   lists : ListsKept S g.steady.pairs c budget L
@@ -251,10 +250,10 @@ not_covered S c b W k e = go (sized S) (shape c) refl e
     go false x p e = apart cc
 
 module _ (v : Setting) (S c : List ℕ) (n : ℕ) {r : Result Verdict Refusal} (answers : r ≡ (query S c budget (replicate witness_words 0)).answer) where
-  pub asked_refused : {code : ℕ} {K M : List ℕ} (f : Refusal) → r ≡ Err f → code ≡ code_of f
-      → CameOut (answer_to v S (of c n)) n K (record { outcome = Refused code; removed = 0 }) M S K
+  pub asked_refused : {K M : List ℕ} (f : Refusal) → r ≡ Err f
+      → CameOut (answer_to v S (of c n)) n K (record { outcome = Refused f; removed = 0 }) M S K
   unfolding answer_to
-  asked_refused f e p = record { many = omega arith; answer = rw (← answers, e, p); marking = refl }
+  asked_refused f e = record { many = omega arith; answer = rw (← answers, e); marking = refl }
 
   pub asked_struck : {K M : List ℕ} (m k : ℕ) → r ≡ Ok (Covered m k) → CameOut (answer_to v S (of c n)) n K (record { outcome = Struck m k; removed = 0 }) M S K
   unfolding answer_to

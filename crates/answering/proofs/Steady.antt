@@ -28,6 +28,7 @@ use Rattle.book.proofs.Saved.{saved_is_made, passed_saved}
 use Rattle.record.specs.Answer.{tree_words, Record, Answered, left, answer_to, calls_for}
 use Rattle.record.specs.Marks.{number_count, taken, freed, freeing, marked}
 use Rattle.record.specs.Ruled.{pair_of, Numbered, without_all}
+use Rattle.tree.specs.declared.Refusal.{Refusal}
 use Rattle.record.specs.declared.Setting.{Setting}
 use Rattle.record.specs.declared.Outcome.{Outcome}
 use Rattle.record.specs.declared.Outcome.TheVariants.{Refused}
@@ -225,8 +226,8 @@ module _ (v : Setting) {S m : List ℕ} (h : Steady S m) (x : Record) (w : Narro
       }
 
 -- one that does not go in leaves all as it is
-pub goes_left : {S m : List ℕ} → Steady S m → (n code : ℕ) → GoesOn S m n (left (Refused code) S)
-goes_left h n code = record { steady = h; small = none; few = omega arith; swap = omega arith; counts = λ t e. e }
+pub goes_left : {S m : List ℕ} → Steady S m → (n : ℕ) (f : Refusal) → GoesOn S m n (left (Refused f) S)
+goes_left h n f = record { steady = h; small = none; few = omega arith; swap = omega arith; counts = λ t e. e }
 
 -- the fresh slice is that of no pairs
 pub fresh_standing : Standing [] (replicate tree_words 0)

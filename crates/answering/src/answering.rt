@@ -50,7 +50,7 @@ impl<'a> Book<'a> {
     {
         match self.query(words) {
             Err(refusal) => Came {
-                outcome: Outcome::Refused(refusal.code()),
+                outcome: Outcome::Refused(refusal),
                 removed: 0,
             },
             Ok(Verdict::Covered(covering, candidates)) => Came {

@@ -31,7 +31,7 @@ impl<'a> Book<'a> {
     {
         let mark = number as usize;
         if self.marks[mark] == Mark::TAKEN {
-            return Outcome::Refused(Refusal::NumberTaken.code());
+            return Outcome::Refused(Refusal::NumberTaken);
         }
         let count = compile(words, self.keys);
         let head = words[0] as usize;
@@ -41,7 +41,7 @@ impl<'a> Book<'a> {
             self.marks[mark] = Mark::TAKEN;
             return Outcome::Kept(Tree::used(self.tree[0]) as u64);
         };
-        Outcome::Refused(refusal.code())
+        Outcome::Refused(refusal)
     }
 
     // Takes a record in for the clauses of some numbers; the number of the record is judged before these go.
@@ -57,7 +57,7 @@ impl<'a> Book<'a> {
     {
         if self.marks[number as usize] == Mark::TAKEN {
             return Came {
-                outcome: Outcome::Refused(Refusal::NumberTaken.code()),
+                outcome: Outcome::Refused(Refusal::NumberTaken),
                 removed: 0,
             };
         }
@@ -87,7 +87,7 @@ impl<'a> Book<'a> {
     {
         match self.list_subsumed(words, list) {
             Err(refusal) => Came {
-                outcome: Outcome::Refused(refusal.code()),
+                outcome: Outcome::Refused(refusal),
                 removed: 0,
             },
             Ok(listed) => self.exchange(&list[..listed.count], words, number),

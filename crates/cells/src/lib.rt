@@ -36,10 +36,11 @@ impl Path {
     // How many cells there are: any byte is the index of one.
     pub const CELLS: usize = 256;
 
-    // What stands for no position.
+    // What stands for no position: a byte like any cell, where an Option would take two.
     pub const NONE: usize = 255;
 
     // The head that is handed to the words below a First: none, each candidate has its own.
+    // A number: the walk with an enum in its place was tried and takes 1 to 3 % more instructions.
     pub const BEFORE: usize = Path::NONE;
 
     // The literals of a query as bits are below this.

@@ -30,6 +30,7 @@ pub fn skip(words: &[u64], at: usize, key: u64) -> usize
     requires { (at ≤ length words.now) × IsCheck key }
     ensures { (result ≤ length words.now) × Skipped words.now at key (length words.now - result) }
 {
+    // It hops by extents, so no `for` counts it.
     let mut i = at;
     let mut to = at;
     while to < words.len() {

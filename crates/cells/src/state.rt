@@ -48,6 +48,7 @@ pub fn unwind(cells: &mut [u8; Path::CELLS], trail: u64)
     requires { length cells.old ≡ cell_count }
     ensures { cells.new ≡ unwound trail cells.old }
 {
+    // The trail is divided down, so no `for` counts it.
     let mut left = trail;
     while left > 0 {
         restore(cells, left);

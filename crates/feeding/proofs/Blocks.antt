@@ -17,6 +17,8 @@ use Rattle.record.specs.Answer.{Answered, answer_to}
 use Rattle.record.specs.Marks.{number_count}
 use Rattle.record.specs.Output.{counted}
 use Rattle.record.specs.Counters.{counters_after}
+use Rattle.clause.specs.declared.Fault.TheVariants.{BadLength}
+use Rattle.tree.specs.declared.Refusal.TheVariants.{BadClause}
 use Rattle.record.specs.declared.Setting.{Setting}
 use Rattle.record.specs.declared.Outcome.{Outcome}
 use Rattle.record.specs.declared.Outcome.TheVariants.{Kept, Struck, Refused}
@@ -47,9 +49,9 @@ finishing_goes : (v : Setting) (m : Store) → Steady m.slice m.marks → (n cou
 unfolding finishing
 finishing_goes v m h n count l w = go (ltb max_words count)
   where
-    go : (b : Bool) → GoesOn m.slice m.marks n (cond b (record { outcome = Refused 3; removed = []; slice = m.slice })
+    go : (b : Bool) → GoesOn m.slice m.marks n (cond b (record { outcome = Refused (BadClause BadLength); removed = []; slice = m.slice })
         (answer_to v m.slice (record { number = n; words = take count m.words })))
-    go true = goes_left h n 3
+    go true = goes_left h n (BadClause BadLength)
     go false = goes_on v h (record { number = n; words = take count m.words }) (l, all_take count w)
 
 -- a whole record came out, and so it goes on
@@ -90,7 +92,7 @@ module _ {v : Setting} {n count : ℕ} {t : Totals} {m : Store} {came : Came} {l
       go : (o : Outcome) → Within (counted o came.removed t) k l
       go (Kept used) = record { read = omega (arith, w.read); ruled = omega (arith, w.ruled, removed_few) }
       go (Struck i j) = record { read = omega (arith, w.read); ruled = omega (arith, w.ruled) }
-      go (Refused code) = record { read = omega (arith, w.read); ruled = omega (arith, w.ruled) }
+      go (Refused f) = record { read = omega (arith, w.read); ruled = omega (arith, w.ruled) }
 
 -- fewer stay within a limit too
 pub within_fewer : {t : Totals} {k n l : ℕ} → k ≤ n → Within t n l → Within t k l

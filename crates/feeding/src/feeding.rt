@@ -65,7 +65,7 @@ fn outcome_of(
     let end = heading.count as usize;
     if end > Clause::WORDS {
         return Came {
-            outcome: Outcome::Refused(Refusal::BadClause(Fault::BadLength).code()),
+            outcome: Outcome::Refused(Refusal::BadClause(Fault::BadLength)),
             removed: 0,
         };
     }

@@ -13,6 +13,8 @@ use Rattle.record.specs.Counters.{counter_words, counters_after, shown_from, sho
 use Rattle.record.specs.Sheet.{Bytes, Sheets, NoStrikeIsWrong}
 use Rattle.record.specs.Shuffled.{AllCovered, PagesShuffled, SameClausesKept}
 use Rattle.record.specs.Tallies.{most_bytes, Tallies}
+use Rattle.clause.specs.declared.Fault.TheVariants.{BadLength}
+use Rattle.tree.specs.declared.Refusal.TheVariants.{BadClause}
 use Rattle.record.specs.declared.Setting.{Setting}
 use Rattle.record.specs.declared.Outcome.TheVariants.{Refused}
 use Rattle.record.specs.declared.Totals.{Totals}
@@ -56,9 +58,9 @@ finished_as a n t m =
       text = lines_for n a.removed a.outcome;
     }
 
--- what becomes of a whole record of `count` words; one of more than 64 was skipped over, with code 3
+-- what becomes of a whole record of `count` words; one of more than 64 was skipped over, and is refused for its length
 unfoldable pub finishing : Setting → (number count : ℕ) (words slice : List ℕ) → Answered
-finishing v n count ws T = cond (ltb max_words count) (left (Refused 3) T) (answer_to v T (record { number = n; words = take count ws }))
+finishing v n count ws T = cond (ltb max_words count) (left (Refused (BadClause BadLength)) T) (answer_to v T (record { number = n; words = take count ws }))
 
 -- a whole record ended
 unfoldable pub record_ended : Setting → (number count : ℕ) → Totals → Store → Fed

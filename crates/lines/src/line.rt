@@ -19,7 +19,7 @@ impl<'a> Page<'a> {
                 self.put_named(b" struck ", covering as u64);
                 self.put_named(b" ", candidates);
             }
-            Outcome::Refused(code) => self.put_named(b" refused ", code as u64),
+            Outcome::Refused(refusal) => self.put_named(b" refused ", refusal.code() as u64),
         }
     }
 

@@ -22,6 +22,7 @@ pub(crate) fn walk_top(
 {
     let mut count: u64 = 0;
     let mut rest = words;
+    // It hops by extents, so no `for` counts it.
     while rest.len() > 0 {
         let w = rest[0];
         let Visit::Tries = meet_top(w, rest.len(), query, tables, cells) else {

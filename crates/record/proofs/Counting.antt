@@ -71,12 +71,12 @@ untouched n (Kept used) c i h a = refl
 untouched n (Struck m k) c i h a =
     let b = a m (λ e. h k (ap (λ (j : ℕ). Struck j k) e)) in
     raise_other (raised c (strikes_at m) 1) (candidates_at m) i k b.1 ∙ raise_other c (strikes_at m) i 1 b.0
-untouched n (Refused code) c i h a = refl
+untouched n (Refused r) c i h a = refl
 
 length_after : (o : Outcome) (c : List ℕ) → length (counters_after o c) ≡ length c
 length_after (Kept used) c = refl
 length_after (Struck n k) c = length_raised (raised c (strikes_at n) 1) (candidates_at n) k ∙ length_raised c (strikes_at n) 1
-length_after (Refused code) c = refl
+length_after (Refused r) c = refl
 
 or_none : (b : Bool) → b ≡ (b || false)
 or_none true = refl
@@ -107,7 +107,7 @@ length_freeing (n ∷ ns) m = length_freeing ns (set m n (freed (get_or m n 0)))
 
 one_mark : (n x : ℕ) (ns : List ℕ) (o : Outcome) (m : List ℕ) → n < length m → ltb 0 (get_or (marked o x ns m) n 0) ≡ (ltb 0 (get_or m n 0) || (was_kept o && eqb x n))
 one_mark n x ns (Struck i k) m h = or_none (ltb 0 (get_or m n 0))
-one_mark n x ns (Refused code) m h = or_none (ltb 0 (get_or m n 0))
+one_mark n x ns (Refused r) m h = or_none (ltb 0 (get_or m n 0))
 one_mark n x ns (Kept used) m h = go (ℕ_discrete x n)
   where
     or_all : (b : Bool) → true ≡ (b || true)
@@ -122,7 +122,7 @@ one_mark n x ns (Kept used) m h = go (ℕ_discrete x n)
 pub length_marked : (o : Outcome) (x : ℕ) (ns m : List ℕ) → length (marked o x ns m) ≡ length m
 length_marked (Kept used) x ns m = length-set (freeing ns m) x 1 ∙ length_freeing ns m
 length_marked (Struck n k) x ns m = refl
-length_marked (Refused code) x ns m = refl
+length_marked (Refused r) x ns m = refl
 
 -- ---- some records
 

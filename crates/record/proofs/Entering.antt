@@ -17,7 +17,6 @@ use Rattle.tree.specs.Laid.{decode}
 use Rattle.tree.specs.Entries.{Pair, entry}
 use Rattle.tree.specs.Changes.{Change, insert_into}
 use Rattle.tree.specs.Calls.{Called, changed, insertion}
-use Rattle.tree.specs.Refusal.{code_of}
 use Rattle.walk.specs.Walk.{Answer, covered, not_covered, spent, broken, up_to, walk}
 use Rattle.walk.specs.Query.{machine, witness_words, answer_by, query}
 use Rattle.walk.specs.Covering.{Subsumed, IsCovered, IsNotCovered, IsSpent, Answers}
@@ -304,7 +303,7 @@ module _ (v : Setting) (K : List Pair) (h : Holds tree_words K (tree_of K)) (x :
     fate_kinds (inr (inr e)) = fate_as (Err (Spent budget)) e (fate_out (λ ns. refuses (over_budget (q, s) (asked.spends.0 e))))
 
   -- a clause that is not accepted takes nothing out
-  fate_faulty : (g : Fault) → shape x.words ≡ Err g → FateOf (left (Refused (code_of (BadClause g))) T)
+  fate_faulty : (g : Fault) → shape x.words ≡ Err g → FateOf (left (Refused (BadClause g)) T)
   fate_faulty g e = record { cleared = []; clears = λ a. absurd (shape_faulty e a.1); course = refuses (faulty g e) }
 
   pub fate : Fate v K x (answer_to v T x).outcome (answer_to v T x).removed (book_from tree_words K (calls_for v T x))

@@ -272,7 +272,7 @@ four_of t = t.kept + t.struck + t.refused + t.removed
 counted_four : (o : Outcome) (m : ℕ) (t : Totals) → m ≤ t.kept → four_of (counted o m t) ≡ four_of t + 1
 counted_four (Kept used) m t h = omega arith
 counted_four (Struck n c) m t h = omega arith
-counted_four (Refused code) m t h = omega arith
+counted_four (Refused r) m t h = omega arith
 
 pub rows_four : {v : Setting} {K : List Pair} {rs : List Row} (t : Totals) → Fated v K rs → t.kept ≡ length K → four_of (totals_with t rs) ≡ four_of t + length rs
 rows_four t fated_none e = omega arith
@@ -282,7 +282,7 @@ rows_four t (fated_more {r = r} h d f) e =
 counted_read : (o : Outcome) (m : ℕ) (t : Totals) → (counted o m t).records ≡ t.records + 1
 counted_read (Kept used) m t = refl
 counted_read (Struck n c) m t = refl
-counted_read (Refused code) m t = refl
+counted_read (Refused r) m t = refl
 
 pub rows_read : (rs : List Row) (t : Totals) → (totals_with t rs).records ≡ t.records + length rs
 rows_read [] t = omega arith
@@ -311,7 +311,7 @@ pub record KeptRow (rs : List Row) (p : Pair) : Type 0 where
 pub mem_one : (o : Outcome) (x : Record) (p : Pair) → Memᴰ p (kept_on o x) → IsKept o × (p ≡ pair_of x)
 mem_one (Kept u) x p m = ((u, refl), Memᴰ.eq_of_singleton m)
 mem_one (Struck n k) x p m = elim m [ ]
-mem_one (Refused c) x p m = elim m [ ]
+mem_one (Refused r) x p m = elim m [ ]
 
 pub mem_kept : (rs : List Row) (p : Pair) → Memᴰ p (kept_pairs rs) → KeptRow rs p
 mem_kept [] p m = elim m [ ]

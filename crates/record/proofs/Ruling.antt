@@ -56,22 +56,22 @@ pub shape_faulty : {s : Result ℕ Fault} {n : ℕ} {f : Fault} → s ≡ Err f 
 shape_faulty e i = let j = sym e ∙ i in apart cc
 
 module _ {K L : List Pair} {x : Record} where
-  reason_subsumed : {c : ℕ} → Reason K L x c → Decided K x → Subsumed K x.words → ⊥
+  reason_subsumed : {r : Refusal} → Reason K L x r → Decided K x → Subsumed K x.words → ⊥
   reason_subsumed (faulty f e) d s = shape_faulty e d.accepted.1
   reason_subsumed (number_taken u m) d s = u.unsubsumed s
   reason_subsumed (list_full u m l) d s = u.unsubsumed s
   reason_subsumed (no_room u m l r) d s = u.unsubsumed s
   reason_subsumed (over_budget a b) d s = omega (arith, d.fits)
 
-  reason_takes : {c : ℕ} → Reason K L x c → Takes K L x → ⊥
+  reason_takes : {r : Refusal} → Reason K L x r → Takes K L x → ⊥
   reason_takes (faulty f e) t = shape_faulty e t.uncovered.decided.accepted.1
   reason_takes (number_taken u m) t = t.new m
   reason_takes (list_full u m l) t = omega (arith, t.few)
   reason_takes (no_room u m l r) t = omega (arith, t.room)
   reason_takes (over_budget a b) t = omega (arith, t.uncovered.decided.fits)
 
-  reason_only : {c d : ℕ} → Reason K L x c → Reason K L x d → c ≡ d
-  reason_only (faulty f e) (faulty g i) = let j = sym e ∙ i in let k : f ≡ g = cc in ap (λ (h : Fault). code_of (BadClause h)) k
+  reason_only : {p r : Refusal} → Reason K L x p → Reason K L x r → p ≡ r
+  reason_only (faulty f e) (faulty g i) = let j = sym e ∙ i in let k : f ≡ g = cc in ap BadClause k
   reason_only (faulty f e) (number_taken u m) = absurd (shape_faulty e u.decided.accepted.1)
   reason_only (faulty f e) (list_full u m l) = absurd (shape_faulty e u.decided.accepted.1)
   reason_only (faulty f e) (no_room u m l r) = absurd (shape_faulty e u.decided.accepted.1)
@@ -98,7 +98,7 @@ module _ {K L : List Pair} {x : Record} where
   reason_only (over_budget a b) (over_budget c d) = refl
 
   -- where the budget is enough, the other codes are left
-  reason_code : (Accepted x.words → candidates (tree_of K) x.words ≤ budget) → {c : ℕ} → Reason K L x c → Memᴰ c (3 ∷ 4 ∷ 5 ∷ 7 ∷ 10 ∷ 11 ∷ [])
+  reason_code : (Accepted x.words → candidates (tree_of K) x.words ≤ budget) → {r : Refusal} → Reason K L x r → Memᴰ (code_of r) (3 ∷ 4 ∷ 5 ∷ 7 ∷ 10 ∷ 11 ∷ [])
   reason_code f (faulty BadLength e) = Memᴰ.head refl
   reason_code f (faulty (Bad at) e) = Memᴰ.tail (Memᴰ.head refl)
   reason_code f (faulty (Ninth at) e) = Memᴰ.tail (Memᴰ.tail (Memᴰ.head refl))
@@ -108,7 +108,7 @@ module _ {K L : List Pair} {x : Record} where
   reason_code f (over_budget a b) = absurd (omega (arith, f a))
 
   -- 12 comes from an accepted clause with more candidates than the budget
-  reason_spent : {c : ℕ} → Reason K L x c → c ≡ 12 → Accepted x.words × (budget < candidates (tree_of K) x.words)
+  reason_spent : {r : Refusal} → Reason K L x r → code_of r ≡ 12 → Accepted x.words × (budget < candidates (tree_of K) x.words)
   reason_spent (faulty BadLength e) i = absurd (omega arith)
   reason_spent (faulty (Bad at) e) i = absurd (omega arith)
   reason_spent (faulty (Ninth at) e) i = absurd (omega arith)
@@ -124,7 +124,7 @@ striking s = (s.striking, s.kept, s.subsumes)
 
 -- by the book K, what is left of it without the numbers that the record would take out, and these numbers
 pub data Course (K L : List Pair) (x : Record) (ns : List ℕ) : Outcome → (removed : List ℕ) → List Pair → Type 0 where
-  refuses : {c : ℕ} → Reason K L x c → Course K L x ns (Refused c) [] K
+  refuses : {r : Refusal} → Reason K L x r → Course K L x ns (Refused r) [] K
   strikes : {n k : ℕ} → Strikes K x n k → Course K L x ns (Struck n k) [] K
   keeps : Takes K L x → Course K L x ns (Kept (words_of (pair_of x ∷ L))) ns (pair_of x ∷ L)
 
@@ -134,14 +134,14 @@ pub record Fate (s : Setting) (K : List Pair) (x : Record) (o : Outcome) (remove
   pub clears : Accepted x.words → Clears s K x cleared
   pub course : Course K (without_all cleared K) x cleared o removed M
 
-kept_code : (u c : ℕ) → Kept u ≡ Refused c → ⊥
-kept_code u c e = apart cc
+kept_refused : (u : ℕ) (r : Refusal) → Kept u ≡ Refused r → ⊥
+kept_refused u r e = apart cc
 
 kept_struck : (u n k : ℕ) → Kept u ≡ Struck n k → ⊥
 kept_struck u n k e = apart cc
 
-struck_code : (n k c : ℕ) → Struck n k ≡ Refused c → ⊥
-struck_code n k c e = apart cc
+struck_refused : (n k : ℕ) (r : Refusal) → Struck n k ≡ Refused r → ⊥
+struck_refused n k r e = apart cc
 
 module _ {s : Setting} {K : List Pair} {x : Record} (ns : List ℕ) (a : Accepted x.words → Clears s K x ns) where
   -- what is left of the book
@@ -149,15 +149,15 @@ module _ {s : Setting} {K : List Pair} {x : Record} (ns : List ℕ) (a : Accepte
   Left = without_all ns K
 
   ruled_by : {o : Outcome} {ms : List ℕ} {M : List Pair} → Course K Left x ns o ms M → Ruled s K x o ms M
-  ruled_by (refuses {c = c} r) =
+  ruled_by (refuses {r = c} r) =
       record {
-        struck = (λ s. absurd (struck_code s.0 s.1 c (sym s.2)), λ d. absurd (reason_subsumed r d.0 d.1));
-        strikes = λ n k. (λ e. absurd (struck_code n k c (sym e)), λ s. absurd (reason_subsumed r s.decided (striking s)));
+        struck = (λ s. absurd (struck_refused s.0 s.1 c (sym s.2)), λ d. absurd (reason_subsumed r d.0 d.1));
+        strikes = λ n k. (λ e. absurd (struck_refused n k c (sym e)), λ s. absurd (reason_subsumed r s.decided (striking s)));
         cleared = ns;
         clears = a;
-        kept = λ u. (λ e. absurd (kept_code u c (sym e)), λ t. absurd (reason_takes r t.0));
+        kept = λ u. (λ e. absurd (kept_refused u c (sym e)), λ t. absurd (reason_takes r t.0));
         refused = λ d. (λ e. let i : c ≡ d = cc in rw i at r, λ q. ap Refused (reason_only r q));
-        grows = λ k. absurd (kept_code k.0 c (sym k.1));
+        grows = λ k. absurd (kept_refused k.0 c (sym k.1));
         stays = λ n. (refl, refl);
       }
   ruled_by (strikes {n = n} {k = k} s) =
@@ -170,7 +170,7 @@ module _ {s : Setting} {K : List Pair} {x : Record} (ns : List ℕ) (a : Accepte
         cleared = ns;
         clears = a;
         kept = λ u. (λ e. absurd (kept_struck u n k (sym e)), λ t. absurd (t.0.uncovered.unsubsumed (striking s)));
-        refused = λ d. (λ e. absurd (struck_code n k d e), λ q. absurd (reason_subsumed q s.decided (striking s)));
+        refused = λ d. (λ e. absurd (struck_refused n k d e), λ q. absurd (reason_subsumed q s.decided (striking s)));
         grows = λ h. absurd (kept_struck h.0 n k (sym h.1));
         stays = λ m. (refl, refl);
       }
@@ -181,7 +181,7 @@ module _ {s : Setting} {K : List Pair} {x : Record} (ns : List ℕ) (a : Accepte
         cleared = ns;
         clears = a;
         kept = λ u. (λ e. let i : words_of (pair_of x ∷ Left) ≡ u = cc in (t, sym i), λ s. ap Kept (sym s.1));
-        refused = λ d. (λ e. absurd (kept_code (words_of (pair_of x ∷ Left)) d e), λ q. absurd (reason_takes q t));
+        refused = λ d. (λ e. absurd (kept_refused (words_of (pair_of x ∷ Left)) d e), λ q. absurd (reason_takes q t));
         grows = λ h. (refl, refl);
         stays = λ n. absurd (n (words_of (pair_of x ∷ Left), refl));
       }
@@ -191,8 +191,8 @@ ruled f = ruled_by f.cleared f.clears f.course
 
 -- the codes; the budget is enough
 pub ruled_codes : {s : Setting} {K M : List Pair} {x : Record} {o : Outcome} {ms : List ℕ} → Holds tree_words K (tree_of K) → Ruled s K x o ms M
-    → (code : ℕ) → o ≡ Refused code → Memᴰ code (3 ∷ 4 ∷ 5 ∷ 7 ∷ 10 ∷ 11 ∷ [])
-ruled_codes {x = x} h r code e = reason_code (λ D. omega (arith, holds_enough h x.words D)) ((r.refused code).0 e)
+    → (r : Refusal) → o ≡ Refused r → Memᴰ (code_of r) (3 ∷ 4 ∷ 5 ∷ 7 ∷ 10 ∷ 11 ∷ [])
+ruled_codes {x = x} h u r e = reason_code (λ D. omega (arith, holds_enough h x.words D)) ((u.refused r).0 e)
 
 -- over a book of units
 pub ruled_by_units : {s : Setting} {K M : List Pair} {x : Record} {o : Outcome} {ms : List ℕ} → Holds tree_words K (tree_of K) → Units K → Ruled s K x o ms M
@@ -203,7 +203,7 @@ ruled_by_units {x = x} h u r =
           let free : Uncovered _ x = ((r.kept used).0 e).0.uncovered in
           holds_exact h u x.words some free.decided.accepted free.unsubsumed;
       at_most = λ n k e. omega (arith, holds_few h u x.words, ((r.strikes n k).0 e).count);
-      enough = λ e. let (D, over) = reason_spent ((r.refused 12).0 e) refl in omega (arith, holds_few h u x.words, (accepted x.words D).few);
+      enough = λ f e i. let (D, over) = reason_spent ((r.refused f).0 e) i in omega (arith, holds_few h u x.words, (accepted x.words D).few);
     }
 
 -- ---- the insertion

@@ -36,7 +36,7 @@ refused_rises (r ∷ rs) t = omega (arith, one r.outcome, refused_rises rs (coun
     one : (o : Outcome) → t.refused ≤ (counted o (length r.removed) t).refused
     one (Kept u) = omega arith
     one (Struck n k) = omega arith
-    one (Refused c) = omega arith
+    one (Refused r) = omega arith
 
 -- so each row is kept or struck where it ends at 0
 not_refused : (rs : List Row) (t : Totals) → (totals_with t rs).refused ≡ 0 → (r : Row) → Memᴰ r rs → IsKept r.outcome ⊎ IsStruck r.outcome
@@ -49,7 +49,7 @@ not_refused (q ∷ rs) t e r (Memᴰ.head i) =
     go : (o : Outcome) → (counted o (length q.removed) t).refused ≤ 0 → IsKept o ⊎ IsStruck o
     go (Kept u) h = inl (u, refl)
     go (Struck n k) h = inr (n, k, refl)
-    go (Refused c) h = absurd (omega (arith, h))
+    go (Refused r) h = absurd (omega (arith, h))
 
 pub all_covered : AllCovered
 all_covered s input b e x m =

@@ -30,7 +30,7 @@ struck_same n r rs h = go r.outcome refl
   where
     go : (o : Outcome) → r.outcome ≡ o → cond (was_struck_by n o) (r ∷ struck_by n rs) (struck_by n rs) ≡ struck_by n rs
     go (Kept used) e = refl
-    go (Refused code) e = refl
+    go (Refused r) e = refl
     go (Struck m k) e = rw (ne_eqb m n (λ i. h k (rw i at e)))
 
 -- whether it is a strike of this number
@@ -40,7 +40,7 @@ pub data Strike (n : ℕ) (o : Outcome) : Type 0 where
 
 pub strike : (n : ℕ) (o : Outcome) → Strike n o
 strike n (Kept used) = other (λ k e. apart cc)
-strike n (Refused code) = other (λ k e. apart cc)
+strike n (Refused r) = other (λ k e. apart cc)
 strike n (Struck m k) = go (ℕ_discrete m n)
   where
     go : Dec (m ≡ n) → Strike n (Struck m k)
@@ -86,7 +86,7 @@ kept_here n r e = let (p, q) = (and-eq-true_iff (was_kept r.outcome) (eqb r.of.n
     go : (o : Outcome) → was_kept o ≡ true → IsKept o
     go (Kept used) h = (used, refl)
     go (Struck m k) h = absurd (false≢true h)
-    go (Refused code) h = absurd (false≢true h)
+    go (Refused r) h = absurd (false≢true h)
 
 pub ever_line : (n : ℕ) (rs : List Row) → ever_kept n rs ≡ true → KeptLine rs n
 ever_line n [] e = absurd (false≢true e)
@@ -114,7 +114,7 @@ line_ever n (s ∷ rs) (r, Memᴰ.tail m, k, j) = go (was_kept s.outcome && eqb 
 abbrev weighed : (Row → ℕ) → Row → Outcome → ℕ
 weighed w r (Kept used) = 0
 weighed w r (Struck n k) = w r
-weighed w r (Refused code) = 0
+weighed w r (Refused f) = 0
 
 abbrev weight : (Row → ℕ) → List Row → ℕ
 weight w [] = 0
@@ -143,7 +143,7 @@ weights w l d (r ∷ rs) h = go r.outcome refl (weights w l d rs (λ s m. h s (M
 
     go : (o : Outcome) → r.outcome ≡ o → total (map (weight_by w rs) l) ≡ weight w rs → total (map (weight_by w (r ∷ rs)) l) ≡ weighed w r o + weight w rs
     go (Kept used) e ih = omega (arith, ih, plain (λ n k i. let j = sym e ∙ i in apart cc))
-    go (Refused code) e ih = omega (arith, ih, plain (λ n k i. let j = sym e ∙ i in apart cc))
+    go (Refused r) e ih = omega (arith, ih, plain (λ n k i. let j = sym e ∙ i in apart cc))
     go (Struck m k) e ih =
         omega (
           arith,
@@ -170,7 +170,7 @@ weight_struck (r ∷ rs) t = go r.outcome (weight_struck rs)
         → (totals_with (counted o m t) rs).struck ≡ t.struck + (weighed (λ r. 1) r o + weight (λ r. 1) rs)
     go (Kept used) ih = omega (arith, ih (counted (Kept used) m t))
     go (Struck n k) ih = omega (arith, ih (counted (Struck n k) m t))
-    go (Refused code) ih = omega (arith, ih (counted (Refused code) m t))
+    go (Refused r) ih = omega (arith, ih (counted (Refused r) m t))
 
 -- the candidates of the strikes are all that were spent so
 pub weight_spent : (rs : List Row) → weight (λ r. spent_on r.outcome) rs ≡ spent rs
@@ -181,4 +181,4 @@ weight_spent (r ∷ rs) = go r.outcome refl (weight_spent rs)
         → weighed (λ r. spent_on r.outcome) r o + weight (λ r. spent_on r.outcome) rs ≡ spent_on o + spent rs
     go (Kept used) e ih = omega (arith, ih)
     go (Struck n k) e ih = let j : spent_on r.outcome ≡ k = rw e in omega (arith, ih, j)
-    go (Refused code) e ih = omega (arith, ih)
+    go (Refused r) e ih = omega (arith, ih)

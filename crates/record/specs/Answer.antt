@@ -3,7 +3,6 @@ use Rattle.std.proofs.Math.Option.{Option, none, some}
 use Rattle.std.specs.Prelude.{List, [], ◌∷◌, ◌++◌, map, ℕ, get_or, take, replicate, Err, Ok, Result}
 use Rattle.tree.specs.Forest.{find}
 use Rattle.tree.specs.Laid.{max_kept, used_of, decode}
-use Rattle.tree.specs.Refusal.{code_of}
 use Rattle.tree.specs.Calls.{insertion}
 use Rattle.walk.specs.Query.{witness_words, query}
 use Rattle.backward.specs.Calls.{backward}
@@ -53,10 +52,10 @@ left o T = record { outcome = o; removed = []; slice = T }
 abbrev pub removals : (numbers : List ℕ) → List Call
 removals ns = map remove ns
 
--- what an insertion's answer makes of a record, after the removal of some numbers: the used words of the new slice; where it is refused its code, and
+-- what an insertion's answer makes of a record, after the removal of some numbers: the used words of the new slice; where it is refused, why, and
 -- nothing is removed
 abbrev pub entered_as : Result Done Refusal → (numbers new slice : List ℕ) → Answered
-entered_as (Err r) ns S T = left (Refused (code_of r)) T
+entered_as (Err r) ns S T = left (Refused r) T
 entered_as (Ok call.Ready) ns S T = record { outcome = Kept (used_of (get_or S 0 0)); removed = ns; slice = S }
 entered_as (Ok call.Kept) ns S T = record { outcome = Kept (used_of (get_or S 0 0)); removed = ns; slice = S }
 entered_as (Ok call.Removed) ns S T = record { outcome = Kept (used_of (get_or S 0 0)); removed = ns; slice = S }
@@ -69,12 +68,12 @@ entered ns T x =
 
 -- its number is judged before: a Success of the slice has it
 abbrev pub unless_taken : Option (List ℕ) → (slice : List ℕ) → Answered → Answered
-unless_taken (some keys) T a = left (Refused (code_of NumberTaken)) T
+unless_taken (some keys) T a = left (Refused NumberTaken) T
 unless_taken none T a = a
 
 -- what a listing's answer, and the list afterwards, make of a record: it is inserted after the removal of the numbers listed
 abbrev pub replaced_as : Result Listed Refusal → (list slice : List ℕ) → Record → Answered
-replaced_as (Err r) L T x = left (Refused (code_of r)) T
+replaced_as (Err r) L T x = left (Refused r) T
 replaced_as (Ok l) L T x = unless_taken (find x.number (decode T)) T (entered (take l.count L) T x)
 
 -- backward striking: the kept clauses that the record subsumes are listed, and it takes their place
@@ -92,7 +91,7 @@ goes_in Back T x = replaced T x
 
 -- what a query's answer makes of a record: it goes in only on "not covered"
 abbrev pub answer_as : Setting → Result Verdict Refusal → (slice : List ℕ) → Record → Answered
-answer_as s (Err r) T x = left (Refused (code_of r)) T
+answer_as s (Err r) T x = left (Refused r) T
 answer_as s (Ok (Covered n c)) T x = left (Struck n c) T
 answer_as s (Ok (NotCovered c)) T x = goes_in s T x
 
@@ -104,7 +103,7 @@ answer_to s T x = answer_as s (query T x.words budget (replicate witness_words 0
 abbrev pub calls_on : Outcome → (removed : List ℕ) → Record → List Call
 calls_on (Kept used) ns x = removals ns ++ (insert x.words x.number ∷ [])
 calls_on (Struck n c) ns x = []
-calls_on (Refused code) ns x = []
+calls_on (Refused r) ns x = []
 
 -- those for a record on a slice
 unfoldable pub calls_for : Setting → (slice : List ℕ) → Record → List Call

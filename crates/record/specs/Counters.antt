@@ -29,7 +29,7 @@ raised c i k = set c i (min (get_or c i 0 + k) most_counted)
 abbrev pub counters_after : Outcome → (counters : List ℕ) → List ℕ
 counters_after (Kept used) c = c
 counters_after (Struck n k) c = raised (raised c (strikes_at n) 1) (candidates_at n) k
-counters_after (Refused code) c = c
+counters_after (Refused r) c = c
 
 -- the row of a number, by its counters
 abbrev pub row_shown : (counters : List ℕ) (number : ℕ) → TallyRow

@@ -1,5 +1,6 @@
 -- The lines that are printed.
 use Rattle.std.specs.Prelude.{List, [], ◌∷◌, ◌++◌, ℕ}
+use Rattle.tree.specs.Refusal.{code_of}
 use Rattle.record.specs.Text.{decimal}
 use Rattle.record.specs.declared.Setting.{Setting}
 use Rattle.record.specs.declared.Setting.TheVariants.{Plain, Back}
@@ -43,7 +44,7 @@ named t n = t ++ decimal n
 abbrev pub saying : Outcome → List ℕ
 saying (Kept used) = named says_kept used
 saying (Struck covering candidates) = named says_struck covering ++ named space candidates
-saying (Refused code) = named says_refused code
+saying (Refused r) = named says_refused (code_of r)
 
 -- the most bytes of that: ` struck `, a number of 32 bits, a space and a number of 64
 abbrev pub longest_saying : ℕ

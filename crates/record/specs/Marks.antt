@@ -28,4 +28,4 @@ freeing (n ∷ ns) m = freeing ns (set m n (freed (get_or m n 0)))
 abbrev pub marked : Outcome → (number : ℕ) (removed marks : List ℕ) → List ℕ
 marked (Kept used) n ns m = set (freeing ns m) n taken
 marked (Struck k c) n ns m = m
-marked (Refused code) n ns m = m
+marked (Refused r) n ns m = m

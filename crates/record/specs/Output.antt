@@ -80,7 +80,7 @@ counted (Kept used) m t =
     record { records = t.records + 1; kept = t.kept + 1 - m; struck = t.struck; refused = t.refused; removed = t.removed + m }
 counted (Struck n c) m t =
     record { records = t.records + 1; kept = t.kept; struck = t.struck + 1; refused = t.refused; removed = t.removed }
-counted (Refused code) m t =
+counted (Refused r) m t =
     record { records = t.records + 1; kept = t.kept; struck = t.struck; refused = t.refused + 1; removed = t.removed }
 
 -- the totals with the outcomes of some rows

@@ -14,7 +14,8 @@ use Rattle.walk.specs.Covering.{Subsumed, Shows, candidates}
 use Rattle.book.specs.Book.{without, tree_of}
 use Rattle.record.specs.Answer.{budget, tree_words, Record}
 use Rattle.clause.specs.declared.Fault.{Fault}
-use Rattle.tree.specs.declared.Refusal.TheVariants.{BadClause}
+use Rattle.tree.specs.declared.Refusal.{Refusal}
+use Rattle.tree.specs.declared.Refusal.TheVariants.{BadClause, NumberTaken, ListFull, NoRoom, Spent}
 use Rattle.record.specs.declared.Setting.{Setting}
 use Rattle.record.specs.declared.Setting.TheVariants.{Plain, Back}
 use Rattle.record.specs.declared.Outcome.{Outcome}
@@ -62,18 +63,18 @@ pub record Strikes (K : List Pair) (x : Record) (n k : ℕ) : Type 0 where
   pub subsumes : Subsumes striking.clause x.words
   pub shows : Shows striking.clause x.words (with_shown (shown state) (replicate witness_words 0))
 
--- why a record is refused, by the code; K is the book, and L what is left of it without the pairs that the record would take out
-pub data Reason (K L : List Pair) (x : Record) : (code : ℕ) → Type 0 where
+-- why a record is refused, each with the code that is printed; K is the book, and L what is left of it without the pairs that the record would take out
+pub data Reason (K L : List Pair) (x : Record) : Refusal → Type 0 where
   -- 3, 4, 5: its clause has that fault; a record of more than 64 words has the first
-  faulty : (f : Fault) → shape x.words ≡ Err f → Reason K L x (code_of (BadClause f))
+  faulty : (f : Fault) → shape x.words ≡ Err f → Reason K L x (BadClause f)
   -- 7: its number is in the book, also if that pair would be taken out
-  number_taken : Uncovered K x → Numbered K x.number → Reason K L x 7
+  number_taken : Uncovered K x → Numbered K x.number → Reason K L x NumberTaken
   -- 10: 1,024 pairs are left
-  list_full : Uncovered K x → (Numbered K x.number → ⊥) → max_kept ≤ length L → Reason K L x 10
+  list_full : Uncovered K x → (Numbered K x.number → ⊥) → max_kept ≤ length L → Reason K L x ListFull
   -- 11: with it, the sequences would have more than 8,191 different beginnings
-  no_room : Uncovered K x → (Numbered K x.number → ⊥) → length L < max_kept → tree_words ≤ words_of (pair_of x ∷ L) → Reason K L x 11
+  no_room : Uncovered K x → (Numbered K x.number → ⊥) → length L < max_kept → tree_words ≤ words_of (pair_of x ∷ L) → Reason K L x NoRoom
   -- 12: the walk would take more candidates than the budget; no book of the program comes to that (`codes` of `RowClaims`)
-  over_budget : Accepted x.words → budget < candidates (tree_of K) x.words → Reason K L x 12
+  over_budget : Accepted x.words → budget < candidates (tree_of K) x.words → Reason K L x (Spent budget)
 
 -- a record is kept
 abbrev pub IsKept : Outcome → Type 0
@@ -110,7 +111,7 @@ pub record Ruled (s : Setting) (K : List Pair) (x : Record) (o : Outcome) (remov
   -- kept exactly if the book takes it, with the used words
   pub kept : (u : ℕ) → (o ≡ Kept u) ↔ (Takes K (without_all cleared K) x × (u ≡ words_of (pair_of x ∷ without_all cleared K)))
   -- refused exactly for a reason
-  pub refused : (code : ℕ) → (o ≡ Refused code) ↔ Reason K (without_all cleared K) x code
+  pub refused : (r : Refusal) → (o ≡ Refused r) ↔ Reason K (without_all cleared K) x r
   -- exactly where it is kept those numbers are removed, and its pair is in the book
   pub grows : IsKept o → (removed ≡ cleared) × (L ≡ pair_of x ∷ without_all cleared K)
   pub stays : (IsKept o → ⊥) → (removed ≡ []) × (L ≡ K)
@@ -122,4 +123,4 @@ pub record RuledByUnits (K : List Pair) (x : Record) (o : Outcome) : Type 0 wher
   -- struck: the count on its line is at most that
   pub at_most : (n k : ℕ) → o ≡ Struck n k → k ≤ length (literals x.words)
   -- so 12 is never its code; unlike `codes` of `RowClaims` this does not rest on the most literals of a clause
-  pub enough : o ≢ Refused 12
+  pub enough : (r : Refusal) → o ≡ Refused r → code_of r ≢ 12

@@ -5,6 +5,7 @@ use Rattle.clause.specs.Lists.{All, Each}
 use Rattle.clause.specs.Clause.{Subsumes}
 use Rattle.machine.specs.Compile.{Variants}
 use Rattle.tree.specs.Entries.{Pair}
+use Rattle.tree.specs.Refusal.{code_of}
 use Rattle.walk.specs.Covering.{Units, Subsumed}
 use Rattle.book.specs.Book.{slice_of, book_of}
 use Rattle.book.specs.Claims.{Run}
@@ -12,6 +13,7 @@ use Rattle.record.specs.Answer.{tree_words, Record}
 use Rattle.record.specs.Output.{fields, records_of, Row, row_on, fresh_slice, rows_of, row_calls, totals_with, none}
 use Rattle.record.specs.Antichain.{Antichain}
 use Rattle.record.specs.Ruled.{pair_of, IsKept, IsStruck, without_all, Ruled, RuledByUnits}
+use Rattle.tree.specs.declared.Refusal.{Refusal}
 use Rattle.record.specs.declared.Setting.{Setting}
 use Rattle.record.specs.declared.Setting.TheVariants.{Plain, Back}
 use Rattle.record.specs.declared.Outcome.{Outcome}
@@ -31,7 +33,7 @@ book_after rs = book_of tree_words (row_calls rs)
 abbrev pub kept_on : Outcome → Record → List Pair
 kept_on (Kept used) x = pair_of x ∷ []
 kept_on (Struck n k) x = []
-kept_on (Refused code) x = []
+kept_on (Refused r) x = []
 
 -- the numbers with a `removed` line among them
 abbrev pub taken_out : List Row → List ℕ
@@ -77,7 +79,7 @@ pub record RowClaims (s : Setting) {rs : List Row} (a : RowAt rs) : Type 0 where
   pub earlier : (n k : ℕ) → a.this.outcome ≡ Struck n k → KeptCovers a.before n a.this.of
   -- the codes with which it can be refused; 12 is none of them, since the budget is enough for every query and listing that can come; nor are the
   -- listing's 1, 2, 14 and 16
-  pub codes : (code : ℕ) → a.this.outcome ≡ Refused code → Memᴰ code (3 ∷ 4 ∷ 5 ∷ 7 ∷ 10 ∷ 11 ∷ [])
+  pub codes : (r : Refusal) → a.this.outcome ≡ Refused r → Memᴰ (code_of r) (3 ∷ 4 ∷ 5 ∷ 7 ∷ 10 ∷ 11 ∷ [])
   -- where the book before it has units only: how many candidates its query takes
   pub units : Units (book_after a.before) → RuledByUnits (book_after a.before) a.this.of a.this.outcome
 

@@ -14,19 +14,19 @@ use Rattle.record.specs.declared.Outcome.TheVariants.{Kept, Struck, Refused}
 abbrev pub was_kept : Outcome → Bool
 was_kept (Kept used) = true
 was_kept (Struck m k) = false
-was_kept (Refused code) = false
+was_kept (Refused r) = false
 
 -- whether the clause of a number struck it
 abbrev pub was_struck_by : (number : ℕ) → Outcome → Bool
 was_struck_by n (Kept used) = false
 was_struck_by n (Struck m k) = eqb m n
-was_struck_by n (Refused code) = false
+was_struck_by n (Refused r) = false
 
 -- the candidates of a strike
 abbrev pub spent_on : Outcome → ℕ
 spent_on (Kept used) = 0
 spent_on (Struck m k) = k
-spent_on (Refused code) = 0
+spent_on (Refused r) = 0
 
 -- whether a number was ever kept
 abbrev pub ever_kept : (number : ℕ) → List Row → Bool

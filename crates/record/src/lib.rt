@@ -1,6 +1,8 @@
 // What the program's input means: its records, what becomes of each, and the text that is printed (docs/REFERENCE.md, "The program").
 #![tactic(auto)]
 
+use tree::Refusal;
+
 // The setting of a run: `Back` is backward striking, where a record that goes in takes out the kept clauses that it subsumes.
 #[derive(Clone, Copy)]
 pub enum Setting {
@@ -8,13 +10,12 @@ pub enum Setting {
     Back,
 }
 
-// What becomes of a record: kept, with the used words of the tree; struck, with the covering number and the candidates; refused, with the code.
-// A code and no `Refusal`: the definitions and claims of what is printed (`answer_to`, `saying`, `Reason`, `RowClaims`) speak of codes.
+// What becomes of a record: kept, with the used words of the tree; struck, with the covering number and the candidates; refused, and why.
 #[derive(Clone, Copy)]
 pub enum Outcome {
     Kept(u64),
     Struck(u32, u64),
-    Refused(u8),
+    Refused(Refusal),
 }
 
 // How many records were read, and how many of them are kept, were struck and refused, and were kept once and are removed.

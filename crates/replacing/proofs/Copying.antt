@@ -8,7 +8,6 @@ use lib.ListN.{length, get_or, take, set}
 use lib.Seq.{take_all, set-get_or}
 use Rattle.book.specs.Book.{after}
 use Rattle.tree.specs.Laid.{used_of}
-use Rattle.tree.specs.Refusal.{code_of}
 use Rattle.tree.specs.Calls.{Called, insertion}
 use Rattle.tree.specs.declared.Refusal.{Refusal}
 use Rattle.tree.specs.declared.Done.{Done}
@@ -45,8 +44,8 @@ module _ (T ns : List ℕ) (x : Record) {U R : List ℕ} {a : Result Done Refusa
   enters =
       ap (λ (r : Called). entered_as r.answer ns r.slice T) (w ∙ ap (λ (S : List ℕ). insertion S x.words x.number) u)
 
-  pub enters_refused : (f : Refusal) {code : ℕ} → a ≡ Err f → code ≡ code_of f → record { outcome = Refused code; removed = take 0 ns; slice = T } ≡ entered ns T x
-  enters_refused f e c = rw c (sym (ap (λ (b : Result Done Refusal). entered_as b ns R T) e) ∙ enters)
+  pub enters_refused : (f : Refusal) → a ≡ Err f → record { outcome = Refused f; removed = take 0 ns; slice = T } ≡ entered ns T x
+  enters_refused f e = sym (ap (λ (b : Result Done Refusal). entered_as b ns R T) e) ∙ enters
 
   pub enters_kept : ((f : Refusal) → a ≡ Err f → ⊥) → {S : List ℕ} {used : ℕ} → S ≡ R → used ≡ used_of (get_or S 0 0)
       → record { outcome = Kept used; removed = take (length ns) ns; slice = S } ≡ entered ns T x

@@ -64,7 +64,7 @@ pub fn replace(
         };
     };
     Came {
-        outcome: Outcome::Refused(refusal.code()),
+        outcome: Outcome::Refused(refusal),
         removed: 0,
     }
 }

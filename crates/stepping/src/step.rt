@@ -310,6 +310,7 @@ pub fn meet(
 }
 
 // What a word of the topmost row comes to, before the first candidate: only a First is sound there.
+// Apart from `meet`, which has a head to stand at and may store.
 pub fn meet_top(
     w: u64,
     room: usize,

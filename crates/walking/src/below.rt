@@ -47,6 +47,7 @@ pub fn walk(
             let left = skip(words, 0, wanted(query, here));
             let start = words.len() - left;
             let mut rest = &words[start..];
+            // It hops by extents, so no `for` counts it.
             while rest.len() > 0 {
                 let w = rest[0];
                 let visit = meet(w, rest.len(), query, tables, cells, here);

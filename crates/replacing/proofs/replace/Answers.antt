@@ -30,7 +30,7 @@ returns c =
     let ns = a.numbers.now in record {
       entered = enters_refused a.tree.now ns (record { number = a.number; words = a.words.now })
           (c.remove_all.ensures ∙ ap (λ (T : List ℕ). after T (removals ns)) c.copy_from_slice.ensures.after)
-          c.insert-answer.ensures w.refusal w.is c.code.ensures;
+          c.insert-answer.ensures w.refusal w.is;
       marking = refl;
       many = omega arith;
     }

@@ -26,7 +26,7 @@ pub returns-in-Err-clause-came : goal.returns-in-Err-clause-came
 returns-in-Err-clause-came c =
     let a = c.args in
     let u = c.in-Err in
-    asked_refused a.setting a.self.now.tree.now a.words.now a.number c.query.ensures u.refusal u.is c.code.ensures
+    asked_refused a.setting a.self.now.tree.now a.words.now a.number c.query.ensures u.refusal u.is
 
 pub returns-in-Ok-Covered-clause-came : goal.returns-in-Ok-Covered-clause-came
 returns-in-Ok-Covered-clause-came c =

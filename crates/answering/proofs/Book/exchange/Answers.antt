@@ -8,7 +8,7 @@ pub returns-then-self-number-eq-TAKEN-clause-replaced : goal.returns-then-self-n
 returns-then-self-number-eq-TAKEN-clause-replaced c =
     let a = c.args in
     let g = insertable a.number c.requires.0.steady c.requires.1 (λ i. omega (arith, c.type_inv.words i)) (omega (arith, c.ranges.number)) in
-    exchange_marked g a.numbers.now c.if-self-number-eq-TAKEN.true c.code.ensures
+    exchange_marked g a.numbers.now c.if-self-number-eq-TAKEN.true
 
 pub returns-then-numbers-gt0-clause-replaced : goal.returns-then-numbers-gt0-clause-replaced
 returns-then-numbers-gt0-clause-replaced c =

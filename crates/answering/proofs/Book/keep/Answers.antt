@@ -10,7 +10,7 @@ use Rattle.answering.proofs.Book.keep.Goals as goal
 pub returns-then-self-mark-eq-TAKEN-clause-entered : goal.returns-then-self-mark-eq-TAKEN-clause-entered
 returns-then-self-mark-eq-TAKEN-clause-entered c =
     let g = insertable c.args.number c.requires.0.steady c.requires.1 (λ i. omega (arith, c.type_inv.words i)) (omega (arith, c.ranges.number)) in
-    keep_marked g c.if-self-mark-eq-TAKEN.true c.code.ensures
+    keep_marked g c.if-self-mark-eq-TAKEN.true
 
 pub compile-count-requires : goal.compile-count-requires
 compile-count-requires c = (clause_short _ c.requires.1, search rules)
@@ -37,4 +37,4 @@ pub returns-clause-entered : goal.returns-clause-entered
 returns-clause-entered c =
     let g = insertable c.args.number c.requires.0.steady c.requires.1 (λ i. omega (arith, c.type_inv.words i)) (omega (arith, c.ranges.number)) in
     let w = c.in-Err in
-    keep_refused g (compiled_keys c.compile-count.ensures) c.insert_below-answer.ensures w.refusal w.is c.code-2.ensures
+    keep_refused g (compiled_keys c.compile-count.ensures) c.insert_below-answer.ensures w.refusal w.is

@@ -27,7 +27,7 @@ pub returns-in-Err-clause-came : goal.returns-in-Err-clause-came
 returns-in-Err-clause-came c =
     let g = insertable c.args.number c.requires.0.steady c.requires.1 (λ i. omega (arith, c.type_inv.words i)) (omega (arith, c.ranges.number)) in
     let u = c.in-Err in
-    back_refused g c.args.list.now c.requires.2 c.list_subsumed.ensures u.refusal u.is c.code.ensures
+    back_refused g c.args.list.now c.requires.2 c.list_subsumed.ensures u.refusal u.is
 
 pub returns-in-Ok-clause-came : goal.returns-in-Ok-clause-came
 returns-in-Ok-clause-came c =

@@ -10,7 +10,7 @@ use Rattle.feeding.proofs.feeding.outcome_of.Goals as goal
 pub returns-then-end-gt-WORDS-clause-came : goal.returns-then-end-gt-WORDS-clause-came
 unfolding finishing
 returns-then-end-gt-WORDS-clause-came c =
-    record { many = omega arith; answer = rw (lt-ltb max_words _ c.if-end-gt-WORDS.true, c.code.ensures); marking = refl }
+    record { many = omega arith; answer = rw (lt-ltb max_words _ c.if-end-gt-WORDS.true); marking = refl }
 
 pub slice_bounds-answer-end : goal.slice_bounds-answer-end
 slice_bounds-answer-end c =

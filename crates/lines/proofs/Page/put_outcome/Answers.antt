@@ -18,7 +18,7 @@ put_named-requires-in-Struck-2 c =
     omega (arith, c.requires, named_put says_struck 9 w.covering (search rules) c.put_named-in-Struck.ensures, decimal_length 19 w.candidates (search rules))
 
 pub put_named-requires-in-Refused : goal.put_named-requires-in-Refused
-put_named-requires-in-Refused c = omega (arith, c.requires, decimal_length 2 c.in-Refused.code (search rules))
+put_named-requires-in-Refused c = omega (arith, c.requires, decimal_length 2 c.code.result (search rules))
 
 pub returns-in-Kept-clause-short : goal.returns-in-Kept-clause-short
 returns-in-Kept-clause-short c = omega (arith, named_put says_kept 19 c.in-Kept.used (search rules) c.put_named.ensures)
@@ -33,4 +33,4 @@ returns-in-Struck c =
     }
 
 pub returns-in-Refused-clause-short : goal.returns-in-Refused-clause-short
-returns-in-Refused-clause-short c = omega (arith, named_put says_refused 2 c.in-Refused.code (search rules) c.put_named-in-Refused.ensures)
+returns-in-Refused-clause-short c = omega (arith, named_put says_refused 2 c.code.result (search rules) c.put_named-in-Refused.ensures)
