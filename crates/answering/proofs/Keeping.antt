@@ -14,7 +14,6 @@ use Rattle.clause.specs.Word.{Words}
 use Rattle.clause.specs.Clause.{max_words, shape, Accepted}
 use Rattle.clause.proofs.Lists.{all_mem, all-weaken, all_below}
 use Rattle.clause.proofs.Literals.{accepted}
-use Rattle.clause.proofs.Apart.{apart}
 use Rattle.machine.specs.Compile.{keys}
 use Rattle.machine.proofs.Codes.{sequence_plain}
 use Rattle.tree.specs.Forest.{find}
@@ -65,7 +64,7 @@ clause_short c a = (accepted c a).fits
 -- and has a word
 pub clause_some : (c : List ℕ) → Accepted c → 0 < length c
 unfolding shape
-clause_some [] a = let e = a.1 in apart cc
+clause_some [] a = let e = a.1 in cc
 clause_some (w ∷ ws) a = omega arith
 
 -- the record of a clause under a number
@@ -85,7 +84,7 @@ insertable {c = c} n h a u l = record { steady = h; accepts = a; words = all_bel
 -- a refused change leaves the slice
 change_left : (S : List ℕ) (y : Change) (f : Refusal) → (changed S (Ok call.Kept) y).answer ≡ Err f → (changed S (Ok call.Kept) y).slice ≡ S
 change_left S (refuse r) f e = refl
-change_left S (change F) f e = apart cc
+change_left S (change F) f e = cc
 
 module _ {S K c : List ℕ} {n : ℕ} (g : Insertable S K c n) where
   fit : Fit (insert c n)
@@ -245,9 +244,9 @@ unfolding query
 not_covered S c b W k e = go (sized S) (shape c) refl e
   where
     go : (s : Bool) (x : Result ℕ Fault) → shape c ≡ x → (cond s (query_as x S c b W) (unanswered BadSlice W)).answer ≡ Ok (NotCovered k) → Accepted c
-    go true (Err f) p e = apart cc
+    go true (Err f) p e = cc
     go true (Ok q) p e = (q, p)
-    go false x p e = apart cc
+    go false x p e = cc
 
 module _ (v : Setting) (S c : List ℕ) (n : ℕ) {r : Result Verdict Refusal} (answers : r ≡ (query S c budget (replicate witness_words 0)).answer) where
   pub asked_refused : {K M : List ℕ} (f : Refusal) → r ≡ Err f

@@ -7,7 +7,6 @@ use Prim.Native.Nat.{ℕ, ◌≤◌}
 use lib.ListN.{length}
 use Rattle.clause.specs.Word.{Words}
 use Rattle.clause.specs.Clause.{Accepted}
-use Rattle.clause.proofs.Apart.{apart}
 use Rattle.tree.specs.Entries.{Pair}
 use Rattle.tree.specs.declared.Refusal.{Refusal}
 use Rattle.backward.specs.declared.Listed.{Listed}
@@ -58,8 +57,8 @@ module _ {c : List ℕ} {b : ℕ} {L : List ℕ} {R : List Pair} {ns : List ℕ}
       go (inl (h, g)) =
           let r = same_listed (sym (ap (λ (x : Backed). x.answer) (O.listed h g)) ∙ e) in
           (h, g, sym (ap (λ x. x.count) r), sym (ap (λ x. x.candidates) r))
-      go (inr (inl s)) = let q = ap (λ (x : Backed). x.answer) (O.spent s) in apart cc
-      go (inr (inr s)) = let q = ap (λ (x : Backed). x.answer) (O.full s) in apart cc
+      go (inr (inl s)) = let q = ap (λ (x : Backed). x.answer) (O.spent s) in cc
+      go (inr (inr s)) = let q = ap (λ (x : Backed). x.answer) (O.full s) in cc
 
   -- and only then
   pub enough_listed : (n k : ℕ) → Enough n k → B.answer ≡ Ok (record { count = n; candidates = k })
@@ -74,17 +73,17 @@ module _ {c : List ℕ} {b : ℕ} {L : List ℕ} {R : List Pair} {ns : List ℕ}
   spent_at e = go O.ways
     where
       go : ((length ns ≤ length L) × (tries_of c R ≤ b)) ⊎ (SpentAt c b L R ⊎ FullAt c b L R) → SpentAt c b L R
-      go (inl (h, g)) = let q = ap (λ (x : Backed). x.answer) (sym e ∙ O.listed h g) in apart cc
+      go (inl (h, g)) = let q = ap (λ (x : Backed). x.answer) (sym e ∙ O.listed h g) in cc
       go (inr (inl s)) = s
-      go (inr (inr s)) = let q = ap (λ (x : Backed). x.answer) (sym e ∙ O.full s) in apart cc
+      go (inr (inr s)) = let q = ap (λ (x : Backed). x.answer) (sym e ∙ O.full s) in cc
 
   -- full: at a pair
   pub full_at : B ≡ unlisted ShortList L → FullAt c b L R
   full_at e = go O.ways
     where
       go : ((length ns ≤ length L) × (tries_of c R ≤ b)) ⊎ (SpentAt c b L R ⊎ FullAt c b L R) → FullAt c b L R
-      go (inl (h, g)) = let q = ap (λ (x : Backed). x.answer) (sym e ∙ O.listed h g) in apart cc
-      go (inr (inl s)) = let q = ap (λ (x : Backed). x.answer) (sym e ∙ O.spent s) in apart cc
+      go (inl (h, g)) = let q = ap (λ (x : Backed). x.answer) (sym e ∙ O.listed h g) in cc
+      go (inr (inl s)) = let q = ap (λ (x : Backed). x.answer) (sym e ∙ O.spent s) in cc
       go (inr (inr s)) = s
 
   -- nothing else is answered

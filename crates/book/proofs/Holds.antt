@@ -12,7 +12,6 @@ use lib.ListN.{length, length-map, replicate}
 use borrow.Author.Tests.{eq-eqb, ne_eqb}
 use Rattle.clause.specs.Lists.{All, none, also, Each, nobody, besides}
 use Rattle.clause.specs.Clause.{max_literals, Accepted, literals}
-use Rattle.clause.proofs.Apart.{apart}
 use Rattle.clause.proofs.Literals.{accepted}
 use Rattle.machine.specs.Instr.{key}
 use Rattle.machine.specs.Compile.{Variants, keys}
@@ -129,7 +128,7 @@ module _ (n : ℕ) where
   without_missing (p ∷ K) h = go (ℕ_discrete p.number n) (without_missing K)
     where
       go : Dec (p.number ≡ n) → (numbered n (map entry K) ≡ false → without n K ≡ K) → without n (p ∷ K) ≡ p ∷ K
-      go (yes e) ih = apart (cc (rw (eq-eqb n p.number (sym e)) at h))
+      go (yes e) ih = cc (rw (eq-eqb n p.number (sym e)) at h)
       go (no e) ih = rw (ne_eqb p.number n e) (ap (λ l. p ∷ l) (ih (rw (ne_eqb n p.number (λ u. e (sym u))) at h)))
 
   pub sound_without : {K : List Pair} → All Sound K → All Sound (without n K)

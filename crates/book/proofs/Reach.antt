@@ -8,7 +8,6 @@ use borrow.Author.Tests.{leb-true}
 use Prim.Native.Nat.{ℕ, ◌≤◌}
 use lib.ListN.{length, replicate, length-map}
 use Rattle.clause.specs.Clause.{Accepted}
-use Rattle.clause.proofs.Apart.{apart}
 use Rattle.machine.specs.Instr.{key}
 use Rattle.machine.specs.Compile.{sequence}
 use Rattle.machine.specs.Compiled.{max_keys}
@@ -67,7 +66,7 @@ ready T e = go (sized T) refl e
         let (l, h) = (and-eq-true_iff (leb 2 (length T)) (leb (length T) 65_536)).0 u in
         let low : 2 ≤ length T = leb-true 2 (length T) l in
         record { low = low; high = leb-true (length T) 65_536 h; slice = rw u (fresh_layout (length T) low) }
-    go false u v = apart cc
+    go false u v = cc
 
 module _ (T : List ℕ) (xs : List Call) (R : Run T xs) where
   pub start : Usable T

@@ -10,7 +10,6 @@ use lib.ListN.{length, length-map}
 use borrow.Author.Tests.{le-leb}
 use Rattle.clause.specs.Lists.{also}
 use Rattle.clause.specs.Clause.{shape}
-use Rattle.clause.proofs.Apart.{apart}
 use Rattle.tree.specs.Forest.{Forest, ins, del, layout}
 use Rattle.tree.specs.Changes.{insert_into, remove_from, numbered}
 use Rattle.tree.specs.Calls.{changed, insertion, removal}
@@ -37,8 +36,8 @@ pub record Steps (len : ℕ) (K : List Pair) (F : Forest) (x : Call) : Type 0 wh
 
 -- a refused call does nothing
 refused≢done : (r : Refusal) (x : Call) → Err r ≡ done x → ⊥
-refused≢done r (insert c n) e = apart cc
-refused≢done r (remove n) e = apart cc
+refused≢done r (insert c n) e = cc
+refused≢done r (remove n) e = cc
 
 module _ (len : ℕ) (K : List Pair) (F : Forest) (h : Holds len K F) (low : 2 ≤ len) (high : len ≤ 65_536) where
   -- a call that is refused leaves the book
@@ -109,7 +108,7 @@ module _ (len : ℕ) (K : List Pair) (F : Forest) (h : Holds len K F) (low : 2 �
             room = omega (arith, h.room);
             few = omega (arith, length_without n K, h.few);
           }
-          (λ u. let v : numbered n (map entry K) ≡ false = rw u at (numbered_without n K) in apart cc)
+          (λ u. let v : numbered n (map entry K) ≡ false = rw u at (numbered_without n K) in cc)
 
   -- any call
   pub steps : (x : Call) → Fit x → Steps len K F x

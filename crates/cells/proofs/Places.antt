@@ -3,7 +3,6 @@ use Rattle.std.proofs.Common.{◌≡◌, ℕ, zero, suc, ◌+◌, ◌-◌, ◌*�
 use mathlib.Core.Option.{none, some}
 use lib.Seq.{take-set-le, take-set-lt, drop-set-add, set-get_or, set_comm}
 use Rattle.clause.specs.Clause.{max_words, max_literals, literals, start_of}
-use Rattle.clause.proofs.Apart.{apart}
 use Rattle.clause.proofs.Lists.{get_or-map-lt}
 use Rattle.clause.proofs.Literals.{accepted}
 use Rattle.machine.specs.Machine.{slots}
@@ -28,11 +27,11 @@ above_first h e = go (eqb h no_position) refl e
   where
     go : (b : Bool) → eqb h no_position ≡ b → cond b First Step ≡ First → h ≡ no_position
     go true f g = eqb-true h no_position f
-    go false f g = apart cc
+    go false f g = cc
 
 pub above_step : (h : ℕ) → above_of h ≡ Step → h ≡ no_position → ⊥
 unfolding above_of
-above_step h e z = let f : above_of h ≡ First = rw (eq-eqb h no_position z) in apart cc
+above_step h e z = let f : above_of h ≡ First = rw (eq-eqb h no_position z) in cc
 
 map_set : {A B : Type 0} (f : A → B) (l : List A) (i : ℕ) (a : A) → map f (set l i a) ≡ set (map f l) i (f a)
 map_set f [] i a = refl
@@ -165,7 +164,7 @@ module _ (above : Above) (l : List ℕ) (size : length l ≡ cell_count) (few : 
   waiting_few low x = go above refl
     where
       go : (b : Above) → above ≡ b → (count_in (waiting b x l) ≤ max_literals) × (b ≡ First → 1 ≤ count_in (waiting b x l))
-      go Step e = (low, λ f. apart cc)
+      go Step e = (low, λ f. cc)
       go First e = let n = waiting_count l size (few e) x in (omega (arith, n, few e), λ f. omega (arith, n))
 
 -- a candidate begins: its state

@@ -9,7 +9,6 @@ use lib.Dec.{eqb}
 use lib.ListN.{length}
 use Rattle.std.specs.Prelude.{Result, Ok, Err, IsOk}
 use Rattle.clause.specs.Clause.{max_words}
-use Rattle.clause.proofs.Apart.{apart}
 use Rattle.tree.specs.Keys.{first_key}
 use Rattle.tree.specs.Forest.{size, encode, find}
 use Rattle.tree.specs.Laid.{max_kept, region, sized, well_laid, decode}
@@ -56,7 +55,7 @@ module _ (T : List ℕ) (s : sized T ≡ true) (w : well_laid T ≡ true) where
 
 -- the paths of clauses are readable
 found_readable : (n : ℕ) (es : List Entry) (p : List ℕ) → all_readable es ≡ true → first_with n es ≡ some p → readable p ≡ true
-found_readable n [] p r e = apart cc
+found_readable n [] p r e = cc
 found_readable n (d ∷ es) p r e = go (eqb d.number n) e (found_readable n es p)
   where
     both : (readable d.keys ≡ true) × (all_readable es ≡ true)

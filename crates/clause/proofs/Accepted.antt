@@ -20,7 +20,6 @@ use Rattle.clause.proofs.Skip.{first_shaped}
 use Rattle.clause.proofs.Starts.{found}
 use Rattle.clause.specs.declared.Fault.TheVariants.{BadLength, Bad, Ninth}
 use Rattle.clause.proofs.Whole.{literals_scan, whole_literals, literals_whole}
-use Rattle.clause.proofs.Apart.{apart}
 use Rattle.clause.proofs.Faults.{Stops, stops, Meets, meets}
 use Rattle.clause.specs.declared.Fault.{Fault}
 
@@ -43,24 +42,24 @@ fits? (w ∷ ws) = go (ltb max_words (length (w ∷ ws))) refl
 -- the reading never finds a bad length
 scan_length : (ws : List ℕ) (need lits p : ℕ) → scan ws need lits p ≡ Err BadLength → ⊥
 unfolding scan scan_word
-scan_length [] zero lits p e = apart cc
-scan_length [] (suc k) lits p e = apart cc
+scan_length [] zero lits p e = cc
+scan_length [] (suc k) lits p e = cc
 scan_length (w ∷ ws) need lits p e = go (sort w) need e (scan_length ws)
   where
     go : (s : Sort) (need : ℕ) → scan_word s (arity w) need lits p (scan ws) ≡ Err BadLength
         → ((need lits p : ℕ) → scan ws need lits p ≡ Err BadLength → ⊥) → ⊥
-    go symbol zero e ih = apart cc
+    go symbol zero e ih = cc
     go symbol (suc k) e ih = ih (arity w + k) lits (suc p) e
-    go variable zero e ih = apart cc
+    go variable zero e ih = cc
     go variable (suc k) e ih = ih (arity w + k) lits (suc p) e
-    go wrong zero e ih = apart cc
-    go wrong (suc k) e ih = apart cc
-    go head (suc k) e ih = apart cc
+    go wrong zero e ih = cc
+    go wrong (suc k) e ih = cc
+    go head (suc k) e ih = cc
     go head zero e ih = room (ltb lits max_literals) e
       where
         room : (b : Bool) → cond b (scan ws (arity w) (suc lits) (suc p)) (Err (Ninth p)) ≡ Err BadLength → ⊥
         room true e' = ih (arity w) (suc lits) (suc p) e'
-        room false e' = apart cc
+        room false e' = cc
 
 -- words are at least one literal
 some_literals : (ws : List ℕ) (n : ℕ) → Literals ws n → 1 ≤ length ws → 1 ≤ n
@@ -91,7 +90,7 @@ module _ (ws : List ℕ) where
       to (inl (F, e)) (n, h) =
           let (L, few) = literals_whole ws n (sym e ∙ h) in
           record { fits = F; count = n; literals = L; low = some_literals ws n L F.low; high = few }
-      to (inr (F, e)) (n, h) = apart cc
+      to (inr (F, e)) (n, h) = cc
 
   bad_length : (shape ws ≡ Err BadLength) ↔ (Fits ws → ⊥)
   bad_length = (to (fits? ws), from (fits? ws))
@@ -115,13 +114,13 @@ module _ (ws : List ℕ) where
 
         to : (Fits ws × (shape ws ≡ scan ws 0 0 0)) ⊎ ((Fits ws → ⊥) × (shape ws ≡ Err BadLength)) → shape ws ≡ Err (Ninth at) → Fits ws × IsNinth ws at
         to (inl (F, e)) h = (F, met (meets ws 0 0 0 at (omega arith) (sym e ∙ h)))
-        to (inr (F, e)) h = apart cc
+        to (inr (F, e)) h = cc
 
     bad : shape ws ≡ Err (Bad at) → Fits ws × Breaks ws at
     bad h = to (fits? ws)
       where
         rules : Rules ws → scan ws 0 0 0 ≡ Err (Bad at) → ⊥
-        rules (n, L, few) e = let f = whole_literals ws n L few in apart cc
+        rules (n, L, few) e = let f = whole_literals ws n L few in cc
 
         stopped : scan ws 0 0 0 ≡ Err (Bad at) → Stops ws 0 0 0 at → Breaks ws at
         stopped e S = record { before = (S.more, (S.n, L.0, L.1)); there = split (dec_lt at (length ws)) }
@@ -133,7 +132,7 @@ module _ (ws : List ℕ) where
             L = literals_whole (take at ws ++ S.more) S.n (rw f at S.completed)
 
             split : Dec (at < length ws) → ((at < length ws) × (Begins (take (suc at) ws) → ⊥) × (IsNinth ws at → ⊥)) ⊎ ((at ≡ length ws) × (Rules ws → ⊥))
-            split (yes l) = inl (l, more, λ N. let g = ninth_scan ws at N in apart cc)
+            split (yes l) = inl (l, more, λ N. let g = ninth_scan ws at N in cc)
               where
                 more : Begins (take (suc at) ws) → ⊥
                 more B = let (n, L', few) = B.1 in (rw f at S.broken) l B.0 n (whole_literals (take (suc at) ws ++ B.0) n L' few)
@@ -141,7 +140,7 @@ module _ (ws : List ℕ) where
 
         to : (Fits ws × (shape ws ≡ scan ws 0 0 0)) ⊎ ((Fits ws → ⊥) × (shape ws ≡ Err BadLength)) → Fits ws × Breaks ws at
         to (inl (F, e)) = (F, stopped (sym e ∙ h) (stops ws 0 0 0 at (sym e ∙ h)))
-        to (inr (F, e)) = apart cc
+        to (inr (F, e)) = cc
 
 -- ---- a position at which the rules are broken is the one found
 
@@ -170,7 +169,7 @@ ninth_stops ws q N (more, (n, L, few)) =
     literals_scan (take q ws) max_literals N.before (omega arith) (w ∷ more) in
     let g : scan (w ∷ more) 0 max_literals (length (take q ws)) ≡ Err (Ninth (length (take q ws))) = rw N.top in
     let h : scan (take q ws ++ (w ∷ more)) 0 0 0 ≡ Ok n = ap (λ (l : List ℕ). scan l 0 0 0) (sym e) ∙ whole_literals (take (suc q) ws ++ more) n L few in
-    apart cc
+    cc
 
 -- two positions
 data Order (a b : ℕ) : Type 0 where

@@ -11,7 +11,6 @@ use borrow.Author.Tests.{ltb-true, ltb-false}
 use Rattle.clause.specs.Word.{arity, Sort, symbol, variable, head, wrong, sort, kind, sort_by}
 use Rattle.clause.specs.Clause.{scan_word, scan, max_literals}
 use Rattle.clause.specs.declared.Fault.TheVariants.{Bad, Ninth}
-use Rattle.clause.proofs.Apart.{apart}
 use Rattle.clause.proofs.Whole.{scan_inside, scan_head}
 
 -- a variable
@@ -42,7 +41,7 @@ stops_here w ws need lits p q f e =
       more = replicate need filler;
       n = lits;
       completed = filled need lits p;
-      broken = λ h more n u. let v = f more in apart cc;
+      broken = λ h more n u. let v = f more in cc;
     }
 
 stops_later : (w : ℕ) (ws : List ℕ) (need lits p q need' lits' : ℕ)
@@ -61,7 +60,7 @@ stops_later w ws need lits p q need' lits' f s =
 
 pub stops : (ws : List ℕ) (need lits p q : ℕ) → scan ws need lits p ≡ Err (Bad q) → Stops ws need lits p q
 unfolding scan scan_word
-stops [] zero lits p q e = apart cc
+stops [] zero lits p q e = cc
 stops [] (suc k) lits p q e =
     let z : p ≡ q = cc in
     record {
@@ -90,7 +89,7 @@ stops (w ∷ ws) need lits p q e = go (sort w) need refl e (stops ws)
             → Stops (w ∷ ws) 0 lits p q
         room true v e' = stops_later w ws 0 lits p q (arity w) (suc lits) (scan_head w u lits p (ltb-true lits max_literals v))
             (ih (arity w) (suc lits) (suc p) q e')
-        room false v e' = apart cc
+        room false v e' = cc
 
 -- the reading meets a ninth head i words on: those before are whole
 pub record Meets (ws : List ℕ) (need lits p q : ℕ) : Type 0 where
@@ -108,20 +107,20 @@ meets_later w ws need lits p q need' lits' f s =
 
 pub meets : (ws : List ℕ) (need lits p q : ℕ) → lits ≤ max_literals → scan ws need lits p ≡ Err (Ninth q) → Meets ws need lits p q
 unfolding scan scan_word
-meets [] zero lits p q h e = apart cc
-meets [] (suc k) lits p q h e = apart cc
+meets [] zero lits p q h e = cc
+meets [] (suc k) lits p q h e = cc
 meets (w ∷ ws) need lits p q h e = go (sort w) need refl e (meets ws)
   where
     go : (s : Sort) (need : ℕ) → sort w ≡ s → scan_word s (arity w) need lits p (scan ws) ≡ Err (Ninth q)
         → ((need lits p q : ℕ) → lits ≤ max_literals → scan ws need lits p ≡ Err (Ninth q) → Meets ws need lits p q) → Meets (w ∷ ws) need lits p q
-    go symbol zero u e ih = apart cc
+    go symbol zero u e ih = cc
     go symbol (suc k) u e ih = meets_later w ws (suc k) lits p q (arity w + k) lits (scan_inside w symbol u tt k lits p) (ih (arity w + k) lits (suc p) q h e)
-    go variable zero u e ih = apart cc
+    go variable zero u e ih = cc
     go variable (suc k) u e ih =
         meets_later w ws (suc k) lits p q (arity w + k) lits (scan_inside w variable u tt k lits p) (ih (arity w + k) lits (suc p) q h e)
-    go wrong zero u e ih = apart cc
-    go wrong (suc k) u e ih = apart cc
-    go head (suc k) u e ih = apart cc
+    go wrong zero u e ih = cc
+    go wrong (suc k) u e ih = cc
+    go head (suc k) u e ih = cc
     go head zero u e ih = room (ltb lits max_literals) refl e
       where
         room : (b : Bool) → ltb lits max_literals ≡ b → cond b (scan ws (arity w) (suc lits) (suc p)) (Err (Ninth p)) ≡ Err (Ninth q)

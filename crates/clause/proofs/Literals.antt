@@ -15,7 +15,6 @@ use Rattle.clause.specs.Word.{arity, Sort, symbol, variable, head, wrong, sort}
 use Rattle.clause.specs.Clause.{scan_word, scan, shape, Accepted, max_literals, max_words, before, literals, Shaped, end, next_word, Inner, Inside}
 use Rattle.clause.specs.Accepted.{IsLiteral}
 use Rattle.clause.specs.declared.Fault.TheVariants.{BadLength, Ninth}
-use Rattle.clause.proofs.Apart.{apart}
 
 pub literal_shaped : {l : List ℕ} → IsLiteral l → Shaped 1 l
 literal_shaped h = let a : Shaped (arity h.top + 0) h.args = rw add-zero h.args_shaped in rw h.parts (next_word a)
@@ -90,24 +89,24 @@ pub read : (ws : List ℕ) (need lits at n : ℕ) → lits ≤ max_literals → 
 unfolding scan before literals scan_word
 read [] zero lits at n h e =
     let z : lits ≡ n = cc in record { rest_shaped = end; rest_inner = none; rest_literals = none; counted = omega arith; few = omega arith }
-read [] (suc k) lits at n h e = apart cc
+read [] (suc k) lits at n h e = cc
 read (w ∷ ws) need lits at n h e = go (sort w) need refl e (read ws)
   where
     go : (s : Sort) (need : ℕ) → sort w ≡ s → scan_word s (arity w) need lits at (scan ws) ≡ Ok n
         → ((need lits at n : ℕ) → lits ≤ max_literals → scan ws need lits at ≡ Ok n → Read ws need lits n) → Read (w ∷ ws) need lits n
-    go symbol zero q e ih = apart cc
+    go symbol zero q e ih = cc
     go symbol (suc k) q e ih = read_inside w ws k lits n (rw q tt) (ih (arity w + k) lits (suc at) n h e)
-    go variable zero q e ih = apart cc
+    go variable zero q e ih = cc
     go variable (suc k) q e ih = read_inside w ws k lits n (rw q tt) (ih (arity w + k) lits (suc at) n h e)
-    go wrong zero q e ih = apart cc
-    go wrong (suc k) q e ih = apart cc
-    go head (suc k) q e ih = apart cc
+    go wrong zero q e ih = cc
+    go wrong (suc k) q e ih = cc
+    go head (suc k) q e ih = cc
     go head zero q e ih = room (ltb lits max_literals) refl e
       where
         room : (b : Bool) → ltb lits max_literals ≡ b → cond b (scan ws (arity w) (suc lits) (suc at)) (Err (Ninth at)) ≡ Ok n
             → Read (w ∷ ws) 0 lits n
         room true q' e' = read_head w ws lits n q (ih (arity w) (suc lits) (suc at) n (ltb-true lits max_literals q') e')
-        room false q' e' = apart cc
+        room false q' e' = cc
 
 -- an accepted clause is at most 64 words, and at most 8 literals one after another
 pub record Clause (ws : List ℕ) : Type 0 where
@@ -142,9 +141,9 @@ some_literal ws C = go (literals ws) C.whole
 
 pub accepted : (ws : List ℕ) → Accepted ws → Clause ws
 unfolding shape
-accepted [] h = let e : Err BadLength ≡ Ok h.0 = h.1 in apart cc
+accepted [] h = let e : Err BadLength ≡ Ok h.0 = h.1 in cc
 accepted (w ∷ ws) h = go (ltb max_words (length (w ∷ ws))) refl h.1
   where
     go : (b : Bool) → ltb max_words (length (w ∷ ws)) ≡ b → cond b (Err BadLength) (scan (w ∷ ws) 0 0 0) ≡ Ok h.0 → Clause (w ∷ ws)
-    go true q e = apart cc
+    go true q e = cc
     go false q e = scanned (w ∷ ws) h.0 (ltb-false max_words (length (w ∷ ws)) q) cons≢nil (read (w ∷ ws) 0 0 0 h.0 (omega arith) e)

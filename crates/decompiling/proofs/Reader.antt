@@ -104,7 +104,7 @@ at_key {P} (x ∷ p) h i l j e = go (instr_of x) refl i l e (at_key p)
   where
     go : (o : Option Instr) → instr_of x ≡ o → (i : ℕ) → i < suc (length p) → instr_of (get_or (x ∷ p) i 0) ≡ some j
         → (All P (instructions p) → (i : ℕ) → i < length p → (j : Instr) → instr_of (get_or p i 0) ≡ some j → P j) → P j
-    go none q zero l e ih = let z : ◌≡◌ {A = ℕ} 0 1 = cc in absurd (omega arith)
+    go none q zero l e ih = cc
     go none q (suc i) l e ih = ih (rw (instructions_cons x p none q) at h) i (omega arith) j e
     go (some k) q zero l e ih = let f : k ≡ j = cc in rw f at (all_head (rw (instructions_cons x p (some k) q) at h))
     go (some k) q (suc i) l e ih = ih (all_tail (rw (instructions_cons x p (some k) q) at h)) i (omega arith) j e

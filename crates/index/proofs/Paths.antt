@@ -13,7 +13,6 @@ use Rattle.clause.specs.Lists.{also}
 use Rattle.clause.specs.Word.{Sort, symbol, variable, head, wrong, sort, arity, Words}
 use Rattle.clause.specs.Clause.{Accepted, max_words, shape, scan, scan_word}
 use Rattle.clause.specs.declared.Fault.TheVariants.{BadLength}
-use Rattle.clause.proofs.Apart.{apart}
 use Rattle.machine.specs.Instr.{First, instr, key}
 use Rattle.machine.specs.Compile.{keys, sequence, sequence_from, opening, act}
 use Rattle.tree.specs.Keys.{next_key}
@@ -29,11 +28,11 @@ use Rattle.clause.specs.declared.Fault.{Fault}
 module _ (a n : ℕ) (rest : ℕ → ℕ → ℕ → Result ℕ Fault) where
   only_head : (b : Bool) (s : Sort) → cond b (Err BadLength) (scan_word s a 0 0 0 rest) ≡ Ok n → s ≡ head
   unfolding scan_word
-  only_head true s e = apart cc
-  only_head false symbol e = apart cc
-  only_head false variable e = apart cc
+  only_head true s e = cc
+  only_head false symbol e = cc
+  only_head false variable e = cc
   only_head false head e = refl
-  only_head false wrong e = apart cc
+  only_head false wrong e = cc
 
 first_head : (w : ℕ) (ws : List ℕ) → Accepted (w ∷ ws) → sort w ≡ head
 unfolding shape scan
@@ -49,7 +48,7 @@ pub record Begins (c : List ℕ) : Type 0 where
 
 pub begins : (c : List ℕ) → Accepted c → Words c → Begins c
 unfolding shape sequence sequence_from opening act key
-begins [] A w = let e = A.1 in apart cc
+begins [] A w = let e = A.1 in cc
 begins (w ∷ ws) A (also s l) = record { word = w; small = s; rest = drop 2 (keys (w ∷ ws)); first = (ws, refl); same = rw (first_head w ws A) }
 
 -- ---- rows of Checks

@@ -7,7 +7,6 @@ use Prim.Native.Nat.{ℕ}
 use lib.ListN.{replicate}
 use Rattle.clause.specs.Clause.{Accepted, shape}
 use Rattle.clause.specs.declared.Fault.{Fault}
-use Rattle.clause.proofs.Apart.{apart}
 use Rattle.reading.specs.Inner.Whole.{is_whole}
 use Rattle.tree.specs.declared.Refusal.{Refusal}
 use Rattle.tree.specs.Laid.{sized}
@@ -21,7 +20,7 @@ pub whole_accepted : (d : List ℕ) {w : Bool} → w ≡ is_whole (shape d) → 
 whole_accepted d e t = go (shape d) (sym e ∙ t)
   where
     go : (s : Result ℕ Fault) → is_whole s ≡ true → (n : ℕ) × (s ≡ Ok n)
-    go (Err f) e = apart cc
+    go (Err f) e = cc
     go (Ok n) e = (n, refl)
 
 -- which it is refused with, whatever the witness

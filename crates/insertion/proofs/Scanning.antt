@@ -6,7 +6,6 @@ use mathlib.Core.List.{List, [], ◌∷◌}
 use Prim.Native.Nat.{ℕ, suc}
 use lib.Dec.{eqb}
 use Rattle.std.specs.List.{list_any}
-use Rattle.clause.proofs.Apart.{apart}
 use Rattle.tree.specs.Laid.{key_of, extent_of}
 use Rattle.tree.specs.Inner.Cut.{begin, locate}
 use Rattle.insertion.specs.Inner.Taken.{is_some}
@@ -32,5 +31,5 @@ is_none (some a) e = cc
 
 -- something was found
 pub is_some_lem : {A : Type 0} (o : Option A) → is_some o ≡ true → (a : A) × (o ≡ some a)
-is_some_lem none e = apart cc
+is_some_lem none e = cc
 is_some_lem (some a) e = (a, refl)

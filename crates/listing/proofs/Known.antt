@@ -10,7 +10,6 @@ use Rattle.std.specs.Prelude.{Ok, Err}
 use Rattle.clause.specs.Lists.{All, none, also}
 use Rattle.clause.specs.Clause.{Accepted, shape}
 use Rattle.clause.specs.declared.Fault.{Fault}
-use Rattle.clause.proofs.Apart.{apart}
 use Rattle.tree.specs.Laid.{sized, well_laid, decode}
 use Rattle.tree.specs.declared.Refusal.{Refusal}
 use Rattle.tree.specs.declared.Refusal.TheVariants.{BadSlice, Broken, BadClause, NoSuchTree}
@@ -78,4 +77,4 @@ module _ (T c : List ℕ) (b : ℕ) (L : List ℕ) where
           → cond x (cond y (list_into c b L (pairs_of (decode T))) (unlisted NoSuchTree L)) (unlisted Broken L) ≡ unlisted r L
       go false y k = let t : Broken ≡ r = cc in rw t
       go true false k = let t : NoSuchTree ≡ r = cc in rw t
-      go true true k = apart cc
+      go true true k = cc

@@ -13,7 +13,6 @@ use Rattle.std.proofs.lemmas.Option.{slice_get_within, get_or_from_slice_get}
 use Rattle.clause.specs.Lists.{All}
 use Rattle.clause.specs.Word.{Words}
 use Rattle.clause.specs.Clause.{Accepted}
-use Rattle.clause.proofs.Apart.{apart}
 use Rattle.clause.proofs.Lists.{all_get}
 use Rattle.machine.specs.Machine.{State}
 use Rattle.tree.specs.Forest.{size, layout}
@@ -56,31 +55,31 @@ no_numbers (m ∷ ns) l f = ap (with_number m) (no_numbers ns l f) ∙ f m
 
 covered_is : (b : ℕ) (W : List ℕ) (x : Answer State) {n k : ℕ} → Ok (Covered n k) ≡ (answer_by b W x).answer → (s : State) × (x ≡ covered n s k)
 covered_is b W (covered m s j) {n = n} {k = k} e = let p : m ≡ n = cc in let q : j ≡ k = cc in (s, rw (p, q))
-covered_is b W (not_covered j) e = apart cc
-covered_is b W walk.spent e = apart cc
-covered_is b W walk.broken e = apart cc
+covered_is b W (not_covered j) e = cc
+covered_is b W walk.spent e = cc
+covered_is b W walk.broken e = cc
 
 not_covered_is : (b : ℕ) (W : List ℕ) (x : Answer State) {k : ℕ} → Ok (NotCovered k) ≡ (answer_by b W x).answer → x ≡ not_covered k
-not_covered_is b W (covered m s j) e = apart cc
+not_covered_is b W (covered m s j) e = cc
 not_covered_is b W (not_covered j) {k = k} e = let q : j ≡ k = cc in rw q
-not_covered_is b W walk.spent e = apart cc
-not_covered_is b W walk.broken e = apart cc
+not_covered_is b W walk.spent e = cc
+not_covered_is b W walk.broken e = cc
 
 unanswered_is : {c d : List ℕ} (b : ℕ) (W : List ℕ) {x : Answer State} → Tries c d b x → {r : Refusal} → Err r ≡ (answer_by b W x).answer → x ≡ walk.spent
-unanswered_is b W (subsuming u p h) e = apart cc
-unanswered_is b W (other u p h) e = apart cc
+unanswered_is b W (subsuming u p h) e = cc
+unanswered_is b W (other u p h) e = cc
 unanswered_is b W (beyond h) e = refl
 
 -- no more candidates than the budget
 covered_few : {c d : List ℕ} {b : ℕ} {x : Answer State} → Tries c d b x → {n : ℕ} {s : State} {k : ℕ} → x ≡ covered n s k → k ≤ b
 covered_few (subsuming {k = j} u p h) {k = k} e = let q : j ≡ k = cc in rw q at h
-covered_few (other u p h) e = apart cc
-covered_few (beyond h) e = apart cc
+covered_few (other u p h) e = cc
+covered_few (beyond h) e = cc
 
 not_covered_few : {c d : List ℕ} {b : ℕ} {x : Answer State} → Tries c d b x → {k : ℕ} → x ≡ not_covered k → k ≤ b
-not_covered_few (subsuming u p h) e = apart cc
+not_covered_few (subsuming u p h) e = cc
 not_covered_few (other {k = j} u p h) {k = k} e = let q : j ≡ k = cc in rw q at h
-not_covered_few (beyond h) e = apart cc
+not_covered_few (beyond h) e = cc
 
 -- ---- one clause after another
 

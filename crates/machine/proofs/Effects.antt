@@ -1,18 +1,17 @@
 -- Effects of steps.
 use mathlib.Core.Path.{◌≡◌, refl}
 use Rattle.machine.specs.Machine.{Effect, next, fails, stuck, bind}
-use Rattle.clause.proofs.Apart.{apart}
 
 module _ {S : Type 0} where
   -- the three effects are apart
   pub fails≢next : {t : S} → fails ≡ next t → ⊥
-  fails≢next e = apart cc
+  fails≢next e = cc
 
   pub stuck≢next : {t : S} → stuck ≡ next t → ⊥
-  stuck≢next e = apart cc
+  stuck≢next e = cc
 
   pub fails≢stuck : ◌≡◌ {A = Effect S} fails stuck → ⊥
-  fails≢stuck e = apart cc
+  fails≢stuck e = cc
 
   -- a run that ends goes on behind its first step
   pub bind_next : {t : S} (o : Effect S) (k : S → Effect S) → bind o k ≡ next t → (s : S) × (o ≡ next s) × (k s ≡ next t)

@@ -17,7 +17,6 @@ use Rattle.machine.proofs.Flat.{flat}
 use Rattle.machine.proofs.Compares.{Consistent}
 use Rattle.machine.proofs.Agree.{Agree, agree_append, agree_first, agree_last, agree_consistent, look, look_term, look_agrees, consistent_more}
 use Rattle.machine.proofs.Replace.{vars_append, Match, m_variable, m_other, match_inst, match_length, match_terms, flat_match, inst_flat}
-use Rattle.clause.proofs.Apart.{apart}
 
 -- the words of literal j
 abbrev pub chosen : List ℕ → ℕ → List ℕ
@@ -55,7 +54,7 @@ module _ (d : List ℕ) (D : Clause d) where
     literal_terms : (ps : List ℕ) → Match d l (chosen d j) (start_of d j) ps → All (λ p. IsTerm (term_at d p)) ps
     literal_terms ps m =
         let C = all_get (literals d) D.all j [] h in
-        let not_variable : sort L.top ≢ variable = λ e. apart (cc L.top_head) in
+        let not_variable : sort L.top ≢ variable = λ e. cc L.top_head in
         let b = match_below not_variable (rw L.parts at m) in
         match_terms b.matched (rw (tail-eq_of_cons-eq (sym b.parts ∙ C.parts)) C.args_inner)
 

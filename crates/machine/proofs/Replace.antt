@@ -21,7 +21,6 @@ use Rattle.clause.proofs.Terms.{if-other, variable_arity, inst_variable, inst_ot
 use Rattle.machine.proofs.Flat.{flat}
 use Rattle.machine.proofs.Agree.{Agree, no_more, and_so, agree_head, agree_tail}
 use Rattle.clause.specs.Positions.{jump}
-use Rattle.clause.proofs.Apart.{apart}
 
 -- what a variable adds
 module _ (d : List ℕ) (w : ℕ) (ws : List ℕ) (p : ℕ) where
@@ -132,7 +131,7 @@ module _ (d : List ℕ) where
       IH = (u : List ℕ) (p : ℕ) (ps r : List ℕ) → Shaped (arity w + k) u → drop p d ≡ u ++ r → flat d ws p ≡ some ps → Match d ws u p ps
 
       hit : sort w ≢ variable → IH → Dec (get_or d p 0 ≡ w) → Match d (w ∷ ws) u p ps
-      hit n ih (no m) = apart (cc (flat_miss d w ws p n m))
+      hit n ih (no m) = cc (flat_miss d w ws p n m)
       hit n ih (yes m) =
           let c = uncons g in
           let e' : drop p d ≡ c.top ∷ (c.below ++ r) = rw c.parts at e in

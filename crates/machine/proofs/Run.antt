@@ -23,7 +23,6 @@ use Rattle.machine.proofs.Flat.{flat, puts_all, After, Agrees, miss, hit, reach}
 use Rattle.machine.proofs.Compares.{GoesIf, holds, refuted, goes_if_from, Consistent, run_compares}
 use Rattle.machine.proofs.Replace.{length_vars, match_length}
 use Rattle.machine.proofs.Table.{filled, filled_more, filled_get}
-use Rattle.clause.proofs.Apart.{apart}
 use Rattle.machine.proofs.Used.{Differ, differ_more, differ_used, enter_new, enter_used}
 use Rattle.machine.proofs.Fits.{literal_match, FitsChosen, fits_none, fits_also, places}
 
@@ -85,7 +84,7 @@ fits_first {d} {l} {ls} {js = js} {puts} {poss} ps e (fits_also {ps = qs} f c F)
 
 fits_some : {d l : List ℕ} {ls : List (List ℕ)} {j : ℕ} {js puts poss : List ℕ} → flat d l (start_of d j) ≡ none → FitsChosen d (l ∷ ls) (j ∷ js) puts poss
     → ⊥
-fits_some e (fits_also f c F) = apart cc
+fits_some e (fits_also f c F) = cc
 
 module _ (d : List ℕ) (D : Clause d) where
   abbrev Runs : List (List ℕ) → Type 0

@@ -23,14 +23,14 @@ unused_place j (x ∷ l) e i h g = go (eqb x j) refl e i h g (unused_place j l)
   where
     go : (b : Bool) → eqb x j ≡ b → (b || used j l) ≡ false → (i : ℕ) → i < length (x ∷ l) → get_or (x ∷ l) i 0 ≡ j
         → (used j l ≡ false → (i : ℕ) → i < length l → get_or l i 0 ≡ j → ⊥) → ⊥
-    go true f e i h g ih = let z : ◌≡◌ {A = ℕ} 0 1 = cc in omega arith
+    go true f e i h g ih = cc
     go false f e zero h g ih = eqb-false x j f g
     go false f e (suc i) h g ih = ih e i (omega arith) g
 
 -- one that is used has one
 used_place : (j : ℕ) (l : List ℕ) → used j l ≡ true → (i : ℕ) × (i < length l) × (get_or l i 0 ≡ j)
 unfolding used
-used_place j [] e = let z : ◌≡◌ {A = ℕ} 0 1 = cc in absurd (omega arith)
+used_place j [] e = cc
 used_place j (x ∷ l) e = go (eqb x j) refl e (used_place j l)
   where
     go : (b : Bool) → eqb x j ≡ b → (b || used j l) ≡ true → (used j l ≡ true → (i : ℕ) × (i < length l) × (get_or l i 0 ≡ j))

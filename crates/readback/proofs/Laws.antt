@@ -11,7 +11,6 @@ use lib.Dec.{leb}
 use lib.ListN.{length, length-map}
 use borrow.Author.Tests.{le-leb, lt-leb}
 use Rattle.clause.specs.Clause.{max_words}
-use Rattle.clause.proofs.Apart.{apart}
 use Rattle.clause.proofs.Lists.{all_mem}
 use Rattle.clause.proofs.Literals.{accepted}
 use Rattle.machine.specs.Instr.{key}
@@ -73,9 +72,9 @@ check_passing T e = go (sized T) refl (well_laid T) refl (of_clauses (decode T))
   where
     go : (a : Bool) → sized T ≡ a → (b : Bool) → well_laid T ≡ b → (c : Bool) → of_clauses (decode T) ≡ c
         → cond a (cond b (cond c passes (Err NoSuchTree)) (Err Broken)) (Err BadSlice) ≡ Ok tt → Passing T
-    go false a b l c k e = apart cc
-    go true a false l c k e = apart cc
-    go true a true l false k e = apart cc
+    go false a b l c k e = cc
+    go true a false l c k e = cc
+    go true a true l false k e = cc
     go true a true l true k e = record { right_size = a; laid = l; of_clauses_lem = k }
 
 pub passing_check : (T : List ℕ) → Passing T → check T ≡ Ok tt
@@ -125,7 +124,7 @@ read_failed T n W r e room f = rw (e, le-leb max_words (length W) room) (go (wel
         → cond b (cond c (written_out (find n (decode T)) W) (unread NoSuchTree W)) (unread Broken W) ≡ unread r W
     go false c q = let s : Broken ≡ r = cc in rw s
     go true false q = let s : NoSuchTree ≡ r = cc in rw s
-    go true true q = apart cc
+    go true true q = cc
 
 module _ (T : List ℕ) (K : List Pair) (I : IsTreeOf T K) (W : List ℕ) (room : max_words ≤ length W) where
   passing : Passing T
@@ -143,7 +142,7 @@ module _ (T : List ℕ) (K : List Pair) (I : IsTreeOf T K) (W : List ℕ) (room 
   unknown n l = (to, from)
     where
       to : read_back T n W ≡ unread NoSuchNumber W → (p : Pair) → Memᴰ p K → p.number ≢ n
-      to e p m q = let f = ap (λ (r : Given). r.answer) (sym (each p m) ∙ ap (λ k. read_back T k W) q ∙ e) in apart cc
+      to e p m q = let f = ap (λ (r : Given). r.answer) (sym (each p m) ∙ ap (λ k. read_back T k W) q ∙ e) in cc
 
       from : ((p : Pair) → Memᴰ p K → p.number ≢ n) → read_back T n W ≡ unread NoSuchNumber W
       from h = written_is T n W passing room ∙ go (find n (decode T)) refl
@@ -179,11 +178,11 @@ reads T n W k l e = go (sized T) refl (leb max_words (length W)) refl (well_laid
         → (o : Option (List ℕ)) → find n (decode T) ≡ o
         → (cond a (cond b (cond c (cond d (written_out o W) (unread NoSuchTree W)) (unread Broken W)) (unread ShortOutput W)) (unread BadSlice W)).answer ≡ Ok k
         → IsRead T n W k
-    go false a b l c k d m o f e = apart cc
-    go true a false l c k d m o f e = apart cc
-    go true a true l false k d m o f e = apart cc
-    go true a true l true k false m o f e = apart cc
-    go true a true l true k true m none f e = apart cc
+    go false a b l c k d m o f e = cc
+    go true a false l c k d m o f e = cc
+    go true a true l false k d m o f e = cc
+    go true a true l true k false m o f e = cc
+    go true a true l true k true m none f e = cc
     go true a true l true k true m (some cs) f e = tested a l k m cs f e
 
 -- ---- the claims

@@ -40,7 +40,6 @@ use Rattle.record.specs.declared.Setting.{Setting}
 use Rattle.record.specs.declared.Setting.TheVariants.{Plain, Back}
 use Rattle.record.specs.declared.Outcome.{Outcome}
 use Rattle.record.specs.declared.Outcome.TheVariants.{Refused}
-use Rattle.clause.proofs.Apart.{apart}
 use Rattle.clause.proofs.Lists.{all_mem}
 use Rattle.tree.proofs.Words.{length_layout}
 use Rattle.walk.proofs.Covering.{query_tree, answers, decided_fits, shows_subsumes}
@@ -214,9 +213,9 @@ module _ (K : List Pair) (h : Holds tree_words K (tree_of K)) (x : Record) (f : 
 -- what the walk answers where the query is answered covered
 told_covered : (b : ℕ) (W : List ℕ) (a : Answer State) (n k : ℕ) → (answer_by b W a).answer ≡ Ok (Covered n k) → (t : State) × (a ≡ covered n t k)
 told_covered b W (covered m t l) n k e = let i : m ≡ n = cc in let j : l ≡ k = cc in (t, rw (i, j))
-told_covered b W (not_covered c) n k e = apart cc
-told_covered b W spent n k e = apart cc
-told_covered b W broken n k e = apart cc
+told_covered b W (not_covered c) n k e = cc
+told_covered b W spent n k e = cc
+told_covered b W broken n k e = cc
 
 module _ (v : Setting) (K : List Pair) (h : Holds tree_words K (tree_of K)) (x : Record) (f : Fit (insert x.words x.number)) where
   abbrev T : List ℕ

@@ -9,7 +9,6 @@ use native.Mathlib.Omega.{arith}
 use lib.ListN.{length, length-append}
 use Rattle.clause.specs.Lists.{All, none, also, Each, nobody, besides}
 use Rattle.clause.specs.Clause.{Subsumes}
-use Rattle.clause.proofs.Apart.{apart}
 use Rattle.clause.proofs.Lists.{all_mem, all-weaken}
 use Rattle.clause.proofs.Order.{subsumes_refl, subsumes_trans}
 use Rattle.tree.specs.Keys.{first_key}
@@ -120,8 +119,8 @@ module _ {v : Setting} {K : List Pair} (h : Holds tree_words K (tree_of K)) {x :
   fate_covered t w = go t.course w
     where
       go : {L : List Pair} {o : Outcome} {ms : List ℕ} {M : List Pair} → Course K L x t.cleared o ms M → IsKept o ⊎ IsStruck o → Subsumed M x.words
-      go (refuses r) (inl (n, e)) = apart cc
-      go (refuses r) (inr (n, k, e)) = apart cc
+      go (refuses r) (inl (n, e)) = cc
+      go (refuses r) (inr (n, k, e)) = cc
       go (strikes s) o = (s.striking, s.kept, s.subsumes)
       go (keeps k) o = (pair_of x, Memᴰ.head refl, subsumes_refl x.words)
 
@@ -333,7 +332,7 @@ kept_mem (s ∷ rs) e r m k = go (later s.removed e) m (λ i n. kept_mem rs i r 
   where
     later : (ms : List ℕ) → ms ++ taken_out rs ≡ [] → taken_out rs ≡ []
     later [] i = i
-    later (n ∷ ms) i = apart cc
+    later (n ∷ ms) i = cc
 
     go : taken_out rs ≡ [] → Memᴰ r (s ∷ rs) → (taken_out rs ≡ [] → Memᴰ r rs → Memᴰ (pair_of r.of) (kept_pairs rs))
         → Memᴰ (pair_of r.of) (kept_pairs (s ∷ rs))
@@ -378,9 +377,9 @@ pub fate_struck : {v : Setting} {K M : List Pair} {x : Record} {o : Outcome} {ms
 fate_struck {K = K} {x = x} t n k e = go t.course e
   where
     go : {L : List Pair} {o : Outcome} {ms : List ℕ} {M : List Pair} → Course K L x t.cleared o ms M → o ≡ Struck n k → StruckBy K x n
-    go (refuses r) e = apart cc
+    go (refuses r) e = cc
     go (strikes {n = m} s) e = let i : m ≡ n = cc in (s.striking, s.kept, s.number ∙ i, s.subsumes)
-    go (keeps u) e = apart cc
+    go (keeps u) e = cc
 
 -- without backward striking what was in the book stays in it
 stays : {K : List Pair} {rs : List Row} {p : Pair} → Fated Plain K rs → Memᴰ p K → Memᴰ p (book_from tree_words K (row_calls rs))

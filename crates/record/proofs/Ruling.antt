@@ -31,7 +31,6 @@ use Rattle.record.specs.declared.Outcome.{Outcome}
 use Rattle.record.specs.declared.Outcome.TheVariants.{Kept, Struck, Refused}
 use Rattle.clause.proofs.Literals.{accepted}
 use Rattle.clause.proofs.Lists.{all_mem}
-use Rattle.clause.proofs.Apart.{apart}
 use Rattle.machine.proofs.Codes.{sequence_plain}
 use Rattle.tree.proofs.Plain.{plain_body}
 use Rattle.tree.proofs.Delete.{find_none, find_some}
@@ -53,7 +52,7 @@ witness_long = rw (length-replicate {A = ℕ} witness_words 0) (omega arith)
 -- ---- the cases exclude each other
 
 pub shape_faulty : {s : Result ℕ Fault} {n : ℕ} {f : Fault} → s ≡ Err f → s ≡ Ok n → ⊥
-shape_faulty e i = let j = sym e ∙ i in apart cc
+shape_faulty e i = let j = sym e ∙ i in cc
 
 module _ {K L : List Pair} {x : Record} where
   reason_subsumed : {r : Refusal} → Reason K L x r → Decided K x → Subsumed K x.words → ⊥
@@ -135,13 +134,13 @@ pub record Fate (s : Setting) (K : List Pair) (x : Record) (o : Outcome) (remove
   pub course : Course K (without_all cleared K) x cleared o removed M
 
 kept_refused : (u : ℕ) (r : Refusal) → Kept u ≡ Refused r → ⊥
-kept_refused u r e = apart cc
+kept_refused u r e = cc
 
 kept_struck : (u n k : ℕ) → Kept u ≡ Struck n k → ⊥
-kept_struck u n k e = apart cc
+kept_struck u n k e = cc
 
 struck_refused : (n k : ℕ) (r : Refusal) → Struck n k ≡ Refused r → ⊥
-struck_refused n k r e = apart cc
+struck_refused n k r e = cc
 
 module _ {s : Setting} {K : List Pair} {x : Record} (ns : List ℕ) (a : Accepted x.words → Clears s K x ns) where
   -- what is left of the book
@@ -223,7 +222,7 @@ unfolding layout
 used_layout len F h = omega arith
 
 refuse≢change : (r : Refusal) (G : Forest) → refuse r ≡ change G → ⊥
-refuse≢change r G e = apart cc
+refuse≢change r G e = cc
 
 module _ (K : List Pair) (F : Forest) (h : Holds tree_words K F) (x : Record) (f : Fit (insert x.words x.number)) (q : ℕ) (s : shape x.words ≡ Ok q) where
   body : Body (keys x.words)

@@ -9,7 +9,6 @@ use lib.Dec.{eqb}
 use lib.ListN.{length}
 use borrow.Author.Tests.{eq-eqb, ne_eqb, eqb-true}
 use Rattle.clause.specs.Lists.{Each}
-use Rattle.clause.proofs.Apart.{apart}
 use Rattle.record.specs.Output.{Row, counted, totals_with}
 use Rattle.record.specs.Ruled.{IsKept}
 use Rattle.record.specs.Tally.{was_kept, was_struck_by, spent_on, ever_kept, struck_by, total, spent}
@@ -39,8 +38,8 @@ pub data Strike (n : ℕ) (o : Outcome) : Type 0 where
   other : ((k : ℕ) → o ≡ Struck n k → ⊥) → Strike n o
 
 pub strike : (n : ℕ) (o : Outcome) → Strike n o
-strike n (Kept used) = other (λ k e. apart cc)
-strike n (Refused r) = other (λ k e. apart cc)
+strike n (Kept used) = other (λ k e. cc)
+strike n (Refused r) = other (λ k e. cc)
 strike n (Struck m k) = go (ℕ_discrete m n)
   where
     go : Dec (m ≡ n) → Strike n (Struck m k)
@@ -142,8 +141,8 @@ weights w l d (r ∷ rs) h = go r.outcome refl (weights w l d rs (λ s m. h s (M
     plain e = total_same (weight_by w (r ∷ rs)) (weight_by w rs) l (λ n. ap (λ (s : List Row). total (map w s)) (struck_same n r rs (e n)))
 
     go : (o : Outcome) → r.outcome ≡ o → total (map (weight_by w rs) l) ≡ weight w rs → total (map (weight_by w (r ∷ rs)) l) ≡ weighed w r o + weight w rs
-    go (Kept used) e ih = omega (arith, ih, plain (λ n k i. let j = sym e ∙ i in apart cc))
-    go (Refused r) e ih = omega (arith, ih, plain (λ n k i. let j = sym e ∙ i in apart cc))
+    go (Kept used) e ih = omega (arith, ih, plain (λ n k i. let j = sym e ∙ i in cc))
+    go (Refused r) e ih = omega (arith, ih, plain (λ n k i. let j = sym e ∙ i in cc))
     go (Struck m k) e ih =
         omega (
           arith,

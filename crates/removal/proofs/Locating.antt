@@ -14,7 +14,6 @@ use Rattle.tree.specs.Laid.{key_of, extent_of, successes}
 use Rattle.tree.specs.Inner.Cut.{Span, begin, locate}
 use Rattle.tree.proofs.InsertWords.{leaf_number}
 use Rattle.tree.proofs.RemoveWords.{locate_hit, locate_miss}
-use Rattle.clause.proofs.Apart.{apart}
 
 -- ---- what was found
 
@@ -39,7 +38,7 @@ found_here w ws n at from up s l h q e =
     subst (Found (w ∷ ws) at) (cc) (record { order = begin_le w at from up h; inside = omega arith; counted = omega arith })
 
 pub found : (ws : List ℕ) (n at from up : ℕ) (s : Span) → n < first_key → from ≤ at → locate ws n at from up ≡ some s → Found ws at s
-found [] n at from up s l h e = apart cc
+found [] n at from up s l h e = cc
 found (w ∷ ws) n at from up s l h e = go (eqb (key_of w) n) refl (found ws n (suc at) (begin w at from up) (extent_of w) s l)
   where
     start : begin w at from up ≤ at

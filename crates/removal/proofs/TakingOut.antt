@@ -24,7 +24,6 @@ use Rattle.tree.specs.declared.Refusal.TheVariants.{NoSuchNumber}
 use Rattle.tree.proofs.Grow.{rows_under, Tests, tests, zeros_replicated}
 use Rattle.tree.proofs.RemoveWords.{cut_parts}
 use Rattle.removal.proofs.Locating.{Found, found}
-use Rattle.clause.proofs.Apart.{apart}
 
 -- ---- the words before the place
 
@@ -139,14 +138,14 @@ hit h ws n s l w e =
 pub hit_order : (t : List ℕ) (n : ℕ) (s : Span) → n < first_key → well_laid t ≡ true → some s ≡ scan t n
     → (s.place ≤ s.last) × (s.last < used_of (get_or t 0 0))
 unfolding region
-hit_order [] n s l w e = apart cc
+hit_order [] n s l w e = cc
 hit_order (h ∷ ws) n s l w e = let f : Hit h ws n s = hit h ws n s l w e in (f.order, f.inside)
 
 -- what is found in a well-laid slice can be taken out, and so can fewer words
 pub removable : (t : List ℕ) (n : ℕ) (s : Span) (gone : ℕ) → gone ≤ s.last + 1 - s.place → length t ≤ most_words → n < first_key
     → well_laid t ≡ true → some s ≡ scan t n → Removable t s.place gone
 unfolding region
-removable [] n s gone q u l w e = apart cc
+removable [] n s gone q u l w e = cc
 removable (h ∷ ws) n s gone q u l w e =
     let f : Hit h ws n s = hit h ws n s l w e in
     let same : take s.place (take (used_of h) ws) ≡ take s.place ws = take-take s.place (used_of h) ws (omega (arith, f.order, f.inside)) in
@@ -163,7 +162,7 @@ removable (h ∷ ws) n s gone q u l w e =
 pub removed : (t : List ℕ) (n : ℕ) (s : Span) → n < first_key → well_laid t ≡ true → some s ≡ scan t n
     → ◌≡◌ {A = Called} (record { answer = Ok Removed; slice = taken_out t s.place (s.last + 1 - s.place) }) (remove_by_words t n)
 unfolding remove_by_words region
-removed [] n s l w e = apart cc
+removed [] n s l w e = cc
 removed (h ∷ ws) n s l w e =
     let f : Hit h ws n s = hit h ws n s l w e in
     let many : s.last + 1 - s.place ≡ suc s.last - s.place = omega arith in
@@ -175,5 +174,5 @@ removed (h ∷ ws) n s l w e =
 -- a number that is not found is refused
 pub missed : (t : List ℕ) (n : ℕ) → well_laid t ≡ true → none ≡ scan t n → refused NoSuchNumber t ≡ remove_by_words t n
 unfolding remove_by_words well_laid region
-missed [] n w e = apart cc
+missed [] n w e = cc
 missed (h ∷ ws) n w e = let here : locate (take (used_of h) ws) n 0 0 0 ≡ none = sym e in rw here

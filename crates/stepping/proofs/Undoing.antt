@@ -8,7 +8,6 @@ use lib.Dec.{eqb}
 use lib.ListN.{length, get_or, length-set}
 use lib.Seq.{get_or-set_other, set-set, set-get_or}
 use borrow.Author.Tests.{ne_eqb}
-use Rattle.clause.proofs.Apart.{apart}
 use Rattle.cells.specs.Inner.Cells.{count_at, undo_base, count_in, restored}
 use Rattle.stepping.specs.Inner.Visits.{undo_of, stores, Undoable, plain, store}
 use Rattle.stepping.specs.declared.Visit.{Visit}
@@ -21,7 +20,7 @@ zero Stuck e = refl
 zero Hit e = refl
 zero Tries e = refl
 zero (Below x) e = refl
-zero (Stored x u) e = apart cc
+zero (Stored x u) e = cc
 
 -- a store keeps the number of cells and of candidates
 pub undoable_size : {l m : List ℕ} {v : Visit} → Undoable l v m → length m ≡ length l
@@ -38,16 +37,16 @@ undoable_small (store h i x low high small) = omega arith
 
 -- a visit that stores has an undo, and any other leaves the cells as they are
 pub undoable_some : {l m : List ℕ} {v : Visit} → Undoable l v m → stores v ≡ true → undo_of v ≡ 0 → ⊥
-undoable_some (plain g n) e z = apart cc
+undoable_some (plain g n) e z = cc
 undoable_some (store h i x low high small) e z = omega arith
 
 pub undoable_zero : {l m : List ℕ} {v : Visit} → Undoable l v m → stores v ≡ false → undo_of v ≡ 0
 undoable_zero (plain g n) e = zero g n
-undoable_zero (store h i x low high small) e = apart cc
+undoable_zero (store h i x low high small) e = cc
 
 pub undoable_none : {l m : List ℕ} {v : Visit} → Undoable l v m → stores v ≡ false → m ≡ l
 undoable_none (plain g n) e = refl
-undoable_none (store h i x low high small) e = apart cc
+undoable_none (store h i x low high small) e = cc
 
 -- what a visit stored over is stored back
 pub restored_undoable : {l after : List ℕ} {v : Visit} → Undoable l v after → restored (undo_of v) after ≡ l

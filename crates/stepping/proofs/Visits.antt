@@ -13,7 +13,6 @@ use borrow.Author.Tests.{lt-ltb, le-ltb, eq-eqb, ne_eqb}
 use Rattle.clause.specs.Word.{arity}
 use Rattle.clause.specs.Clause.{max_words, max_literals, term_at}
 use Rattle.clause.specs.Positions.{jump, rights}
-use Rattle.clause.proofs.Apart.{apart}
 use Rattle.clause.proofs.Literals.{accepted}
 use Rattle.clause.proofs.Ends.{jump_from, jump_le, term_part}
 use Rattle.clause.proofs.Siblings.{right_inside}
@@ -232,16 +231,16 @@ nothing_over (suc (suc (suc (suc (suc (suc (suc (suc (suc op))))))))) x h = refl
 -- First is the instruction of operation 1 alone
 first_op : (op x : ℕ) → instruction op x ≡ some First → op ≡ 1
 unfolding instruction
-first_op zero x e = apart cc
+first_op zero x e = cc
 first_op (suc zero) x e = refl
-first_op (suc (suc zero)) x e = apart cc
-first_op (suc (suc (suc zero))) x e = apart cc
-first_op (suc (suc (suc (suc zero)))) x e = apart cc
-first_op (suc (suc (suc (suc (suc zero))))) x e = apart cc
-first_op (suc (suc (suc (suc (suc (suc zero)))))) x e = apart cc
-first_op (suc (suc (suc (suc (suc (suc (suc zero))))))) x e = apart cc
-first_op (suc (suc (suc (suc (suc (suc (suc (suc zero)))))))) x e = apart cc
-first_op (suc (suc (suc (suc (suc (suc (suc (suc (suc op))))))))) x e = apart cc
+first_op (suc (suc zero)) x e = cc
+first_op (suc (suc (suc zero))) x e = cc
+first_op (suc (suc (suc (suc zero)))) x e = cc
+first_op (suc (suc (suc (suc (suc zero))))) x e = cc
+first_op (suc (suc (suc (suc (suc (suc zero)))))) x e = cc
+first_op (suc (suc (suc (suc (suc (suc (suc zero))))))) x e = cc
+first_op (suc (suc (suc (suc (suc (suc (suc (suc zero)))))))) x e = cc
+first_op (suc (suc (suc (suc (suc (suc (suc (suc (suc op))))))))) x e = cc
 
 -- any instruction but First before a candidate
 pub early : (d : List ℕ) (op x : ℕ) (s : State) → s.head ≡ none → (op ≡ 1 → ⊥) → met_as d (instruction op x) s ≡ bad

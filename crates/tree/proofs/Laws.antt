@@ -24,7 +24,6 @@ use Rattle.tree.proofs.Held.{has_number, Holding, holding}
 use Rattle.tree.proofs.Count.{book_size}
 use Rattle.tree.proofs.Words.{decode_layout}
 use Rattle.tree.proofs.Grow.{laid_iff}
-use Rattle.clause.proofs.Apart.{apart}
 
 slices : (s : List ℕ) → length s ≤ 2 ^ 28 → Slices s
 slices s u =
@@ -35,7 +34,7 @@ slices s u =
 
 -- nothing is something
 none≢some : {A : Type 0} {a : A} → none ≡ some a → ⊥
-none≢some e = apart cc
+none≢some e = cc
 
 -- ---- the first with a number
 

@@ -9,7 +9,6 @@ use Prim.Native.Nat.{ℕ, zero, suc, ◌+◌, ◌-◌, ◌*◌, ◌^◌, ◌≤�
 use native.Mathlib.Nat.{mul-add, add-mul, mul-suc, mul_left_comm, mul-le-mul, mul-le-mul_left, pow-succ', pow-zero}
 use native.Mathlib.Omega.{arith}
 use Rattle.clause.specs.Clause.{max_literals}
-use Rattle.clause.proofs.Apart.{apart}
 use Rattle.machine.specs.Instr.{Step, Instr, First, Do, Success, instr_of}
 use Rattle.machine.specs.Machine.{Effect, next, fails, stuck}
 use Rattle.tree.specs.Keys.{next_key}
@@ -59,7 +58,7 @@ enough_full = mul-le-mul_left max_kept (arrangements_powers max_literals max_lit
 leaves_pos : (b : ℕ) (F : Forest) → Formed b F → F ≢ empty → 0 < leaves F
 leaves_pos b empty f h = absurd (h refl)
 leaves_pos b (node i empty R) f h = omega (arith, leaf_number i f.shape)
-leaves_pos b (node i (node j C S) R) f h = omega (arith, leaves_pos 0 (node j C S) f.below (λ e. apart cc))
+leaves_pos b (node i (node j C S) R) f h = omega (arith, leaves_pos 0 (node j C S) f.below (λ e. cc))
 
 -- a part of the walk that counts at most x
 abbrev Adds : {S : Type 0} → ℕ → Part S → Type 0

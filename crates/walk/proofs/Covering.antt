@@ -18,7 +18,6 @@ use Rattle.walk.specs.Walk.{Answer, covered, not_covered, spent, broken, up_to, 
 use Rattle.walk.specs.Ceiling.{ceiling, arrangements}
 use Rattle.walk.specs.Query.{machine, witness_words, shown, with_shown, unanswered, answer_by, query}
 use Rattle.walk.specs.Covering.{most, Subsumed, Shows, count_of, candidates, IsCovered, IsNotCovered, IsSpent, Answers}
-use Rattle.clause.proofs.Apart.{apart}
 use Rattle.tree.proofs.Words.{length_layout, header_layout, region_layout}
 use Rattle.walk.proofs.Paths.{Finds}
 use Rattle.walk.proofs.Search.{Decides, found, nothing}
@@ -102,10 +101,10 @@ module _ (K : List Pair) (F : Forest) (S : All Sound K) (R : Mirrors F (map entr
         let is : IsSpent T d b W = ap (λ x. x.answer) u in
         record {
           kinds = inr (inr is);
-          covers = λ n' c' v. apart cc;
-          spares = λ c' v. apart cc;
-          counts = λ n' c' v. apart cc;
-          counts_not = λ c' v. apart cc;
+          covers = λ n' c' v. cc;
+          spares = λ c' v. cc;
+          counts = λ n' c' v. cc;
+          counts_not = λ c' v. cc;
           spends = (λ v. h, λ l. is);
           untouched = λ v. ap (λ x. x.witness) u;
           decides = λ l. absurd (omega arith);
@@ -125,13 +124,13 @@ module _ (K : List Pair) (F : Forest) (S : All Sound K) (R : Mirrors F (map entr
         record {
           kinds = inl (n, c, is);
           covers = λ n' c' v. let same : n ≡ n' = cc in (p, m, at ∙ same, rw words S', rw words spared);
-          spares = λ c' v. apart cc;
+          spares = λ c' v. cc;
           counts = λ n' c' v. let same : c ≡ c' = cc in sym same ∙ sym all;
-          counts_not = λ c' v. apart cc;
-          spends = (λ v. apart cc, λ l. absurd (omega arith));
-          untouched = λ v. apart cc;
+          counts_not = λ c' v. cc;
+          spends = (λ v. cc, λ l. absurd (omega arith));
+          untouched = λ v. cc;
           decides = λ l. (λ v. finds_subsumed K F S R d D n t g, λ v. (n, c, is));
-          denies = λ l. (λ v. let f = v.1 in apart cc, λ none. absurd (none (finds_subsumed K F S R d D n t g)));
+          denies = λ l. (λ v. let f = v.1 in cc, λ none. absurd (none (finds_subsumed K F S R d D n t g)));
           bounded = kept_bounded;
           arranged = kept_arranged;
         }
@@ -145,13 +144,13 @@ module _ (K : List Pair) (F : Forest) (S : All Sound K) (R : Mirrors F (map entr
         let none : Subsumed K d → ⊥ = λ v. let (t, f) = subsumes_finds K F S R d D v.0 v.1 v.2 in g v.0.number t f in
         record {
           kinds = inr (inl (c, is));
-          covers = λ n' c' v. apart cc;
+          covers = λ n' c' v. cc;
           spares = λ c' v. (none, words);
-          counts = λ n' c' v. apart cc;
+          counts = λ n' c' v. cc;
           counts_not = λ c' v. let same : c ≡ c' = cc in sym same ∙ sym all;
-          spends = (λ v. apart cc, λ l. absurd (omega arith));
-          untouched = λ v. apart cc;
-          decides = λ l. (λ v. let f = v.2 in apart cc, λ v. absurd (none v));
+          spends = (λ v. cc, λ l. absurd (omega arith));
+          untouched = λ v. cc;
+          decides = λ l. (λ v. let f = v.2 in cc, λ v. absurd (none v));
           denies = λ l. (λ v. none, λ v. (c, is));
           bounded = kept_bounded;
           arranged = kept_arranged;
@@ -185,5 +184,5 @@ module _ {K : List Pair} {F : Forest} {T d : List ℕ} {b : ℕ} {W : List ℕ} 
     where
       go : Dec (candidates F d ≤ b) → IsCovered T d b W ⊎ IsNotCovered T d b W → candidates F d ≤ b
       go (yes l) u = l
-      go (no l) (inl (n, c, e)) = let s : IsSpent T d b W = A.spends.1 (omega arith) in apart cc
-      go (no l) (inr (c, e)) = let s : IsSpent T d b W = A.spends.1 (omega arith) in apart cc
+      go (no l) (inl (n, c, e)) = let s : IsSpent T d b W = A.spends.1 (omega arith) in cc
+      go (no l) (inr (c, e)) = let s : IsSpent T d b W = A.spends.1 (omega arith) in cc

@@ -6,7 +6,6 @@ use mathlib.Core.List.{List, ◌∷◌}
 use Prim.Native.Nat.{ℕ, zero, suc, ◌*◌, ◌/◌, ◌%◌, ◌^◌, ◌≤◌, ◌<◌}
 use native.Mathlib.Omega.{arith}
 use lib.Dec.{T}
-use Rattle.clause.proofs.Apart.{apart}
 use Rattle.machine.specs.Instr.{Instr, First, Do, Success, instruction, instr_of}
 use Rattle.tree.specs.Keys.{first_key, lawful, next_key}
 use Rattle.tree.specs.Forest.{Forest, empty, node, Formed, Has, leaf, deeper, further}
@@ -42,7 +41,7 @@ inside i h t =
     inside_op (i / 2 ^ 32) (i % 2 ^ 32) (omega arith) (omega arith)
 
 node≢empty : (i : ℕ) (B R : Forest) → node i B R ≢ empty
-node≢empty i B R e = apart cc
+node≢empty i B R e = cc
 
 full_inside : (o : Option Instr) (i : ℕ) (B R : Forest) → Inside o → Full (node i B R) → FullAt o (node i B R) (Full (node i B R))
 full_inside none i B R h f = h

@@ -9,7 +9,6 @@ use lib.Dec.{leb, ltb, eqb}
 use lib.ListN.{length, get_or, take, drop}
 use borrow.Author.Tests.{leb-true, lt-leb}
 use Rattle.clause.specs.Clause.{literals, max_literals}
-use Rattle.clause.proofs.Apart.{apart}
 use Rattle.machine.specs.Instr.{Instr, First, Do, Success, instruction, instr_of}
 use Rattle.machine.specs.Machine.{State, Effect, next, fails, stuck, step, enter, finish, require}
 use Rattle.tree.specs.Keys.{first_key}
@@ -39,7 +38,7 @@ unfolding extends
 extends_some w n e = go (extent_of w) refl
   where
     go : (x : ℕ) → extent_of w ≡ x → 1 ≤ extent_of w
-    go zero f = let z : false ≡ true = rw (lt-leb 1 (extent_of w) (omega arith)) at e in apart cc
+    go zero f = let z : false ≡ true = rw (lt-leb 1 (extent_of w) (omega arith)) at e in cc
     go (suc x) f = omega arith
 
 -- what follows a word: what it comes to, with the walk below it
@@ -54,15 +53,15 @@ going_on d b n (below s) k c = k s c
 number : (op x n : ℕ) → instruction op x ≡ some (Success n) → n ≡ x
 unfolding instruction
 number zero x n e = cc
-number (suc zero) x n e = apart cc
-number (suc (suc zero)) x n e = apart cc
-number (suc (suc (suc zero))) x n e = apart cc
-number (suc (suc (suc (suc zero)))) x n e = apart cc
-number (suc (suc (suc (suc (suc zero))))) x n e = apart cc
-number (suc (suc (suc (suc (suc (suc zero)))))) x n e = apart cc
-number (suc (suc (suc (suc (suc (suc (suc zero))))))) x n e = apart cc
-number (suc (suc (suc (suc (suc (suc (suc (suc zero)))))))) x n e = apart cc
-number (suc (suc (suc (suc (suc (suc (suc (suc (suc op))))))))) x n e = apart cc
+number (suc zero) x n e = cc
+number (suc (suc zero)) x n e = cc
+number (suc (suc (suc zero))) x n e = cc
+number (suc (suc (suc (suc zero)))) x n e = cc
+number (suc (suc (suc (suc (suc zero))))) x n e = cc
+number (suc (suc (suc (suc (suc (suc zero)))))) x n e = cc
+number (suc (suc (suc (suc (suc (suc (suc zero))))))) x n e = cc
+number (suc (suc (suc (suc (suc (suc (suc (suc zero)))))))) x n e = cc
+number (suc (suc (suc (suc (suc (suc (suc (suc (suc op))))))))) x n e = cc
 
 module _ (d : List ℕ) (b n : ℕ) (k : State → Part State) (s : State) (c : ℕ) where
   follow_step : (o : Effect State) → follow o k c ≡ going_on d b n (stepped o) k c

@@ -8,7 +8,6 @@ use native.Mathlib.Numerals.{add-one}
 use lib.ListN.{length}
 use borrow.Author.Tests.{le-leb, lt-leb}
 use Rattle.clause.specs.Clause.{max_literals, literals}
-use Rattle.clause.proofs.Apart.{apart}
 use Rattle.machine.specs.Machine.{State, used}
 use Rattle.machine.proofs.Used.{enter_new, enter_used}
 use Rattle.walk.specs.Walk.{Answer, covered, not_covered, spent, broken, Part, and_then, tries, up_to}
@@ -73,16 +72,16 @@ module _ (d : List ℕ) (b : ℕ) (k : State → Part State) (s : State) where
 -- what is seen of an answer
 pub seen_missed : (a : Answer State) {c : ℕ} → missed c ≡ seen a → a ≡ not_covered c
 unfolding seen
-seen_missed (covered n s i) e = apart cc
+seen_missed (covered n s i) e = cc
 seen_missed (not_covered i) e = cc
-seen_missed spent e = apart cc
-seen_missed broken e = apart cc
+seen_missed spent e = cc
+seen_missed broken e = cc
 
 ended : (e : End) (l : List ℕ) {c : ℕ} → out_by (Err e) l ≡ missed c → ⊥
 unfolding out_by
-ended (Found k i) l h = apart cc
-ended Broken l h = apart cc
-ended Spent l h = apart cc
+ended (Found k i) l h = cc
+ended Broken l h = cc
+ended Spent l h = cc
 
 -- after a miss the walk goes on, and it ends with anything else
 pub then_on : {a : Answer State} {c : ℕ} (k : Part State) → a ≡ not_covered c → and_then a k ≡ k c
@@ -100,7 +99,7 @@ unfolding out_by
 missed_of a n l h = seen_missed a h
 
 err≢ok : {e : End} {c : ℕ} → Err e ≡ Ok c → ⊥
-err≢ok e = apart cc
+err≢ok e = cc
 
 -- what a walk's result says of its answer
 module _ {a : Answer State} {before after : List ℕ} where

@@ -12,7 +12,6 @@ use lib.ListN.{length, get_or, take, drop, length-take, length-drop}
 use lib.Seq.{take_all}
 use borrow.Author.Tests.{ne_eqb, ltb-true}
 use Rattle.clause.specs.Clause.{literals, max_literals}
-use Rattle.clause.proofs.Apart.{apart}
 use Rattle.clause.proofs.Literals.{accepted, some_literal}
 use Rattle.machine.specs.Instr.{Instr, First, Do, Success, instr_of}
 use Rattle.machine.specs.Machine.{State, Effect, next, fails, stuck, enter, step, finish}
@@ -42,59 +41,59 @@ use Rattle.walking.proofs.Passes.{then_none, then_on, then_ends, missed_of}
 below_step : (o : Effect State) {t : State} → below t ≡ stepped o → o ≡ next t
 unfolding stepped
 below_step (next s) e = cc
-below_step fails e = apart cc
-below_step stuck e = apart cc
+below_step fails e = cc
+below_step stuck e = cc
 
 below_finish : (o : Effect State) {t : State} → below t ≡ reached o → ⊥
 unfolding reached
-below_finish (next s) e = apart cc
-below_finish fails e = apart cc
-below_finish stuck e = apart cc
+below_finish (next s) e = cc
+below_finish fails e = cc
+below_finish stuck e = cc
 
 firsts_step : (o : Effect State) {t : State} → firsts t ≡ stepped o → ⊥
 unfolding stepped
-firsts_step (next s) e = apart cc
-firsts_step fails e = apart cc
-firsts_step stuck e = apart cc
+firsts_step (next s) e = cc
+firsts_step fails e = cc
+firsts_step stuck e = cc
 
 firsts_finish : (o : Effect State) {t : State} → firsts t ≡ reached o → ⊥
 unfolding reached
-firsts_finish (next s) e = apart cc
-firsts_finish fails e = apart cc
-firsts_finish stuck e = apart cc
+firsts_finish (next s) e = cc
+firsts_finish fails e = cc
+firsts_finish stuck e = cc
 
 module _ (d : List ℕ) (s t : State) where
   below_by : {P : Type 0} (o : Option Instr) → ((x : _) → step d x s ≡ next t → P) → below t ≡ met_as d o s → P
   unfolding met_as
-  below_by none f e = apart cc
+  below_by none f e = cc
   below_by {P} (some First) f e = go (ltb (length s.chosen) max_literals) e
     where
       go : (b : Bool) → below t ≡ cond b (firsts s) bad → P
-      go true e = apart cc
-      go false e = apart cc
+      go true e = cc
+      go false e = cc
   below_by (some (Do x)) f e = f x (below_step (step d x s) e)
   below_by (some (Success n)) f e = absurd (below_finish (finish s) e)
 
   firsts_same : (o : Option Instr) → firsts t ≡ met_as d o s → (t ≡ s) × (length s.chosen < max_literals)
   unfolding met_as
-  firsts_same none e = apart cc
+  firsts_same none e = cc
   firsts_same (some First) e = go (ltb (length s.chosen) max_literals) refl e
     where
       go : (b : Bool) → ltb (length s.chosen) max_literals ≡ b → firsts t ≡ cond b (firsts s) bad → (t ≡ s) × (length s.chosen < max_literals)
       go true f e = (cc, ltb-true (length s.chosen) max_literals f)
-      go false f e = apart cc
+      go false f e = cc
   firsts_same (some (Do x)) e = absurd (firsts_step (step d x s) e)
   firsts_same (some (Success n)) e = absurd (firsts_finish (finish s) e)
 
 -- what a word comes to is broken where its extent is wrong
 bad_stuck : (v : Visit) (s : State) → met_of v s ≡ bad → v ≡ Stuck
 unfolding met_of
-bad_stuck Fails s e = apart cc
+bad_stuck Fails s e = cc
 bad_stuck Stuck s e = refl
-bad_stuck Hit s e = apart cc
-bad_stuck Tries s e = apart cc
-bad_stuck (Below x) s e = apart cc
-bad_stuck (Stored x u) s e = apart cc
+bad_stuck Hit s e = cc
+bad_stuck Tries s e = cc
+bad_stuck (Below x) s e = cc
+bad_stuck (Stored x u) s e = cc
 
 module _ (d : List ℕ) (w room : ℕ) (s : State) where
   fits_met : {m : Met} → meeting d w room s ≡ m → (m ≡ bad → ⊥) → (extends w (room - 1) ≡ true) × (met_as d (instr_of (key_of w)) s ≡ m)
@@ -106,16 +105,16 @@ module _ (d : List ℕ) (w room : ℕ) (s : State) where
       go false f = absurd (n (sym (rw f at e)))
 
 below≢stuck : {x : ℕ} → Below x ≡ Stuck → ⊥
-below≢stuck e = apart cc
+below≢stuck e = cc
 
 stored≢stuck : {x u : ℕ} → Stored x u ≡ Stuck → ⊥
-stored≢stuck e = apart cc
+stored≢stuck e = cc
 
 fails≢stuck : Fails ≡ Stuck → ⊥
-fails≢stuck e = apart cc
+fails≢stuck e = cc
 
 tries≢stuck : Tries ≡ Stuck → ⊥
-tries≢stuck e = apart cc
+tries≢stuck e = cc
 
 -- a visit that goes on below at a head, with a store or without
 abbrev pub Lower : Visit → ℕ → Type 0

@@ -2,7 +2,6 @@
 use mathlib.Core.Path.{sym, ◌∙◌}
 use native.Mathlib.Omega.{arith}
 use borrow.Author.Tests.{le-leb, lt-leb}
-use Rattle.clause.proofs.Apart.{apart}
 use Rattle.tree.specs.Laid.{max_kept}
 use Rattle.laid.proofs.WellLaid.{laid_none, laid_parts, laid_rest}
 use Rattle.laid.proofs.well_laid.Goals as goal
@@ -28,7 +27,7 @@ returns-then-rows c =
     laid_rest c.args.tree.now _ _ _ _ (omega arith) H.ensures.0 H.ensures.1 (omega arith) (omega arith) c.split_at.ensures.front c.split_at.ensures.back in
     elim c.if-row.branch [
       | then-row w ↦ rw (← c.row.ensures, w.if-row.true, ← w.rows.ensures, ← w.value-is, c.if-rows.true, ← c.zeros.ensures) at parts
-      | else-row w ↦ apart cc
+      | else-row w ↦ cc
     ]
 
 pub returns-else-rows : goal.returns-else-rows
