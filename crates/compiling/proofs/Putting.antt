@@ -6,8 +6,8 @@ use Prim.Native.Nat.{ℕ, zero, suc, ◌+◌, ◌/◌, ◌%◌, ◌≤◌, ◌<�
 use native.Mathlib.Nat.{mod-eq_of_lt}
 use native.Mathlib.Omega.{arith}
 use native.Mathlib.Numerals.{add-one, one-add}
-use lib.ListN.{length, get_or, take, set}
-use lib.Seq.{take-suc-set}
+use lib.ListN.{length-map, length-set, length, get_or, take, set}
+use lib.Seq.{length-take-le, take-suc-set}
 use lib.Dec.{eqb}
 use Rattle.std.proofs.lemmas.List.Recursion.{is_position_or_len}
 use mathlib.Core.Bool.{Bool, true, false, cond}
@@ -19,14 +19,16 @@ use Rattle.clause.specs.Word.{kind, arity, sort_by, sort, variable, if_variable}
 use Rattle.machine.specs.Instr.{Do, key}
 use Rattle.machine.specs.Machine.{slots}
 use Rattle.machine.specs.Compile.{first, act, puts_after}
-use Rattle.compiling.specs.Inner.Rows.{firsts_of, Numbered}
+use Rattle.compiling.specs.Inner.Rows.{firsts_of, firsts_in, variables_in, Numbered}
+use Rattle.compiling.specs.declared.puts.Put.{Put}
+use Rattle.clause.proofs.Lists.{get_or-map-lt}
 use Rattle.machine.proofs.Compares.{first_le}
 use Rattle.machine.proofs.Agree.{first_append}
 
 -- the search for it: the first place at which it stands, or the length
-first_place : (v : ℕ) (us : List ℕ) → first v us ≡ position_or_len (λ u. eqb u v) us
+first_place : (v : ℕ) (puts : List Put) → first v (variables_in puts) ≡ position_or_len (λ p. eqb p.variable v) puts
 unfolding first
-first_place v us = is_position_or_len (first v) (λ u. eqb u v) refl (λ x xs. rw one-add refl) us
+first_place v puts = is_position_or_len (λ l. first v (variables_in l)) (λ (p : Put). eqb p.variable v) refl (λ x xs. rw one-add refl) puts
 
 first_high : (v : ℕ) (us : List ℕ) → first v us ≤ length us
 unfolding first
@@ -37,12 +39,16 @@ first_high v (u ∷ us) = go (eqb u v) (first_high v us)
     go true h = omega arith
     go false h = omega arith
 
-pub first_found : (v : ℕ) (us : List ℕ) → unwrap_or (position (λ u. eqb u v) us) (length us) ≡ first v us
-first_found v us = rw (← first_place v us) (go (ltb (first v us) (length us)) refl)
+pub first_found : (v : ℕ) (puts : List Put) → unwrap_or (position (λ p. eqb p.variable v) puts) (length puts) ≡ first v (variables_in puts)
+first_found v puts = rw (← first_place v puts) (go (ltb (first v (variables_in puts)) (length puts)) refl)
   where
-    go : (b : Bool) → ltb (first v us) (length us) ≡ b → unwrap_or (cond b (Some (first v us)) None) (length us) ≡ first v us
+    n : length (variables_in puts) ≡ length puts
+    n = length-map puts (λ p. p.variable)
+
+    go : (b : Bool) → ltb (first v (variables_in puts)) (length puts) ≡ b
+        → unwrap_or (cond b (Some (first v (variables_in puts))) None) (length puts) ≡ first v (variables_in puts)
     go true e = refl
-    go false e = omega (arith, first_high v us, ltb-false (first v us) (length us) e)
+    go false e = omega (arith, n, first_high v (variables_in puts), ltb-false (first v (variables_in puts)) (length puts) e)
 
 -- a put more: of its own variable the first put is the same, and so is that of each variable put before
 first_last : (us : List ℕ) (w : ℕ) → first w (us ++ (w ∷ [])) ≡ first w us
@@ -86,19 +92,40 @@ other_word {A} w h n x y = go (w / 0x4000 % 4) (w / 0x800 % 8) refl refl
     go (suc zero) (suc a) e f = refl
     go (suc (suc k)) a e f = refl
 
+-- the number that the code reads
+pub first_at : (puts : List Put) (k : ℕ) → k < length puts → get_or (firsts_in puts) k 0 ≡ (get_or puts k (record { variable = 0; first = 0 })).first
+first_at puts k h = get_or-map-lt (λ (p : Put). p.first) puts k (record { variable = 0; first = 0 }) 0 h
+
+-- so many are put
+pub puts_length : {count : ℕ} {puts : List Put} {vs : List ℕ} → variables_in (take count puts) ≡ vs → Numbered count puts → length vs ≡ count
+puts_length {count} {puts} e N =
+    sym (ap length e) ∙ length-map (take count puts) (λ p. p.variable) ∙ length-take-le count puts (omega (arith, N.few, N.size))
+
+pub put_low : {count : ℕ} {puts : List Put} {vs : List ℕ} → variables_in (take count puts) ≡ vs → Numbered count puts → length vs < slots → count < slots
+put_low e N h = omega (arith, puts_length e N, h)
+
 -- one more variable is put: its number is that of its first put
-pub put_one : (w count number : ℕ) (variables firsts : List ℕ) → count < length variables → count < length firsts → count < slots
-    → Numbered count variables firsts → number ≡ first w (take count variables)
-    → Numbered (count + 1) (set variables count w) (set firsts count number)
-    × (take (count + 1) (set variables count w) ≡ take count variables ++ (w ∷ []))
-put_one w count number variables firsts i j few N g =
-    let p : take (count + 1) (set variables count w) ≡ take count variables ++ (w ∷ []) = rw (add-one, take-suc-set variables count w i) in
-    let f = N.numbers in (
+pub put_one : (w count number : ℕ) (puts : List Put) → count < slots → Numbered count puts → number ≡ first w (variables_in (take count puts))
+    → Numbered (count + 1) (set puts count (record { variable = w; first = number }))
+    × (variables_in (take (count + 1) (set puts count (record { variable = w; first = number }))) ≡ variables_in (take count puts) ++ (w ∷ []))
+put_one w count number puts few N g =
+    let x : Put = record { variable = w; first = number } in
+    let i : count < length puts = omega (arith, N.size) in
+    let p : take (count + 1) (set puts count x) ≡ take count puts ++ (x ∷ []) = rw (add-one, take-suc-set puts count x i) in
+    let v : variables_in (take (count + 1) (set puts count x)) ≡ variables_in (take count puts) ++ (w ∷ []) =
+    ap variables_in p ∙ map-append (λ q. q.variable) (take count puts) (x ∷ []) in
+    let f : firsts_in (take (count + 1) (set puts count x)) ≡ firsts_in (take count puts) ++ (number ∷ []) =
+    ap firsts_in p ∙ map-append (λ q. q.first) (take count puts) (x ∷ []) in (
       record {
         few = omega arith;
-        numbers = rw (add-one, take-suc-set firsts count number j, ← add-one, p, firsts_snoc, f, g);
+        size = simp length-set N.size;
+        numbers =
+            f
+            ∙ ap₂ (λ (a : List ℕ) (b : ℕ). a ++ (b ∷ [])) N.numbers g
+            ∙ sym (firsts_snoc (variables_in (take count puts)) w)
+            ∙ ap firsts_of (sym v);
       },
-      p,
+      v,
     )
 
 -- the instruction of a variable, and of any other word

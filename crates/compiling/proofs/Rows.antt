@@ -8,13 +8,14 @@ use native.Mathlib.Nat.{add-zero, add-suc}
 use native.Mathlib.Omega.{arith}
 use native.Mathlib.Numerals.{add-one}
 use native.Mathlib.Decide.{dec_lt}
-use lib.ListN.{length, get_or, length-append, length-map}
+use lib.ListN.{take, length, get_or, length-append, length-map}
 use lib.Dec.{leb, ltb, eqb}
 use borrow.Author.Tests.{eq-eqb, ne_eqb, le-leb, lt-leb, lt-ltb, le-ltb}
 use Rattle.clause.specs.Lists.{numbers_below}
 use Rattle.machine.specs.Instr.{Compare, Do, key, Step}
 use Rattle.machine.specs.Compile.{first, repeats, compares}
-use Rattle.compiling.specs.Inner.Rows.{firsts_of, repeats_by, row_keys, compare_keys}
+use Rattle.compiling.specs.Inner.Rows.{firsts_of, firsts_in, variables_in, Numbered, repeats_by, row_keys}
+use Rattle.compiling.specs.declared.puts.Put.{Put}
 use Rattle.compiling.specs.Inner.Compiling.{Writes, step_keys}
 use Rattle.compiling.specs.declared.keys.Keys.{Keys}
 use Rattle.compiling.proofs.Writing.{writes_append}
@@ -112,12 +113,8 @@ module _ (firsts : List ℕ) (from : ℕ) where
   rows_grow m zero = rw add-zero (omega arith)
   rows_grow m (suc d) = rw (add-suc, ← add-one, rows_suc) (simp length-append (omega (arith, rows_grow m d)))
 
-  pub rows_to_whole : compare_keys firsts from ≡ rows_to (length firsts)
-  unfolding compare_keys rows_to
-  rows_to_whole = refl
-
   -- there is room for a row
-  pub rows_room : (m : ℕ) → m < length firsts → length (rows_to m) + length (row_keys firsts from m) ≤ length (compare_keys firsts from)
+  pub rows_room : (m : ℕ) → m < length firsts → length (rows_to m) + length (row_keys firsts from m) ≤ length (rows_to (length firsts))
   rows_room m h =
       let e : (m + 1) + (length firsts - (m + 1)) ≡ length firsts = omega arith in
       omega (
@@ -125,7 +122,6 @@ module _ (firsts : List ℕ) (from : ℕ) where
         ap length (rows_suc m),
         length-append (rows_to m) (row_keys firsts from m),
         rw e at (rows_grow (m + 1) (length firsts - (m + 1))),
-        ap length rows_to_whole,
       )
 
   pub rows_none : rows_to 0 ≡ []
@@ -167,6 +163,11 @@ module _ (puts : List ℕ) (from : ℕ) where
   unfolding row_keys
   row_keys_lem m = rw (length-map puts (λ v. first v puts)) (below_keys _ _ (length puts) (λ k j. one_key m k j))
 
-  pub compare_keys_lem : step_keys (compares puts from) ≡ compare_keys (firsts_of puts) from
-  unfolding compares compare_keys
+  compare_keys_lem : step_keys (compares puts from) ≡ rows_to (firsts_of puts) from (length (firsts_of puts))
+  unfolding compares rows_to
   compare_keys_lem = rw (length-map puts (λ v. first v puts)) (below_keys _ _ (length puts) (λ m i. row_keys_lem m))
+
+-- by the puts that the code holds
+pub compares_are : {count : ℕ} {puts : List Put} {vs : List ℕ} (from : ℕ) → variables_in (take count puts) ≡ vs → Numbered count puts
+    → step_keys (compares vs from) ≡ rows_to (firsts_in (take count puts)) from (length (firsts_in (take count puts)))
+compares_are {vs = vs} from e N = compare_keys_lem vs from ∙ ap (λ f. rows_to f from (length f)) (sym (N.numbers ∙ ap firsts_of e))

@@ -1,18 +1,17 @@
 -- The positions to come back to, as the code holds them.
 use mathlib.Core.Path.{◌≡◌, refl, ap}
 use mathlib.Core.Logic.{◌≢◌}
-use mathlib.Core.List.{List, [], ◌∷◌}
-use Prim.Native.Nat.{ℕ, zero, suc, ◌+◌, ◌-◌, ◌≤◌, ◌<◌}
+use mathlib.Core.List.{List, ◌∷◌}
+use Prim.Native.Nat.{ℕ, zero, suc, ◌+◌, ◌≤◌, ◌<◌}
 use native.Mathlib.Omega.{arith}
 use native.Mathlib.Numerals.{add-one}
-use lib.ListN.{length, get_or, set}
+use lib.ListN.{length, set}
 use lib.Seq.{get_or-set_same, get_or-set_other}
 use Rattle.compiling.specs.Inner.Saved.{saved_of, saved_in}
 use Rattle.compiling.specs.declared.saved.Position.{Position}
 
 -- none of them is at or above the depth
 saved_set : (l : List Position) (d : ℕ) (x : Position) (k : ℕ) → k ≤ d → saved_in (set l d x) k ≡ saved_in l k
-unfolding saved_in
 saved_set l d x zero h = refl
 saved_set l d x (suc k) h =
     let n : k ≢ d = omega arith in
@@ -20,20 +19,8 @@ saved_set l d x (suc k) h =
 
 -- one more
 pub saved_push : (l : List Position) (d : ℕ) (x : Position) → d < length l → saved_in (set l d x) (d + 1) ≡ saved_of x ∷ saved_in l d
-unfolding saved_in
 saved_push l d x h = rw (add-one, get_or-set_same l d x _ h, saved_set l d x d (omega arith))
 
--- the latest
-pub saved_top : (l : List Position) (d : ℕ) → 0 < d → saved_in l d ≡ saved_of (get_or l (d - 1) (record { slot = 0; left = 0 })) ∷ saved_in l (d - 1)
-unfolding saved_in
-saved_top l zero h = absurd (omega arith)
-saved_top l (suc d) h = let e : suc d - 1 ≡ d = omega arith in rw e
-
-pub saved_empty : (l : List Position) (d : ℕ) → d ≡ 0 → saved_in l d ≡ []
-unfolding saved_in
-saved_empty l d e = ap (saved_in l) e
-
 pub saved_length : (l : List Position) (d : ℕ) → length (saved_in l d) ≡ d
-unfolding saved_in
 saved_length l zero = refl
 saved_length l (suc d) = ap suc (saved_length l d)

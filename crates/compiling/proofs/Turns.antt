@@ -12,24 +12,18 @@ use Rattle.std.specs.Option.{is_some}
 use Rattle.clause.specs.Clause.{max_words}
 use Rattle.clause.specs.Word.{arity}
 use Rattle.machine.specs.Instr.{Do, key}
-use Rattle.machine.specs.Compile.{Saved, Place, ended, inside, Way, way, way_from, begun, closing, act, puts_after, sequence_from, sequence, keys}
+use Rattle.machine.specs.Compile.{Saved, Place, ended, inside, Way, way, way_from, begun, closing, compares, act, puts_after, sequence_from, sequence, keys}
 use Rattle.machine.specs.Compiled.{max_keys, Compiled}
-use Rattle.compiling.specs.Inner.Rows.{firsts_of, compare_keys}
 use Rattle.compiling.specs.Inner.Compiling.{HasRoom, Writes, place_in, place_of, opening_keys, step_keys, to_come}
-use Rattle.compiling.specs.Inner.Compiling.{Opened, Went, Orderly, way_of, word_keys, Turned}
+use Rattle.compiling.specs.Inner.Compiling.{Opened, Went, Orderly, way_of, head_keys, ending_keys, word_keys, Turned, first_spot}
 use Rattle.compiling.specs.declared.keys.Keys.{Keys}
 use Rattle.compiling.specs.declared.Spot.{Spot}
 use Rattle.compiling.proofs.Writing.{writes_none, writes_append, wrote}
-use Rattle.compiling.proofs.Rows.{compare_keys_lem}
 use Rattle.compiling.proofs.Spots.{way_pushed}
 use Rattle.machine.proofs.Codes.{length_puts}
 use Rattle.machine.proofs.Length.{sequence_few}
 
 -- ---- the keys of a word
-
--- those at its end
-abbrev pub ending_keys : (w : ℕ) → Spot → List ℕ
-ending_keys w s = step_keys (closing (way_of w s).place (puts_after s.puts w) (begun (place_of s) s.puts s.from))
 
 pub word_length : (w : ℕ) (s : Spot)
     → length (word_keys w s) ≡ length (opening_keys s) + (1 + (length (step_keys (way_of w s).steps) + length (ending_keys w s)))
@@ -67,65 +61,65 @@ unfolding closing
 none_closes None saved puts from e f = let g = rw f at e in cc
 none_closes (Some l) saved puts from e f = refl
 
-module _ (w : ℕ) {left : ℕ} {s o : Spot} {k₀ k₁ : Keys} (O : Opened s left o) (w₁ : Writes (opening_keys s) k₀ k₁) where
+-- the literal goes on, or ends with its Compares
+module _ {w : ℕ} {s r : Spot} (T : Turned w s r) where
+  ending_is : ending_keys w s ≡ step_keys (closing (place_of r) r.puts r.from)
+  ending_is = rw (T.place, T.puts, T.from)
+
+  pub ending_on : {b : Bool} → is_some r.left ≡ not b → b ≡ false → [] ≡ ending_keys w s
+  ending_on e f = sym (ending_is ∙ ap step_keys (none_closes r.left r.saved r.puts r.from e f))
+
+  pub ending_out : {b : Bool} → is_some r.left ≡ not b → b ≡ true → step_keys (compares r.puts r.from) ≡ ending_keys w s
+  unfolding closing
+  ending_out e f = sym (ending_is ∙ ap (λ o. step_keys (closing (place_in o r.saved) r.puts r.from)) (none_left r.left e f))
+
+-- what the keys at its end ask, and what they come to
+module _ (w : ℕ) (s : Spot) {C : List ℕ} {k k' : Keys} (h : Writes (head_keys w s) k k') (e : C ≡ ending_keys w s) where
+  pub ending_room : HasRoom (length (word_keys w s)) k → HasRoom (length C) k'
+  unfolding word_keys
+  ending_room g = rw e (omega (arith, g, wrote h, length-append (head_keys w s) (ending_keys w s)))
+
+  pub word_written : {next : Keys} → Writes C k' next → Writes (word_keys w s) k next
+  unfolding word_keys
+  word_written {next} g = let z : Writes (ending_keys w s) k' next = rw (← e) g in writes_append h z
+
+module _ (w : ℕ) {left : ℕ} {s o : Spot} {k₀ k₁ : Keys} (O : Opened s left o × Writes (opening_keys s) k₀ k₁) where
   -- what the instruction of the word asks
   pub act_room : HasRoom (length (word_keys w s)) k₀ → HasRoom 1 k₁
-  act_room h = omega (arith, h, word_length w s, wrote w₁)
+  act_room h = omega (arith, h, word_length w s, wrote O.1)
 
-  module _ {k₂ : Keys} (w₂ : Writes (key (Do (act o.puts w)) ∷ []) k₁ k₂) where
+  module _ {p : List ℕ} {k₂ : Keys} (A : (p ≡ puts_after o.puts w) × Writes (key (Do (act o.puts w)) ∷ []) k₁ k₂) where
     -- what the way asks
     pub way_room : HasRoom (length (word_keys w s)) k₀ → HasRoom (length (step_keys (way (arity w) left o.saved o.pushed).steps)) k₂
-    way_room h = rw (way_is w O) (omega (arith, h, word_length w s, wrote w₁, wrote w₂))
+    way_room h = rw (way_is w O.0) (omega (arith, h, word_length w s, wrote O.1, wrote A.1))
 
-    module _ {p : List ℕ} {r : Spot} {k₃ : Keys} (order : Orderly s) (P : p ≡ puts_after o.puts w)
-        (W : Went (way (arity w) left o.saved o.pushed) (record { left = o.left; pushed = o.pushed; from = o.from; puts = p; saved = o.saved }) r)
-        (w₃ : Writes (step_keys (way (arity w) left o.saved o.pushed).steps) k₂ k₃)
+    -- the spot after the word, and the keys up to there
+    module _ {r : Spot} {k₃ : Keys} (order : Orderly s)
+        (W : Went (way (arity w) left o.saved o.pushed) (record { left = o.left; pushed = o.pushed; from = o.from; puts = p; saved = o.saved }) r
+        × Writes (step_keys (way (arity w) left o.saved o.pushed).steps) k₂ k₃)
       where
         puts_is : r.puts ≡ puts_after s.puts w
-        puts_is = W.puts ∙ P ∙ ap (λ l. puts_after l w) O.puts
+        puts_is = W.0.puts ∙ A.0 ∙ ap (λ l. puts_after l w) O.0.puts
 
         pub turned : Turned w s r
         turned =
             record {
-              place = W.place ∙ ap (λ (t : Way). t.place) (way_is w O);
-              pushed = W.pushed ∙ ap (λ (t : Way). t.pushed) (way_is w O);
+              place = W.0.place ∙ ap (λ (t : Way). t.place) (way_is w O.0);
+              pushed = W.0.pushed ∙ ap (λ (t : Way). t.pushed) (way_is w O.0);
               puts = puts_is;
-              from = W.from ∙ O.from;
+              from = W.0.from ∙ O.0.from;
               orderly =
                   record {
-                    saved_low = W.saved_low;
-                    from_low = omega (arith, begun_low (place_of s) s.puts s.from order.from_low, puts_grow s.puts w, ap length puts_is, W.from, O.from);
+                    saved_low = W.0.saved_low;
+                    from_low = omega (arith, begun_low (place_of s) s.puts s.from order.from_low, puts_grow s.puts w, ap length puts_is, W.0.from, O.0.from);
                   };
             }
 
-        ending_is : ending_keys w s ≡ step_keys (closing (place_of r) r.puts r.from)
-        ending_is = let t = turned in rw (t.place, t.puts, t.from)
-
-        -- the literal goes on, or ends with its Compares
-        pub ending_on : {b : Bool} → is_some r.left ≡ not b → b ≡ false → [] ≡ ending_keys w s
-        ending_on e f = sym (ending_is ∙ ap step_keys (none_closes r.left r.saved r.puts r.from e f))
-
-        pub ending_out : {b : Bool} {f : List ℕ} → is_some r.left ≡ not b → b ≡ true → f ≡ firsts_of r.puts → compare_keys f r.from ≡ ending_keys w s
-        unfolding closing
-        ending_out d e g =
-            ap (λ f. compare_keys f r.from) g
-            ∙ sym (compare_keys_lem r.puts r.from)
-            ∙ sym (ending_is ∙ ap (λ o. step_keys (closing (place_in o r.saved) r.puts r.from)) (none_left r.left d e))
-
-        pub puts_few : length r.puts ≤ length s.puts + 1
-        puts_few = omega (arith, puts_grow s.puts w, ap length puts_is)
-
-        module _ {C : List ℕ} (e : C ≡ ending_keys w s) where
-          pub ending_room : HasRoom (length (word_keys w s)) k₀ → HasRoom (length C) k₃
-          ending_room h = rw e (omega (arith, h, word_length w s, wrote w₁, wrote w₂, wrote w₃, ap (λ (t : Way). length (step_keys t.steps)) (way_is w O)))
-
-          pub word_written : {k₄ : Keys} → Writes C k₃ k₄ → Writes (word_keys w s) k₀ k₄
-          unfolding word_keys
-          word_written {k₄} w₄ =
-              let v : Writes (step_keys (way_of w s).steps) k₂ k₃ = rw (← way_is w O) w₃ in
-              let a : Writes (key (Do (act s.puts w)) ∷ []) k₁ k₂ = rw (← O.puts) w₂ in
-              let z : Writes (ending_keys w s) k₃ k₄ = rw (← e) w₄ in
-              writes_append w₁ (writes_append a (writes_append v z))
+        pub head_written : Writes (head_keys w s) k₀ k₃
+        head_written =
+            let v : Writes (step_keys (way_of w s).steps) k₂ k₃ = rw (← way_is w O.0) W.1 in
+            let a : Writes (key (Do (act s.puts w)) ∷ []) k₁ k₂ = rw (← O.0.puts) A.1 in
+            writes_append O.1 (writes_append a v)
 
 -- ---- all words
 
@@ -138,9 +132,6 @@ pub record Compiling (words : List ℕ) (i : ℕ) (s : Spot) (before now : Keys)
   pub done : List ℕ
   pub comes : keys words ≡ done ++ to_come (drop i words) s
   pub writes : Writes done before now
-
-abbrev pub first_spot : Spot
-first_spot = record { left = None; pushed = 0; from = 0; puts = []; saved = [] }
 
 pub compiling_starts : {words : List ℕ} {s : Spot} (k : Keys) → s ≡ first_spot → Compiling words 0 s k k
 unfolding sequence

@@ -1,13 +1,12 @@
 // Compiling a clause into the keys of its sequence (docs/REFERENCE.md, "Instructions").
 #![tactic(auto)]
 
-ghost use Rattle.std.specs.Prelude.{◌≡◌, [], ◌≤◌, ◌<◌, length, None};
+ghost use Rattle.std.specs.Prelude.{◌≡◌, ◌≤◌, ◌<◌, length};
 ghost use Rattle.clause.specs.Clause.{max_words};
 ghost use Rattle.machine.specs.Compile.{way};
 ghost use Rattle.machine.specs.Machine.{slots};
 ghost use Rattle.machine.specs.Compiled.{max_keys, Compiled};
-ghost use Rattle.compiling.specs.Inner.Rows.{row_keys, compare_keys};
-ghost use Rattle.compiling.specs.Inner.Compiling.{HasRoom, Writes, opening_keys, Opened, step_keys, Went, Orderly, word_keys, Turned};
+ghost use Rattle.compiling.specs.Inner.Compiling.{HasRoom, Writes, first_spot, opening_keys, Opened, step_keys, Went, Orderly, word_keys, Turned};
 
 use clause::arity;
 use keys::Keys;
@@ -33,7 +32,7 @@ struct Spot {
 impl Spot {
     // Before the first literal.
     fn new() -> Self
-        ensures { result ≡ record { left = None; pushed = 0; from = 0; puts = []; saved = [] } }
+        ensures { result ≡ first_spot }
     {
         Spot {
             left: None,
@@ -89,7 +88,7 @@ impl Spot {
     }
 
     // Writes the instructions of one word.
-    fn word(&mut self, word: u16, keys: &mut Keys)
+    fn compile_word(&mut self, word: u16, keys: &mut Keys)
         requires { (self.old.pushed < slots) × (length self.old.puts < slots) × Orderly self.old × HasRoom (length (word_keys word self.old)) keys.old }
         ensures { Turned word self.old self.new × Writes (word_keys word self.old) keys.old keys.new }
     {
@@ -97,31 +96,8 @@ impl Spot {
         self.puts.act(word, keys);
         self.onward(arity(word), left, keys);
         if self.left.is_none() {
-            compare_all(self.puts.firsts(), self.from, keys);
+            self.puts.compare(self.from, keys);
         }
-    }
-}
-
-// Writes Compare m k for each put k of this literal whose variable was first put as m < k.
-fn compare_row(firsts: &[usize], from: usize, m: usize, keys: &mut Keys)
-    requires { (m < length firsts.now) × (from ≤ length firsts.now) × (length firsts.now ≤ slots)
-        × HasRoom (length (row_keys firsts.now from m)) keys.old }
-    ensures { Writes (row_keys firsts.now from m) keys.old keys.new }
-{
-    for k in from.max(m + 1)..firsts.len() {
-        if firsts[k] == m {
-            keys.push(Key::COMPARE + (m as u64) * Key::PAIR + (k as u64));
-        }
-    }
-}
-
-// Writes the Compares at a literal's end.
-fn compare_all(firsts: &[usize], from: usize, keys: &mut Keys)
-    requires { (from ≤ length firsts.now) × (length firsts.now ≤ slots) × HasRoom (length (compare_keys firsts.now from)) keys.old }
-    ensures { Writes (compare_keys firsts.now from) keys.old keys.new }
-{
-    for m in 0..firsts.len() {
-        compare_row(firsts, from, m, keys);
     }
 }
 
@@ -136,7 +112,7 @@ pub fn compile(words: &[u16], keys: &mut [u64]) -> usize
     };
     let mut spot = Spot::new();
     for &word in words {
-        spot.word(word, &mut out);
+        spot.compile_word(word, &mut out);
     }
     out.written
 }

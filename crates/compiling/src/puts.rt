@@ -2,42 +2,60 @@
 ghost use Rattle.std.specs.Prelude.{◌≡◌, [], ◌∷◌, ◌++◌, ◌<◌, ◌≤◌, length};
 ghost use Rattle.machine.specs.Instr.{Do, key};
 ghost use Rattle.machine.specs.Machine.{slots};
-ghost use Rattle.machine.specs.Compile.{first, act, puts_after};
-ghost use Rattle.compiling.specs.Inner.Rows.{firsts_of};
-ghost use Rattle.compiling.specs.Inner.Compiling.{HasRoom, Writes};
+ghost use Rattle.machine.specs.Compile.{first, compares, act, puts_after};
+ghost use Rattle.compiling.specs.Inner.Rows.{variables_in, firsts_in, row_keys};
+ghost use Rattle.compiling.specs.Inner.Compiling.{HasRoom, Writes, step_keys};
 
 use crate::keys::Keys;
 use machine::{Key, Sequence};
 use std::marker::Model;
 
-// The number of the first put of variable v.
-fn first_put(variables: &[u16], v: u16) -> usize
-    ensures { result ≡ first v variables.now }
-{
-    variables
-        .iter()
-        .position(|u| *u == v)
-        .unwrap_or(variables.len())
+// A variable that was put, and the number of its first put.
+#[derive(Clone, Copy)]
+struct Put {
+    variable: u16,
+    first: usize,
 }
 
-// The variables in the order in which they were put, each with the number of its first put.
+// The number of the first put of variable v.
+fn first_put(puts: &[Put], v: u16) -> usize
+    ensures { result ≡ first v (variables_in puts.now) }
+{
+    puts.iter()
+        .position(|put| put.variable == v)
+        .unwrap_or(puts.len())
+}
+
+// Writes Compare m k for each put k of this literal whose variable was first put as m < k.
+fn compare_row(puts: &[Put], from: usize, m: usize, keys: &mut Keys)
+    requires { (m < length puts.now) × (from ≤ length puts.now) × (length puts.now ≤ slots)
+        × HasRoom (length (row_keys (firsts_in puts.now) from m)) keys.old }
+    ensures { Writes (row_keys (firsts_in puts.now) from m) keys.old keys.new }
+{
+    for k in from.max(m + 1)..puts.len() {
+        if puts[k].first == m {
+            keys.push(Key::COMPARE + (m as u64) * Key::PAIR + (k as u64));
+        }
+    }
+}
+
+// The puts so far.
 #[derive(Drop)]
 pub(crate) struct Puts {
-    variables: [u16; Sequence::NUMBERS],
-    firsts: [usize; Sequence::NUMBERS],
+    puts: [Put; Sequence::NUMBERS],
     count: usize,
 }
 
 // A contract sees the variables.
 impl Model for Puts {
     ghost use Rattle.std.specs.Prelude.{List, ℕ, take};
-    ghost use Rattle.compiling.specs.Inner.Rows.{Numbered};
+    ghost use Rattle.compiling.specs.Inner.Rows.{variables_in, Numbered};
 
     ghost Value = { List ℕ };
 
-    ghost view = { λ p. take p.count p.variables };
+    ghost view = { λ p. variables_in (take p.count p.puts) };
 
-    ghost invariant = { λ p. Numbered p.count p.variables p.firsts };
+    ghost invariant = { λ p. Numbered p.count p.puts };
 }
 
 impl Puts {
@@ -46,8 +64,10 @@ impl Puts {
         ensures { result ≡ [] }
     {
         Puts {
-            variables: [0; Sequence::NUMBERS],
-            firsts: [0; Sequence::NUMBERS],
+            puts: [Put {
+                variable: 0,
+                first: 0,
+            }; Sequence::NUMBERS],
             count: 0,
         }
     }
@@ -59,21 +79,14 @@ impl Puts {
         self.count
     }
 
-    // For each the number of its variable's first put.
-    pub(crate) fn firsts(&self) -> &[usize]
-        ensures { result.now ≡ firsts_of self.now }
-    {
-        &self.firsts[..self.count]
-    }
-
     // Puts one more variable.
     fn put(&mut self, v: u16)
         requires { length self.old < slots }
         ensures { self.new ≡ self.old ++ (v ∷ []) }
     {
         let count = self.count;
-        self.firsts[count] = first_put(&self.variables[..count], v);
-        self.variables[count] = v;
+        let first = first_put(&self.puts[..count], v);
+        self.puts[count] = Put { variable: v, first };
         self.count = count + 1;
     }
 
@@ -88,6 +101,17 @@ impl Puts {
             self.put(word);
         } else {
             keys.push(Key::CHECK + word as u64);
+        }
+    }
+
+    // Writes the Compares of a literal that began at put `from`.
+    pub(crate) fn compare(&self, from: usize, keys: &mut Keys)
+        requires { (from ≤ length self.now) × HasRoom (length (step_keys (compares self.now from))) keys.old }
+        ensures { Writes (step_keys (compares self.now from)) keys.old keys.new }
+    {
+        let puts = &self.puts[..self.count];
+        for m in 0..puts.len() {
+            compare_row(puts, from, m, keys);
         }
     }
 }

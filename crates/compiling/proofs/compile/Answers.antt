@@ -8,8 +8,8 @@ use Rattle.compiling.proofs.compile.Goals as goal
 pub loop-word-init : goal.loop-word-init
 loop-word-init c = compiling_starts _ c.new-spot.ensures
 
-pub word-requires : goal.word-requires
-word-requires c =
+pub compile_word-requires : goal.compile_word-requires
+compile_word-requires c =
     let C = c.loop-word.invariant in (
       omega (arith, C.pushed_low, c.requires.0),
       omega (arith, C.puts_low, c.requires.0),
@@ -18,7 +18,7 @@ word-requires c =
     )
 
 pub loop-word-preserved : goal.loop-word-preserved
-loop-word-preserved c = compiling_goes_on c.loop-word.invariant (omega arith) c.word.ensures.0 c.word.ensures.1
+loop-word-preserved c = compiling_goes_on c.loop-word.invariant (omega arith) c.compile_word.ensures.0 c.compile_word.ensures.1
 
 pub returns : goal.returns
 returns c =

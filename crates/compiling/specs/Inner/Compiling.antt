@@ -1,6 +1,6 @@
 -- The compiling as the code holds it. Only the contracts of its inner functions speak of this.
 use Rattle.std.specs.Prelude.{◌≡◌, ℕ, ◌+◌, ◌≤◌, length, Option, Some, None}
-use mathlib.Core.List.{List, ◌∷◌, ◌++◌, map}
+use mathlib.Core.List.{List, [], ◌∷◌, ◌++◌, map}
 use Rattle.std.proofs.lemmas.List.Edits.{sets}
 use Rattle.clause.specs.Word.{arity}
 use Rattle.machine.specs.Instr.{Step, Do, key}
@@ -21,6 +21,10 @@ pub record Stored (new before : List ℕ) (at : ℕ) (after : List ℕ) (end : �
 pub record Writes (new : List ℕ) (before after : Keys) : Type 0 where
   pub same : after.words.ghost_name ≡ before.words.ghost_name
   pub stored : Stored new before.words.now before.written after.words.now after.written
+
+-- before the first literal
+abbrev pub first_spot : Spot
+first_spot = record { left = None; pushed = 0; from = 0; puts = []; saved = [] }
 
 -- the place of a spot
 abbrev pub place_in : Option ℕ → List Saved → Place
@@ -63,12 +67,15 @@ pub record Orderly (s : Spot) : Type 0 where
 abbrev pub way_of : (w : ℕ) → Spot → Way
 way_of w s = way_from (place_of s) (arity w) s.pushed
 
--- the keys of a word at a spot
+-- the keys of a word at a spot, and at a literal's end its Compares
+abbrev pub head_keys : (w : ℕ) → Spot → List ℕ
+head_keys w s = opening_keys s ++ (key (Do (act s.puts w)) ∷ step_keys (way_of w s).steps)
+
+abbrev pub ending_keys : (w : ℕ) → Spot → List ℕ
+ending_keys w s = step_keys (closing (way_of w s).place (puts_after s.puts w) (begun (place_of s) s.puts s.from))
+
 unfoldable pub word_keys : (w : ℕ) → Spot → List ℕ
-word_keys w s =
-    opening_keys s
-    ++ (key (Do (act s.puts w))
-    ∷ (step_keys (way_of w s).steps ++ step_keys (closing (way_of w s).place (puts_after s.puts w) (begun (place_of s) s.puts s.from))))
+word_keys w s = head_keys w s ++ ending_keys w s
 
 -- a spot, and the one after a word
 pub record Turned (w : ℕ) (s r : Spot) : Type 0 where

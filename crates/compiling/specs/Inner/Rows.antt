@@ -5,15 +5,24 @@ use Rattle.clause.specs.Lists.{numbers_below}
 use Rattle.machine.specs.Instr.{Compare, Do, key}
 use Rattle.machine.specs.Machine.{slots}
 use Rattle.machine.specs.Compile.{first}
+use Rattle.compiling.specs.declared.puts.Put.{Put}
 
 -- for each put the number of its variable's first put
 abbrev pub firsts_of : List ℕ → List ℕ
 firsts_of puts = map (λ v. first v puts) puts
 
--- the variables put so far, and beside each the number of its first put
-pub record Numbered (count : ℕ) (variables firsts : List ℕ) : Type 0 where
+-- the same as the code holds them, and the variables put
+abbrev pub firsts_in : List Put → List ℕ
+firsts_in puts = map (λ p. p.first) puts
+
+abbrev pub variables_in : List Put → List ℕ
+variables_in puts = map (λ p. p.variable) puts
+
+-- the puts so far hold the numbers of their variables' first puts
+pub record Numbered (count : ℕ) (puts : List Put) : Type 0 where
   pub few : count ≤ slots
-  pub numbers : take count firsts ≡ firsts_of (take count variables)
+  pub size : length puts ≡ slots
+  pub numbers : firsts_in (take count puts) ≡ firsts_of (variables_in (take count puts))
 
 -- put k, of a literal that began at put `from`, repeats put m < k, by the numbers of the first puts
 unfoldable pub repeats_by : (firsts : List ℕ) (from m k : ℕ) → Bool
@@ -22,7 +31,3 @@ repeats_by firsts from m k = leb from k && (ltb m k && eqb (get_or firsts k 0) m
 -- the keys of the Compares of put m with each later one
 unfoldable pub row_keys : (firsts : List ℕ) (from m : ℕ) → List ℕ
 row_keys firsts from m = flat_map (λ k. cond (repeats_by firsts from m k) (key (Do (Compare m k)) ∷ []) []) (numbers_below (length firsts))
-
--- the keys of all Compares of a literal
-unfoldable pub compare_keys : (firsts : List ℕ) (from : ℕ) → List ℕ
-compare_keys firsts from = flat_map (row_keys firsts from) (numbers_below (length firsts))

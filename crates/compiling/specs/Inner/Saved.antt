@@ -9,7 +9,7 @@ abbrev pub saved_of : Position → Saved
 saved_of p = record { slot = p.slot; left = p.left }
 
 -- the first so many of them, the latest first
-unfoldable pub saved_in : (positions : List Position) (depth : ℕ) → List Saved
+abbrev pub saved_in : (positions : List Position) (depth : ℕ) → List Saved
 saved_in positions zero = []
 saved_in positions (suc d) = saved_of (get_or positions d (record { slot = 0; left = 0 })) ∷ saved_in positions d
 

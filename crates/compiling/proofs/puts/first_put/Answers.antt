@@ -12,7 +12,7 @@ use Rattle.compiling.proofs.puts.first_put.Goals as goal
 
 pub returns : goal.returns
 returns c =
-    let us = c.args.variables.now in
-    let ran = c.position.ensures.ran in
-    let e = position_from_yields_List (λ u. eqb u c.args.v) _ _ c.position.result ran (YieldsList-from_slice us cc) (λ x b q k. search (rules, tests)) in
+    let us = c.args.puts.now in
+    let e = position_from_yields_List (λ p. eqb p.variable c.args.v) _ _ c.position.result c.position.ensures.ran
+    (YieldsList-from_slice us cc) (λ x b q k. search (rules, tests)) in
     c.unwrap_or.ensures ∙ ap (λ o. unwrap_or o (length us)) e ∙ first_found c.args.v us
