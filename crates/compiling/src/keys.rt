@@ -2,7 +2,7 @@
 ghost use Rattle.std.specs.Prelude.{[], ◌∷◌};
 ghost use Rattle.compiling.specs.Inner.Compiling.{HasRoom, Writes};
 
-// The lent words, and how many keys are written to them.
+// The lent words, and how many keys are written to them: a length beside them, since they are the caller's, and those past the keys stay as they were.
 #[derive(Drop)]
 pub(crate) struct Keys<'a> {
     pub(crate) words: &'a mut [u64],
