@@ -1,3 +1,3 @@
 -- The vocabulary of inner contracts: no claim rests on it.
 pub mod Steady
-pub mod Books
+pub mod Keepers

@@ -5,16 +5,16 @@ ghost use Rattle.index.specs.Inner.Heads.{Indexed};
 ghost use Rattle.walk.specs.Query.{witness_words, query};
 ghost use Rattle.record.specs.Answer.{budget, list_words, goes_in, answer_to};
 ghost use Rattle.answering.specs.Inner.Steady.{CameOut};
-ghost use Rattle.answering.specs.Inner.Books.{Ready, SameWords};
+ghost use Rattle.answering.specs.Inner.Keepers.{Ready, SameWords};
 
 use crate::indexing::reindex;
-use crate::{Book, Budget};
+use crate::{Keeper, Budget};
 use index::query_indexed;
 use record::{Came, Outcome, Setting};
 use tree::Refusal;
 use walk::Verdict;
 
-impl<'a> Book<'a> {
+impl<'a> Keeper<'a> {
     // Queries a record.
     fn query(&self, words: &[u16]) -> Result<Verdict, Refusal>
         requires { Ready self.now }
@@ -40,7 +40,7 @@ impl<'a> Book<'a> {
     }
 
     // Queries a record, and takes it in where it is not covered. The numbers that it takes out stand at the beginning of the list.
-    // The caller's book is the tree of some clauses, with the marks of its numbers and the index of its heads.
+    // The caller's words are the tree of some clauses, with the marks of its numbers and the index of its heads.
     pub fn answer(&mut self, setting: Setting, list: &mut [u32], words: &[u16], number: u16) -> Came
         requires { Ready self.old × (length list.old ≡ list_words) }
         ensures lent { SameWords self.old self.new }

@@ -10,7 +10,7 @@ use machine::Sequence;
 // The words that a run lends for the clauses that it keeps: their tree, the marks of its numbers, the index of its heads; and the keys of a clause, to
 // work in (cleared for each record, they cost the page overfull of bench/ 30% more instructions).
 #[derive(Drop)]
-pub struct Book<'a> {
+pub struct Keeper<'a> {
     pub tree: &'a mut [u64],
     pub marks: &'a mut [u8],
     pub heads: &'a mut [u16],

@@ -8,9 +8,9 @@ ghost use Rattle.backward.specs.Calls.{backward};
 ghost use Rattle.record.specs.Answer.{budget, list_words, entered, unless_taken, replaced};
 ghost use Rattle.record.specs.Marks.{number_count, marked};
 ghost use Rattle.answering.specs.Inner.Steady.{CameOut};
-ghost use Rattle.answering.specs.Inner.Books.{Ready, SameWords};
+ghost use Rattle.answering.specs.Inner.Keepers.{Ready, SameWords};
 
-use crate::{Book, Budget};
+use crate::{Keeper, Budget};
 use backward::Listed;
 use compiling::compile;
 use index::insert_below;
@@ -19,8 +19,8 @@ use record::{Came, Mark, Outcome};
 use replacing::replace;
 use tree::{Refusal, Tree};
 
-impl<'a> Book<'a> {
-    // Inserts a record that is not covered. The caller's book is the tree of some clauses, with the marks of its numbers and the index of its heads,
+impl<'a> Keeper<'a> {
+    // Inserts a record that is not covered. The caller's words are the tree of some clauses, with the marks of its numbers and the index of its heads,
     // and the clause is accepted.
     pub(crate) fn keep(&mut self, words: &[u16], number: u16) -> Outcome
         requires { Ready self.old × Accepted words.now }

@@ -90,7 +90,7 @@ impl Puts {
         self.count = count + 1;
     }
 
-    // Writes Put for a variable, which is put, and Check for any other word.
+    // Writes Put for a variable, and notes it; Check for any other word.
     pub(crate) fn act(&mut self, word: u16, keys: &mut Keys)
         requires { (length self.old < slots) × HasRoom 1 keys.old }
         ensures { (self.new ≡ puts_after self.old word) × Writes (key (Do (act self.old word)) ∷ []) keys.old keys.new }

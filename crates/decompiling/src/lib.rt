@@ -10,7 +10,7 @@ ghost use Rattle.decompiling.specs.Inner.Reader.{Own, Origins, Counts, Names, Wr
 use clause::Clause;
 use machine::{Key, Sequence};
 
-// That no clause has some keys.
+// The error of keys that no clause has.
 #[derive(Clone, Copy)]
 pub struct Foreign;
 

@@ -7,12 +7,12 @@ ghost use Rattle.record.specs.Counters.{most_counted};
 ghost use Rattle.record.specs.Output.{counted};
 ghost use Rattle.answering.specs.Inner.Steady.{CameOut};
 ghost use Rattle.intake.specs.Feed.{store_of, finishing, record_ended, proceeding, WholeInput};
-ghost use Rattle.answering.specs.Inner.Books.{Ready, SameWords};
+ghost use Rattle.answering.specs.Inner.Keepers.{Ready, SameWords};
 ghost use Rattle.feeding.specs.Inner.Blocks.{store_with, Within, Feedable, Took};
 ghost use Rattle.intake.specs.Feed.{feed as Feed·feed};
 
 use crate::Turn;
-use answering::Book;
+use answering::Keeper;
 use clause::{Clause, Fault};
 use intake::{Half, Heading, Next, Session, Stage, read_some};
 use lines::Page;
@@ -52,15 +52,15 @@ fn count_outcome(totals: Totals, came: &Came) -> Totals
 fn outcome_of(
     setting: Setting,
     heading: Heading,
-    book: &mut Book<'_>,
+    keeper: &mut Keeper<'_>,
     list: &mut [u32],
     words: &[u16],
 ) -> Came
-    requires { Ready book.old × (length list.old ≡ list_words) × (length words.now ≡ max_words) }
-    ensures lent { SameWords book.old book.new }
-    ensures came { CameOut (finishing setting heading.number heading.count words.now book.old.tree.now) heading.number
-        book.old.marks.now result list.new book.new.tree.now book.new.marks.now }
-    ensures indexed { Indexed book.new.tree.now book.new.heads.now }
+    requires { Ready keeper.old × (length list.old ≡ list_words) × (length words.now ≡ max_words) }
+    ensures lent { SameWords keeper.old keeper.new }
+    ensures came { CameOut (finishing setting heading.number heading.count words.now keeper.old.tree.now) heading.number
+        keeper.old.marks.now result list.new keeper.new.tree.now keeper.new.marks.now }
+    ensures indexed { Indexed keeper.new.tree.now keeper.new.heads.now }
 {
     let end = heading.count as usize;
     if end > Clause::WORDS {
@@ -69,7 +69,7 @@ fn outcome_of(
             removed: 0,
         };
     }
-    book.answer(setting, list, &words[..end], heading.number)
+    keeper.answer(setting, list, &words[..end], heading.number)
 }
 
 // Ends a whole record: what becomes of it, the tally, its lines, the totals.
@@ -77,22 +77,22 @@ fn finish(
     setting: Setting,
     heading: Heading,
     turn: Turn,
-    book: &mut Book<'_>,
+    keeper: &mut Keeper<'_>,
     counters: &mut [u64],
     list: &mut [u32],
     words: &[u16],
     output: &mut [u8],
 ) -> Turn
-    requires { Feedable (store_with words.now book.old counters.old) turn.session.totals 1 turn.next output.old
-        × Indexed book.old.tree.now book.old.heads.now × (length list.old ≡ list_words) }
-    ensures lent { SameWords book.old book.new }
+    requires { Feedable (store_with words.now keeper.old counters.old) turn.session.totals 1 turn.next output.old
+        × Indexed keeper.old.tree.now keeper.old.heads.now × (length list.old ≡ list_words) }
+    ensures lent { SameWords keeper.old keeper.new }
     ensures took { Took
-        (record_ended setting heading.number heading.count turn.session.totals (store_with words.now book.old counters.old)) 1
-        turn.next turn.session.totals output.old result.session (store_with words.now book.new counters.new)
+        (record_ended setting heading.number heading.count turn.session.totals (store_with words.now keeper.old counters.old)) 1
+        turn.next turn.session.totals output.old result.session (store_with words.now keeper.new counters.new)
         (record { next = result.next; output = output.new }) }
-    ensures indexed { Indexed book.new.tree.now book.new.heads.now }
+    ensures indexed { Indexed keeper.new.tree.now keeper.new.heads.now }
 {
-    let came = outcome_of(setting, heading, book, list, words);
+    let came = outcome_of(setting, heading, keeper, list, words);
     count_strike(counters, came.outcome);
     let mut page = Page {
         bytes: output,
@@ -117,20 +117,20 @@ fn proceed(
     setting: Setting,
     next: Next,
     turn: Turn,
-    book: &mut Book<'_>,
+    keeper: &mut Keeper<'_>,
     counters: &mut [u64],
     list: &mut [u32],
     words: &[u16],
     output: &mut [u8],
 ) -> Turn
-    requires { Feedable (store_with words.now book.old counters.old) turn.session.totals 1 turn.next output.old
-        × Indexed book.old.tree.now book.old.heads.now × (length list.old ≡ list_words) }
-    ensures lent { SameWords book.old book.new }
+    requires { Feedable (store_with words.now keeper.old counters.old) turn.session.totals 1 turn.next output.old
+        × Indexed keeper.old.tree.now keeper.old.heads.now × (length list.old ≡ list_words) }
+    ensures lent { SameWords keeper.old keeper.new }
     ensures took { Took
-        (proceeding setting next turn.session.totals (store_with words.now book.old counters.old)) 1
-        turn.next turn.session.totals output.old result.session (store_with words.now book.new counters.new)
+        (proceeding setting next turn.session.totals (store_with words.now keeper.old counters.old)) 1
+        turn.next turn.session.totals output.old result.session (store_with words.now keeper.new counters.new)
         (record { next = result.next; output = output.new }) }
-    ensures indexed { Indexed book.new.tree.now book.new.heads.now }
+    ensures indexed { Indexed keeper.new.tree.now keeper.new.heads.now }
 {
     match next {
         Next::Reads(half, stage) => Turn {
@@ -141,7 +141,7 @@ fn proceed(
             },
             ..turn
         },
-        Next::Ends(heading) => finish(setting, heading, turn, book, counters, list, words, output),
+        Next::Ends(heading) => finish(setting, heading, turn, keeper, counters, list, words, output),
     }
 }
 
@@ -170,7 +170,7 @@ pub fn feed(
 {
     let mut list = [0u32; Tree::CLAUSES];
     let mut keys = [0u64; Sequence::KEYS];
-    let mut book = Book {
+    let mut keeper = Keeper {
         tree,
         marks,
         heads,
@@ -182,7 +182,7 @@ pub fn feed(
         let step = read_some(rest, turn.session, words);
         rest = &rest[step.taken..];
         turn = proceed(
-            setting, step.next, turn, &mut book, counters, &mut list, words, output,
+            setting, step.next, turn, &mut keeper, counters, &mut list, words, output,
         );
     }
     turn

@@ -37,10 +37,10 @@ pub(crate) fn walk_heads(
             n += 1;
             let here = begin(query, tables, cells, Above::First, Path::BEFORE, j);
             let found = walk_head(words, heads, query, tables, cells, here, n, budget);
-            let Ok(next) = found else {
+            let Ok(tried) = found else {
                 break 'tries found;
             };
-            n = next;
+            n = tried;
         }
         release(cells, Above::First, saved);
         Ok(n)

@@ -23,7 +23,10 @@ pub fn query_indexed(
     ensures { result ≡ (q.query tree.now words.now budget (replicate witness_words 0)).answer }
 {
     if !reading::is_whole(words) {
-        reading::read(words)?;
+        let shape = reading::read(words);
+        let Ok(_) = shape else {
+            return Err(Refusal::BadClause(shape.unwrap_err()));
+        };
     }
     let clause = Clause::of(words);
     let tables = clause.tables;

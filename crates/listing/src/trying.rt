@@ -13,8 +13,8 @@ use shelving::Shelf;
 use tree::{Refusal, Tree};
 use walk::Verdict;
 
-// Queries the clauses on a shelf, until the budget is spent or one number more is found than there is room for: their numbers are noted, and it tells
-// how many they are, and the candidates in all.
+// Queries the clauses on a shelf, until the budget is spent or one number more is found than there is room for: the numbers of those found
+// are noted, and it tells how many they are, and the candidates in all.
 pub(crate) fn try_all(
     clause: &[u16],
     budget: u64,

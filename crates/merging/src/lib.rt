@@ -50,8 +50,8 @@ pub fn follow(words: &[u64], keys: &[u64], from: usize, to: usize, known: usize)
         let wanted = keys[shared];
         if wanted < here {
             return Place {
-                at: at,
-                shared: shared,
+                at,
+                shared,
                 holder: None,
             };
         }
@@ -64,8 +64,8 @@ pub fn follow(words: &[u64], keys: &[u64], from: usize, to: usize, known: usize)
         }
     }
     Place {
-        at: at,
-        shared: shared,
+        at,
+        shared,
         holder: first_success(words, at, end),
     }
 }

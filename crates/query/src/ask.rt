@@ -63,6 +63,7 @@ fn answer(
     ensures { record { answer = result; witness = witness.new }
         ≡ told_out budget witness.old (out_by found cells.now) }
 {
+    // Two patterns: where one fits both, what does not fit leaves no fact for the proof.
     if let Err(end) = found {
         if let End::Found(_, _) = end {
             show(cells, witness);

@@ -1,2 +1,2 @@
-// What reading a clause back and checking a saved slice mean (docs/REFERENCE.md, "Calls"): no code. What they mean is in specs/, its theory in proofs/.
+// Reading a clause back and checking a saved slice (docs/REFERENCE.md, "Calls"): no code. What they mean is in specs/, its theory in proofs/.
 #![tactic(auto)]

@@ -11,6 +11,7 @@ pub enum Setting {
 }
 
 // What becomes of a record: kept, with the used words of the tree; struck, with the covering number and the candidates; refused, and why.
+// No Result: a refusal ends nothing here, it is one of three lines and totals.
 #[derive(Clone, Copy)]
 pub enum Outcome {
     Kept(u64),

@@ -1,19 +1,9 @@
 // The code of a refusal (docs/REFERENCE.md, "Calls").
 ghost use Rattle.std.specs.Prelude.{◌≡◌};
 ghost use Rattle.tree.specs.Refusal.{code_of};
-ghost use Rattle.tree.specs.declared.Refusal.TheVariants.{BadClause};
 
 use crate::Refusal;
 use clause::Fault;
-
-// A clause with a fault is refused.
-impl From<Fault> for Refusal {
-    ghost from_gives = { λ fault refusal. refusal ≡ BadClause fault };
-
-    fn from(fault: Fault) -> Refusal {
-        Refusal::BadClause(fault)
-    }
-}
 
 impl From<Refusal> for u8 {
     ghost from_gives = { λ refusal code. code ≡ code_of refusal };

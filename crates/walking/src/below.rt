@@ -79,10 +79,10 @@ pub fn walk(
                     }
                 };
                 let found = walk(&rest[1..size], query, tables, cells, to, n, budget);
-                let Ok(next) = found else {
+                let Ok(tried) = found else {
                     break 'tries found;
                 };
-                n = next;
+                n = tried;
                 restore(cells, undo);
                 let more = skip(rest, size, wanted(query, here));
                 let next = rest.len() - more;

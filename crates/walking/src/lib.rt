@@ -5,7 +5,7 @@ mod below;
 
 pub use below::walk;
 
-// What ends a walk before it has gone through all candidates: a find, at the clause with this number, by this count; a broken word; the budget.
+// What ends a walk before it has gone through all candidates: a find, at the clause with this number, with this count; a broken word; the budget.
 #[derive(Clone, Copy)]
 pub enum End {
     Found(u32, u64),

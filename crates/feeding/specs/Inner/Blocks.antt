@@ -7,11 +7,11 @@ use Rattle.record.specs.Counters.{most_counted}
 use Rattle.record.specs.declared.Totals.{Totals}
 use Rattle.answering.specs.Inner.Steady.{kept_in, Steady}
 use Rattle.intake.specs.declared.Session.{Session}
-use Rattle.answering.specs.declared.Book.{Book}
+use Rattle.answering.specs.declared.Keeper.{Keeper}
 use Rattle.intake.specs.Feed.{Store, store_of, Fed}
 
--- a book's tree and marks among the lent words
-abbrev pub store_with : (words : List ℕ) → Book → (counters : List ℕ) → Store
+-- a keeper's tree and marks among the lent words
+abbrev pub store_with : (words : List ℕ) → Keeper → (counters : List ℕ) → Store
 store_with ws b C = store_of ws b.tree.now b.marks.now C
 
 -- what was fed, with its text put into the output from a place on

@@ -8,8 +8,8 @@ use Rattle.feeding.proofs.Blocks.{within_fewer, feeding_none, feeding_long, feed
 use Rattle.intake.proofs.Records.{whole_input}
 use Rattle.feeding.proofs.feeding.feed.Goals as goal
 
-pub loop-book-init : goal.loop-book-init
-loop-book-init c =
+pub loop-keeper-init : goal.loop-keeper-init
+loop-keeper-init c =
     let a = c.args in (
       feeding_none a.setting a.session (store_of a.words.now a.tree.now a.marks.now a.counters.now) a.input.now a.output.now
           c.requires.0.steady c.requires.0.kept,
@@ -20,7 +20,7 @@ loop-book-init c =
 
 pub proceed-turn-requires : goal.proceed-turn-requires
 proceed-turn-requires c =
-    let l = c.loop-book.invariant in
+    let l = c.loop-keeper.invariant in
     let r = c.read_some-step in (
       record {
         steady = l.0.took.stays.steady;
@@ -33,10 +33,10 @@ proceed-turn-requires c =
       l.1,
     )
 
-pub loop-book-preserved : goal.loop-book-preserved
-loop-book-preserved c =
+pub loop-keeper-preserved : goal.loop-keeper-preserved
+loop-keeper-preserved c =
     let a = c.args in
-    let l = c.loop-book.invariant in
+    let l = c.loop-keeper.invariant in
     let r = c.read_some-step in
     let p = c.proceed-turn in (
       feeding_more a.setting a.session (store_of a.words.now a.tree.now a.marks.now a.counters.now) a.input.now a.output.now l.0 r.ensures p.ensures.took

@@ -3,24 +3,23 @@ use mathlib.Core.Path.{refl, sym, ap, ◌∙◌}
 use Prim.Native.Nat.{ℕ, ◌+◌}
 use native.Mathlib.Omega.{arith}
 use Rattle.clause.specs.Clause.{Accepted}
-use Rattle.tree.proofs.Refused.{refused_as}
 use Rattle.tree.proofs.Grow.{sized_low, sized_high, laid_room}
 use Rattle.index.proofs.Noting.{decode_region, laid_encoded}
 use Rattle.index.proofs.Reading.{whole_accepted, undecided}
 use Rattle.query.proofs.Asking.{used_part, fresh_ready, decided}
 use Rattle.query.proofs.Packed.{clause_read}
 use Rattle.index.proofs.indexed.query_indexed.Goals as goal
-use Rattle.index.proofs.indexed.query_indexed.Goals.{Joined-not-is_whole, then-not-is_whole+in_ok-read, else-not-is_whole}
+use Rattle.index.proofs.indexed.query_indexed.Goals.{Joined-not-is_whole, then-not-is_whole+in-Ok, else-not-is_whole}
 
-pub returns-in_err-read : goal.returns-in_err-read
-returns-in_err-read c =
-    undecided c.args.tree.now c.args.words.now c.args.budget c.requires.0 c.in_err-read.was c.read.ensures (refused_as _ _ c.from_residual.ensures.1)
+pub returns-in_default : goal.returns-in_default
+returns-in_default c =
+    undecided c.args.tree.now c.args.words.now c.args.budget c.requires.0 c.unwrap_err.ensures c.read-shape.ensures refl
 
 -- the clause is accepted
 accepted : (c : Joined-not-is_whole) → Accepted c.args.words.now
 accepted c =
     elim c.if-not-is_whole.branch [
-      | then-not-is_whole+in_ok-read w ↦ (_, sym w.read.ensures ∙ w.in_ok-read.was)
+      | then-not-is_whole+in-Ok w ↦ (_, sym w.read-shape.ensures ∙ w.in-Ok.is)
       | else-not-is_whole w ↦ whole_accepted c.args.words.now c.is_whole.ensures w.if-not-is_whole.false
     ]
 

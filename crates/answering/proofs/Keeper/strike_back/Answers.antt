@@ -3,7 +3,7 @@ use mathlib.Core.Path.{sym}
 use native.Mathlib.Omega.{arith}
 use lib.Seq.{length-take-le}
 use Rattle.answering.proofs.Keeping.{insertable, back_refused, listed_inside, listed_small, back_listed}
-use Rattle.answering.proofs.Book.strike_back.Goals as goal
+use Rattle.answering.proofs.Keeper.strike_back.Goals as goal
 
 pub slice_bounds-exchange-end : goal.slice_bounds-exchange-end
 slice_bounds-exchange-end c =

@@ -6,7 +6,7 @@ use Rattle.tree.proofs.Refused.{answer_as}
 use Rattle.record.proofs.Reading.{Narrow}
 use Rattle.answering.proofs.Keeping.{of, asked_refused, asked_struck, asked_accepted, asked_in}
 use Rattle.answering.proofs.Renewing.{outdated}
-use Rattle.answering.proofs.Book.answer.Goals as goal
+use Rattle.answering.proofs.Keeper.answer.Goals as goal
 
 pub go_in-came-requires : goal.go_in-came-requires
 go_in-came-requires c =

@@ -5,7 +5,7 @@ use Rattle.machine.proofs.Compiled.{compiled_keys}
 use Rattle.answering.proofs.Renewing.{entry_begins}
 use Rattle.answering.proofs.Keeping.{clause_short, clause_some, insertable, ready, number_new, keep_marked, keep_refused, keep_kept}
 use borrow.Author.Rules.{rules}
-use Rattle.answering.proofs.Book.keep.Goals as goal
+use Rattle.answering.proofs.Keeper.keep.Goals as goal
 
 pub returns-then-self-mark-eq-TAKEN-clause-entered : goal.returns-then-self-mark-eq-TAKEN-clause-entered
 returns-then-self-mark-eq-TAKEN-clause-entered c =

@@ -2,7 +2,7 @@
 use mathlib.Core.Path.{◌∙◌}
 use native.Mathlib.Omega.{arith}
 use Rattle.answering.proofs.Keeping.{insertable, exchange_marked, exchange_free, exchange_none}
-use Rattle.answering.proofs.Book.exchange.Goals as goal
+use Rattle.answering.proofs.Keeper.exchange.Goals as goal
 
 pub returns-then-self-number-eq-TAKEN-clause-replaced : goal.returns-then-self-number-eq-TAKEN-clause-replaced
 returns-then-self-number-eq-TAKEN-clause-replaced c =

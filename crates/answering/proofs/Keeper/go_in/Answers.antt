@@ -1,6 +1,6 @@
 -- By the setting.
 use Rattle.answering.proofs.Keeping.{in_plain, in_back}
-use Rattle.answering.proofs.Book.go_in.Goals as goal
+use Rattle.answering.proofs.Keeper.go_in.Goals as goal
 
 pub returns-in-Plain-clause-came : goal.returns-in-Plain-clause-came
 returns-in-Plain-clause-came c =
