@@ -1,9 +1,9 @@
 -- What a visit does to the cells is what the definition's step does to the state.
+use Rattle.std.specs.Prelude.{Some, None}
 use Prim.Native.Nat.{ℕ, zero, suc, ◌+◌, ◌-◌, ◌*◌, ◌/◌, ◌%◌, ◌^◌, ◌≤◌, ◌<◌}
 use mathlib.Core.Path.{◌≡◌, refl, sym, ◌∙◌}
 use mathlib.Core.Bool.{Bool, true, false, cond}
 use mathlib.Core.Option.{Option, none, some}
-use Rattle.std.specs.Prelude.{Some, None}
 use mathlib.Core.List.{List}
 use native.Mathlib.Omega.{arith}
 use lib.Dec.{ltb, eqb}
@@ -24,7 +24,8 @@ use Rattle.walk.specs.Words.{extends}
 use Rattle.clause.specs.Inner.Tables.{at_ends, at_siblings}
 use Rattle.cells.specs.Inner.Cells.{puts_at, pushes_at, cell_count, no_position, undo_base, count_in}
 use Rattle.cells.specs.Inner.Cells.{position_in, placed, state_of, Tables, Walkable}
-use Rattle.stepping.specs.Inner.Visits.{Storable, Met, past, bad, hit, firsts, stepped, reached, with_words, met_as, meeting, met_of, head_of, stores, plain, store, Visited}
+use Rattle.stepping.specs.Inner.Visits.{Met, past, bad, hit, firsts, stepped, reached, with_words, met_as, meeting, met_of, head_of, stores, plain, store, Visited}
+use Rattle.stepping.specs.Inner.Visits.{Storable}
 use Rattle.stepping.specs.declared.Visit.{Visit}
 use Rattle.stepping.specs.declared.Visit.TheVariants.{Fails, Stuck, Below, Stored}
 use Rattle.tree.specs.Laid.{extent_of}
