@@ -8,7 +8,7 @@ ghost use Rattle.answering.specs.Inner.Steady.{CameOut};
 ghost use Rattle.answering.specs.Inner.Keepers.{Ready, SameWords};
 
 use crate::indexing::reindex;
-use crate::{Keeper, Budget};
+use crate::{Budget, Keeper};
 use index::query_indexed;
 use record::{Came, Outcome, Setting};
 use tree::Refusal;

@@ -10,7 +10,7 @@ ghost use Rattle.record.specs.Marks.{number_count, marked};
 ghost use Rattle.answering.specs.Inner.Steady.{CameOut};
 ghost use Rattle.answering.specs.Inner.Keepers.{Ready, SameWords};
 
-use crate::{Keeper, Budget};
+use crate::{Budget, Keeper};
 use backward::Listed;
 use compiling::compile;
 use index::insert_below;

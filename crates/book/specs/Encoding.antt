@@ -38,4 +38,5 @@ pub record Ran (before words rest after : List ℕ) : Type 0 where
   pub reads : (f : ℕ) → calls_within (suc f) words ≡ first ∷ calls_within f rest
   pub fit : Fit first
   pub slice : after ≡ (call before first).slice
+  pub end : (n : ℕ) × (rest ≡ drop n words)
   pub shorter : length rest < length words

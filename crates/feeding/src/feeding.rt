@@ -141,7 +141,9 @@ fn proceed(
             },
             ..turn
         },
-        Next::Ends(heading) => finish(setting, heading, turn, keeper, counters, list, words, output),
+        Next::Ends(heading) => finish(
+            setting, heading, turn, keeper, counters, list, words, output,
+        ),
     }
 }
 
@@ -182,7 +184,14 @@ pub fn feed(
         let step = read_some(rest, turn.session, words);
         rest = &rest[step.taken..];
         turn = proceed(
-            setting, step.next, turn, &mut keeper, counters, &mut list, words, output,
+            setting,
+            step.next,
+            turn,
+            &mut keeper,
+            counters,
+            &mut list,
+            words,
+            output,
         );
     }
     turn

@@ -1,5 +1,5 @@
 -- The first call that the words stand for is run, by its kind.
-use mathlib.Core.Path.{◌≡◌, sym, ap, ◌∙◌}
+use mathlib.Core.Path.{◌≡◌, refl, sym, ap, ◌∙◌}
 use mathlib.Core.List.{List, ◌∷◌}
 use Prim.Native.Nat.{ℕ, suc, ◌-◌, ◌^◌}
 use native.Mathlib.Omega.{arith}
@@ -19,6 +19,7 @@ returns-then-kind-eq0 c =
       reads = λ f. rw c.if-kind-eq0.true (step_remove f a.high a.low a.rest.now);
       fit = omega (arith, c.ranges.high, c.ranges.low);
       slice = ap (λ y. y.slice) c.remove.ensures;
+      end = (3, refl);
       shorter = omega arith;
     }
 
@@ -37,5 +38,6 @@ returns c =
           ∙ ap (λ (xs : List ℕ). insert (take m ws) (whole a.high a.low) ∷ calls_within f xs) (sym after);
       fit = (all_take m (all_below (2 ^ 16) ws (λ i. omega (arith, c.type_inv.rest i))), omega (arith, c.ranges.high, c.ranges.low));
       slice = ap (λ y. y.slice) c.insert.ensures ∙ ap (λ (xs : List ℕ). (insertion a.tree.now xs (whole a.high a.low)).slice) clause;
+      end = (suc (suc (suc m)), after);
       shorter = omega (arith, c.split_at.ensures.back_len);
     }
