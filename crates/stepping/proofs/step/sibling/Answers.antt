@@ -1,0 +1,18 @@
+-- `sibling` meets its contract.
+use mathlib.Core.Path.{refl}
+use native.Mathlib.Omega.{arith}
+use Rattle.cells.proofs.Places.{few_words}
+use Rattle.stepping.proofs.Visits.{stays, sticks, right_stuck, right_below}
+use Rattle.stepping.proofs.step.sibling.Goals as goal
+
+pub bounds-tables-siblings : goal.bounds-tables-siblings
+bounds-tables-siblings c = omega (arith, few_words c.requires.0)
+
+pub bounds-tables-end : goal.bounds-tables-end
+bounds-tables-end c = omega (arith, few_words c.requires.0)
+
+pub returns-then-tables-siblings-eq0 : goal.returns-then-tables-siblings-eq0
+returns-then-tables-siblings-eq0 c = sticks _ _ (right_stuck _ _ _ _ c.requires.0 c.requires.1 c.if-tables-siblings-eq0.true)
+
+pub returns-else-tables-siblings-eq0 : goal.returns-else-tables-siblings-eq0
+returns-else-tables-siblings-eq0 c = let p = c.requires in stays _ _ _ refl (right_below _ _ _ _ p.0 p.1 c.if-tables-siblings-eq0.false c.from.ensures)
