@@ -75,6 +75,7 @@ fn down(query: &[u16], head: usize) -> Visit
 }
 
 // The right sibling, if there is one.
+// A number, Path::NONE for none: with options here and in `moved`, `push`, `pop` and `compare`, tried and proved, the walk took 1.7 % more instructions.
 fn right(
     query: &[u16],
     tables: &[u8; Clause::TABLES],
