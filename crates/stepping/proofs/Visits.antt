@@ -90,14 +90,6 @@ module _ (d t : List ℕ) (h : ℕ) (l : List ℕ) (R : Walkable d t h l) (insid
       let w = few_words R in
       (rw (e, R.tables.ends h inside, r) (place_some {x = jump d 1 h} (λ z. omega arith)), rw (e, R.tables.ends h inside) (omega arith))
 
-  pub right_stuck : get_or t (at_siblings + h) 0 ≡ 0 → bad ≡ stepped (given (right d h) (headed (state_of h l)))
-  right_stuck e = moved_none h l {to = no_position} refl ∙ ap (λ (o : Option ℕ). stepped (given o (headed (state_of h l)))) (right_none e)
-
-  pub right_below : (get_or t (at_siblings + h) 0 ≡ 0 → ⊥) → {x : ℕ} → x ≡ get_or t (at_ends + h) 0 → met_of (Below x) (state_of x l) ≡ stepped (given (right d h) (headed (state_of h l)))
-  right_below n {x} e =
-      let r = right_some n {x = x} e in
-      moved_some h l {to = x} (λ z. omega (arith, r.1)) ∙ ap (λ (o : Option ℕ). stepped (given o (headed (state_of h l)))) r.0
-
 -- Put and Push
 module _ (h : ℕ) (l : List ℕ) (few : count_in l ≤ max_literals) where
   pub put_visit : (k : ℕ) → k < slots → h < max_words → get_or l (puts_at + k) 0 < undo_base

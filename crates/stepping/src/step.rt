@@ -7,7 +7,7 @@ ghost use Rattle.machine.specs.Machine.{same_terms};
 ghost use Rattle.machine.specs.Machine as m;
 ghost use Rattle.stepping.specs.declared.Visit.TheVariants.{Stuck, Tries, Stored};
 ghost use Rattle.cells.specs.Inner.Cells.{count_at, cell_count, no_position, undo_base, operation_of, count_in, position_in, state_of, Tables, Walkable};
-ghost use Rattle.stepping.specs.Inner.Visits.{met_success, met_first, met_down, met_right, met_moved, met_put, met_push, met_pop, met_check, met_compare};
+ghost use Rattle.stepping.specs.Inner.Visits.{met_success, met_first, met_down, met_moved, met_put, met_push, met_pop, met_check, met_compare};
 ghost use Rattle.stepping.specs.Inner.Visits.{with_words, met_as, meeting, Visited};
 
 use crate::Visit;
@@ -91,25 +91,6 @@ fn right(
         Path::NONE
     } else {
         usize::from(tables[end])
-    }
-}
-
-// To the right sibling, if there is one.
-fn sibling(
-    query: &[u16],
-    tables: &[u8; Clause::TABLES],
-    cells: &[u8; Path::CELLS],
-    head: usize,
-) -> Visit
-    requires { Walkable query.now tables.now head cells.now × (head < length query.now) }
-    ensures { Visited head (met_right query.now head cells.now) cells.now cells.now result }
-{
-    let siblings = Clause::SIBLINGS + head;
-    let end = Clause::ENDS + head;
-    if tables[siblings] == 0 {
-        Visit::Stuck
-    } else {
-        Visit::Below(usize::from(tables[end]))
     }
 }
 
@@ -275,7 +256,7 @@ fn act(
         Op::SUCCESS => success(words),
         Op::FIRST => tries(cells),
         Op::DOWN => down(query, head),
-        Op::RIGHT => sibling(query, tables, cells, head),
+        Op::RIGHT => moved(right(query, tables, cells, head)),
         Op::PUT => put(cells, head, x),
         Op::PUSH => {
             let to = right(query, tables, cells, head);

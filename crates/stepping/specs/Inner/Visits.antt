@@ -3,7 +3,7 @@ use Rattle.std.specs.Prelude.{◌≡◌, Bool, true, false, cond, List, ℕ, ◌
 use Rattle.std.proofs.Math.Option.{Option, none, some}
 use Rattle.clause.specs.Clause.{max_literals}
 use Rattle.machine.specs.Instr.{Instr, First, Do, Success, Compare, instr_of}
-use Rattle.machine.specs.Machine.{State, Effect, next, fails, stuck, step, finish, down, right, given, headed, putting, pushing, require, within, step_at}
+use Rattle.machine.specs.Machine.{State, Effect, next, fails, stuck, step, finish, down, given, headed, putting, pushing, require, within, step_at}
 use Rattle.tree.specs.Laid.{key_of}
 use Rattle.walk.specs.Words.{extends}
 use Rattle.cells.specs.Inner.Cells.{puts_at, pushes_at, count_at, undo_base, count_in, position_in, placed, state_of}
@@ -60,9 +60,6 @@ met_first h l = cond (ltb (count_in l) max_literals) (firsts (state_of h l)) bad
 
 abbrev pub met_down : List ℕ → (head : ℕ) → List ℕ → Met
 met_down d h l = stepped (given (down d h) (headed (state_of h l)))
-
-abbrev pub met_right : List ℕ → (head : ℕ) → List ℕ → Met
-met_right d h l = stepped (given (right d h) (headed (state_of h l)))
 
 abbrev pub met_moved : (to head : ℕ) → List ℕ → Met
 met_moved x h l = stepped (given (position_in x) (headed (state_of h l)))

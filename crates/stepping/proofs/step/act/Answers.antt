@@ -46,7 +46,8 @@ returns-in-3 c =
     let t = a.tables.now in
     let l = a.cells.now in
     let e = c.in-3.is in
-    rw (sized_other a.op a.words (λ z. omega (arith, z, e)) (act_right d t a.head l c.requires.0 c.requires.1 a.op a.x e)) c.sibling.ensures
+    let p = act_right d t a.head l c.requires.0 c.requires.1 a.op a.x e in
+    rw (sized_other a.op a.words (λ z. omega (arith, z, e)) p, ← c.right.ensures.0) (c.moved.ensures a.head l)
 
 pub returns-in-4 : goal.returns-in-4
 returns-in-4 c =
