@@ -1,7 +1,6 @@
 -- What a visit does to the cells is what the definition's step does to the state.
-use Rattle.std.specs.Prelude.{Some, None}
 use Prim.Native.Nat.{ℕ, zero, suc, ◌+◌, ◌-◌, ◌*◌, ◌/◌, ◌%◌, ◌^◌, ◌≤◌, ◌<◌}
-use mathlib.Core.Path.{◌≡◌, refl, sym, ◌∙◌}
+use mathlib.Core.Path.{◌≡◌, refl, sym, ap, ◌∙◌}
 use mathlib.Core.Bool.{Bool, true, false, cond}
 use mathlib.Core.Option.{Option, none, some}
 use mathlib.Core.List.{List}
@@ -13,7 +12,7 @@ use native.Mathlib.Decide.{ℕ_discrete}
 use borrow.Author.Tests.{lt-ltb, le-ltb, eq-eqb, ne_eqb}
 use Rattle.clause.specs.Word.{arity}
 use Rattle.clause.specs.Clause.{max_words, max_literals, term_at}
-use Rattle.clause.specs.Positions.{rights}
+use Rattle.clause.specs.Positions.{jump, rights}
 use Rattle.clause.proofs.Literals.{accepted}
 use Rattle.clause.proofs.Ends.{jump_from, jump_le, term_part}
 use Rattle.clause.proofs.Siblings.{right_inside}
@@ -25,13 +24,12 @@ use Rattle.clause.specs.Inner.Tables.{at_ends, at_siblings}
 use Rattle.cells.specs.Inner.Cells.{puts_at, pushes_at, cell_count, no_position, undo_base, count_in}
 use Rattle.cells.specs.Inner.Cells.{position_in, placed, state_of, Tables, Walkable}
 use Rattle.stepping.specs.Inner.Visits.{Met, past, bad, hit, firsts, stepped, reached, with_words, met_as, meeting, met_of, head_of, stores, plain, store, Visited}
-use Rattle.stepping.specs.Inner.Visits.{Storable}
 use Rattle.stepping.specs.declared.Visit.{Visit}
 use Rattle.stepping.specs.declared.Visit.TheVariants.{Fails, Stuck, Below, Stored}
 use Rattle.tree.specs.Laid.{extent_of}
 use Rattle.cells.proofs.Region.{instr_of_word}
 use Rattle.cells.proofs.Rows.{extends_in, extends_more}
-use Rattle.cells.proofs.Places.{place_some, placed_get, state_put, state_push, few_words}
+use Rattle.cells.proofs.Places.{place_none, place_some, placed_get, state_put, state_push, few_words}
 
 -- a visit that stores nothing
 pub stays : (v : Visit) (h : ℕ) (l : List ℕ) {m : Met} → stores v ≡ false → met_of v (state_of (head_of h v) l) ≡ m → Visited h m l l v
@@ -46,22 +44,14 @@ pub misses : (h : ℕ) (l : List ℕ) {m : Met} → past ≡ m → Visited h m l
 unfolding met_of
 misses h l e = stays Fails h l refl e
 
--- what a cell can hold
-pub storable_none : Storable None
-storable_none p e = cc
-
-pub storable_some : {x : ℕ} → x < no_position → Storable (Some x)
-storable_some {x} b p e = let f : x ≡ p = cc in omega (arith, b, f)
-
 -- another head
-pub moved_none : (h : ℕ) (l : List ℕ) {o : Option ℕ} → o ≡ none → bad ≡ stepped (given o (headed (state_of h l)))
-unfolding stepped given
-moved_none h l e = rw e
-
-pub moved_some : (h : ℕ) (l : List ℕ) {to : ℕ} {o : Option ℕ} → to < no_position → o ≡ some to
-    → met_of (Below to) (state_of to l) ≡ stepped (given o (headed (state_of h l)))
+pub moved_none : (h : ℕ) (l : List ℕ) {to : ℕ} → to ≡ no_position → bad ≡ stepped (given (position_in to) (headed (state_of h l)))
 unfolding met_of stepped given
-moved_some h l {to} b e = rw (e, place_some {x = to} (λ z. omega arith))
+moved_none h l e = rw (place_none e)
+
+pub moved_some : (h : ℕ) (l : List ℕ) {to : ℕ} → (to ≡ no_position → ⊥) → met_of (Below to) (state_of to l) ≡ stepped (given (position_in to) (headed (state_of h l)))
+unfolding met_of stepped given
+moved_some h l n = rw (place_some n)
 
 -- a number that is no slot
 pub over : (k : ℕ) (o : Effect State) → slots ≤ k → bad ≡ stepped (within k o)
@@ -69,29 +59,36 @@ unfolding met_of stepped require
 over k o h = rw (le-ltb k slots h)
 
 -- the arguments and the right sibling
-pub down_none : (d : List ℕ) (p : ℕ) → arity (get_or d p 0) ≡ 0 → down d p ≡ none
+pub down_none : (d : List ℕ) (p : ℕ) → arity (get_or d p 0) ≡ 0 → position_in no_position ≡ down d p
 unfolding down onto
-down_none d p e = rw e
+down_none d p e = rw e (place_none refl)
 
-pub down_some : (d : List ℕ) (p : ℕ) → (arity (get_or d p 0) ≡ 0 → ⊥) → down d p ≡ some (p + 1)
+pub down_some : (d : List ℕ) (p : ℕ) → p < max_words → (arity (get_or d p 0) ≡ 0 → ⊥) → position_in (p + 1) ≡ down d p
 unfolding down onto
-down_some d p n =
+down_some d p h n =
     let e : arity (get_or d p 0) ≡ suc (arity (get_or d p 0) - 1) = omega arith in
     let f : p + 1 ≡ suc p = omega arith in
-    rw (e, f)
+    rw (e, f) (place_some {x = suc p} (λ z. omega arith))
+
+pub down_stuck : (d : List ℕ) (h : ℕ) (l : List ℕ) → arity (get_or d h 0) ≡ 0 → bad ≡ stepped (given (down d h) (headed (state_of h l)))
+down_stuck d h l e = moved_none h l {to = no_position} refl ∙ ap (λ (o : Option ℕ). stepped (given o (headed (state_of h l)))) (down_none d h e)
+
+pub down_below : (d : List ℕ) (h : ℕ) (l : List ℕ) → (h < length d) × (length d ≤ max_words) → (arity (get_or d h 0) ≡ 0 → ⊥)
+    → met_of (Below (h + 1)) (state_of (h + 1) l) ≡ stepped (given (down d h) (headed (state_of h l)))
+down_below d h l p n = moved_some h l {to = h + 1} (λ z. omega (arith, p)) ∙ ap (λ (o : Option ℕ). stepped (given o (headed (state_of h l)))) (down_some d h (omega (arith, p)) n)
 
 module _ (d t : List ℕ) (h : ℕ) (l : List ℕ) (R : Walkable d t h l) (inside : h < length d) where
-  pub right_none : get_or t (at_siblings + h) 0 ≡ 0 → none ≡ right d h
+  pub right_none : get_or t (at_siblings + h) 0 ≡ 0 → position_in no_position ≡ right d h
   unfolding right onto
-  right_none e = rw (sym (R.tables.rights h inside) ∙ e)
+  right_none e = rw (sym (R.tables.rights h inside) ∙ e) (place_none refl)
 
-  pub right_some : (get_or t (at_siblings + h) 0 ≡ 0 → ⊥) → {x : ℕ} → x ≡ get_or t (at_ends + h) 0 → (some x ≡ right d h) × (x < no_position)
+  pub right_some : (get_or t (at_siblings + h) 0 ≡ 0 → ⊥) → {x : ℕ} → x ≡ get_or t (at_ends + h) 0 → (position_in x ≡ right d h) × (x < max_words)
   unfolding right onto
   right_some n e =
       let r : rights d h ≡ suc (rights d h - 1) = omega (arith, R.tables.rights h inside) in
       let j = right_inside d (accepted d R.whole) h (rights d h - 1) inside r in
       let w = few_words R in
-      (rw (e, R.tables.ends h inside, r), rw (e, R.tables.ends h inside) (omega arith))
+      (rw (e, R.tables.ends h inside, r) (place_some {x = jump d 1 h} (λ z. omega arith)), rw (e, R.tables.ends h inside) (omega arith))
 
 -- Put and Push
 module _ (h : ℕ) (l : List ℕ) (few : count_in l ≤ max_literals) where
@@ -105,19 +102,19 @@ module _ (h : ℕ) (l : List ℕ) (few : count_in l ≤ max_literals) where
         undoable = store h (puts_at + k) h (omega arith) (omega arith) b;
       }
 
-  pub push_visit : (n x : ℕ) → n < slots → x < no_position → get_or l (pushes_at + n) 0 < undo_base
-      → Visited h (stepped (within n (given (some x) (pushing (state_of h l) n)))) l (set l (pushes_at + n) x)
+  pub push_visit : (n x : ℕ) → n < slots → x < cell_count → (x ≡ no_position → ⊥) → get_or l (pushes_at + n) 0 < undo_base
+      → Visited h (stepped (within n (given (position_in x) (pushing (state_of h l) n)))) l (set l (pushes_at + n) x)
       (Stored h ((pushes_at + n) * undo_base + get_or l (pushes_at + n) 0))
   unfolding met_of stepped require given
-  push_visit n x g v b =
+  push_visit n x g v ne b =
       record {
-        comes = rw (lt-ltb n slots g, state_push h l few n x g (omega arith));
+        comes = rw (lt-ltb n slots g, place_some ne, state_push h l few n x g (omega arith));
         undoable = store h (pushes_at + n) x (omega arith) (omega arith) b;
       }
 
-pub push_none : (n : ℕ) (s : State) {o : Option ℕ} → o ≡ none → n < slots → bad ≡ stepped (within n (given o (pushing s n)))
-unfolding stepped require given
-push_none n s e g = rw (lt-ltb n slots g, e)
+pub push_none : (n : ℕ) (s : State) {x : ℕ} → x ≡ no_position → n < slots → bad ≡ stepped (within n (given (position_in x) (pushing s n)))
+unfolding met_of stepped require given
+push_none n s e g = rw (lt-ltb n slots g, place_none e)
 
 -- Pop
 pub pop_visit : (h : ℕ) (l : List ℕ) → length l ≡ cell_count → (n : ℕ) → n < slots → stepped (given (position_in (get_or l (pushes_at + n) 0)) (headed (state_of h l)))
@@ -163,25 +160,25 @@ module _ (d t : List ℕ) (h : ℕ) (l : List ℕ) (R : Walkable d t h l) (m k :
           let s = R.size in
           rw (lt-ltb m slots u, lt-ltb k slots v, placed_get puts_at l m u (omega arith), placed_get puts_at l k v (omega arith))
 
-      pub compare_no_m : none ≡ position_in (get_or l (puts_at + m) 0) → bad ≡ stepped (step_at d (Compare m k) (state_of h l) h)
-      unfolding stepped compare_terms
-      compare_no_m e = rw (compare_places, ← e)
+      pub compare_no_m : {p : ℕ} → p ≡ get_or l (puts_at + m) 0 → p ≡ no_position → bad ≡ stepped (step_at d (Compare m k) (state_of h l) h)
+      unfolding met_of stepped compare_terms
+      compare_no_m e f = rw (compare_places, place_none (sym e ∙ f))
 
-      module _ {p : ℕ} (e : some p ≡ position_in (get_or l (puts_at + m) 0)) where
-        pub compare_no_k : none ≡ position_in (get_or l (puts_at + k) 0) → bad ≡ stepped (step_at d (Compare m k) (state_of h l) h)
-        unfolding stepped compare_terms
-        compare_no_k f = rw (compare_places, ← e, ← f)
+      module _ {p : ℕ} (e : p ≡ get_or l (puts_at + m) 0) (n : p ≡ no_position → ⊥) where
+        pub compare_no_k : {q : ℕ} → q ≡ get_or l (puts_at + k) 0 → q ≡ no_position → bad ≡ stepped (step_at d (Compare m k) (state_of h l) h)
+        unfolding met_of stepped compare_terms
+        compare_no_k f g = rw (compare_places, ← e, place_some n, place_none (sym f ∙ g))
 
         pub put_inside_m : p < length d
-        put_inside_m = R.safe.puts m p (placed_get puts_at l m u (omega (arith, R.size)) ∙ sym e)
+        put_inside_m = R.safe.puts m p (placed_get puts_at l m u (omega (arith, R.size)) ∙ rw (← e) (place_some n))
 
-        module _ {q : ℕ} (f : some q ≡ position_in (get_or l (puts_at + k) 0)) where
+        module _ {q : ℕ} (f : q ≡ get_or l (puts_at + k) 0) (o : q ≡ no_position → ⊥) where
           pub put_inside_k : q < length d
-          put_inside_k = R.safe.puts k q (placed_get puts_at l k v (omega (arith, R.size)) ∙ sym f)
+          put_inside_k = R.safe.puts k q (placed_get puts_at l k v (omega (arith, R.size)) ∙ rw (← f) (place_some o))
 
           compare_both : step_at d (Compare m k) (state_of h l) h ≡ require fails (same_terms d p q) (next (state_of h l))
           unfolding compare_terms
-          compare_both = rw (compare_places, ← e, ← f)
+          compare_both = rw (compare_places, ← e, ← f, place_some n, place_some o)
 
           pub compare_same : same_terms d p q ≡ true → met_of (Below h) (state_of h l) ≡ stepped (step_at d (Compare m k) (state_of h l) h)
           unfolding met_of stepped require

@@ -1,24 +1,14 @@
 -- What a word of a row comes to, and what its visit does to the cells.
-use Rattle.std.specs.Prelude as std
-use Rattle.std.specs.Prelude.{Some, None, ◌≡◌, Bool, true, false, cond, List, ℕ, ◌+◌, ◌-◌, ◌*◌, ◌≤◌, ◌<◌, ltb, eqb, length, get_or, set}
+use Rattle.std.specs.Prelude.{◌≡◌, Bool, true, false, cond, List, ℕ, ◌+◌, ◌-◌, ◌*◌, ◌≤◌, ◌<◌, ltb, eqb, length, get_or, set}
 use Rattle.std.proofs.Math.Option.{Option, none, some}
 use Rattle.clause.specs.Clause.{max_literals}
 use Rattle.machine.specs.Instr.{Instr, First, Do, Success, Compare, instr_of}
 use Rattle.machine.specs.Machine.{State, Effect, next, fails, stuck, step, finish, down, given, headed, putting, pushing, require, within, step_at}
 use Rattle.tree.specs.Laid.{key_of}
 use Rattle.walk.specs.Words.{extends}
-use Rattle.cells.specs.Inner.Cells.{puts_at, pushes_at, count_at, no_position, undo_base, count_in, placed, state_of}
+use Rattle.cells.specs.Inner.Cells.{puts_at, pushes_at, count_at, undo_base, count_in, position_in, placed, state_of}
 use Rattle.stepping.specs.declared.Visit.{Visit}
 use Rattle.stepping.specs.declared.Visit.TheVariants.{Fails, Stuck, Hit, Tries, Below, Stored}
-
--- the position that a look-up gives, if it gives one
-abbrev pub place_of : std.Option ℕ → Option ℕ
-place_of None = none
-place_of (Some p) = some p
-
--- a cell can hold it: it is not what stands for no position
-abbrev pub Storable : std.Option ℕ → Type 0
-Storable o = (p : ℕ) → o ≡ Some p → p < no_position
 
 -- what a word comes to: past it, broken, the end, the candidates of a First, or the words below it
 pub data Met : Type 0 where
@@ -71,14 +61,14 @@ met_first h l = cond (ltb (count_in l) max_literals) (firsts (state_of h l)) bad
 abbrev pub met_down : List ℕ → (head : ℕ) → List ℕ → Met
 met_down d h l = stepped (given (down d h) (headed (state_of h l)))
 
-abbrev pub met_moved : Option ℕ → (head : ℕ) → List ℕ → Met
-met_moved o h l = stepped (given o (headed (state_of h l)))
+abbrev pub met_moved : (to head : ℕ) → List ℕ → Met
+met_moved x h l = stepped (given (position_in x) (headed (state_of h l)))
 
 abbrev pub met_put : (k head : ℕ) → List ℕ → Met
 met_put k h l = stepped (within k (next (putting (state_of h l) k h)))
 
-abbrev pub met_push : (n : ℕ) → Option ℕ → (head : ℕ) → List ℕ → Met
-met_push n o h l = stepped (within n (given o (pushing (state_of h l) n)))
+abbrev pub met_push : (n to head : ℕ) → List ℕ → Met
+met_push n x h l = stepped (within n (given (position_in x) (pushing (state_of h l) n)))
 
 abbrev pub met_pop : (n head : ℕ) → List ℕ → Met
 met_pop n h l = stepped (within n (given (get_or (placed pushes_at l) n none) (headed (state_of h l))))

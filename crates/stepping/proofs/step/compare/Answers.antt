@@ -11,36 +11,33 @@ returns-then-m-ge-SLOTS c = sticks _ _ (compare_over_m _ _ _ _ c.requires _ _ c.
 pub returns-then-k-ge-SLOTS : goal.returns-then-k-ge-SLOTS
 returns-then-k-ge-SLOTS c = sticks _ _ (compare_over_k _ _ _ _ c.requires _ _ c.if-m-ge-SLOTS.false c.if-k-ge-SLOTS.true)
 
-pub returns-in_default : goal.returns-in_default
-returns-in_default c =
-    let none = rw c.in_default.is at c.position.ensures.0 in
-    sticks _ _ (compare_no_m _ _ _ _ c.requires _ _ c.if-m-ge-SLOTS.false c.if-k-ge-SLOTS.false none)
+pub returns-then-p-eq-NONE : goal.returns-then-p-eq-NONE
+returns-then-p-eq-NONE c = sticks _ _ (compare_no_m _ _ _ _ c.requires _ _ c.if-m-ge-SLOTS.false c.if-k-ge-SLOTS.false c.from-p.ensures c.if-p-eq-NONE.true)
 
-pub returns-in_default-position : goal.returns-in_default-position
-returns-in_default-position c =
-    let at_p = rw c.in-Some.is at c.position.ensures.0 in
-    let none = rw c.in_default-position.is at c.position-2.ensures.0 in
-    sticks _ _ (compare_no_k _ _ _ _ c.requires _ _ c.if-m-ge-SLOTS.false c.if-k-ge-SLOTS.false at_p none)
+pub returns-then-q-eq-NONE : goal.returns-then-q-eq-NONE
+returns-then-q-eq-NONE c =
+    sticks _ _ (compare_no_k _ _ _ _ c.requires _ _ c.if-m-ge-SLOTS.false c.if-k-ge-SLOTS.false c.from-p.ensures c.if-p-eq-NONE.false
+    c.from-q.ensures c.if-q-eq-NONE.true)
 
 pub same_terms-requires : goal.same_terms-requires
 same_terms-requires c =
     let r = c.requires in
-    let m = c.if-m-ge-SLOTS.false in
-    let k = c.if-k-ge-SLOTS.false in
-    let at_p = rw c.in-Some.is at c.position.ensures.0 in
-    let at_q = rw c.in-Some-position.is at c.position-2.ensures.0 in
-    (few_words r, r.tables, put_inside_m _ _ _ _ r _ _ m k at_p, put_inside_k _ _ _ _ r _ _ m k at_p at_q)
+    let m = c.from-p.ensures in
+    let k = c.from-q.ensures in (
+      few_words r,
+      r.tables,
+      put_inside_m _ _ _ _ r _ _ c.if-m-ge-SLOTS.false c.if-k-ge-SLOTS.false m c.if-p-eq-NONE.false,
+      put_inside_k _ _ _ _ r _ _ c.if-m-ge-SLOTS.false c.if-k-ge-SLOTS.false m c.if-p-eq-NONE.false k c.if-q-eq-NONE.false,
+    )
 
 pub returns-then-same_terms : goal.returns-then-same_terms
 returns-then-same_terms c =
-    let at_p = rw c.in-Some.is at c.position.ensures.0 in
-    let at_q = rw c.in-Some-position.is at c.position-2.ensures.0 in
-    let same = sym c.same_terms.ensures ∙ c.if-same_terms.true in
-    stays _ _ _ refl (compare_same _ _ _ _ c.requires _ _ c.if-m-ge-SLOTS.false c.if-k-ge-SLOTS.false at_p at_q same)
+    stays _ _ _ refl (compare_same _ _ _ _ c.requires _ _ c.if-m-ge-SLOTS.false c.if-k-ge-SLOTS.false
+    c.from-p.ensures c.if-p-eq-NONE.false c.from-q.ensures
+    c.if-q-eq-NONE.false (sym c.same_terms.ensures ∙ c.if-same_terms.true))
 
 pub returns-else-same_terms : goal.returns-else-same_terms
 returns-else-same_terms c =
-    let at_p = rw c.in-Some.is at c.position.ensures.0 in
-    let at_q = rw c.in-Some-position.is at c.position-2.ensures.0 in
-    let other = sym c.same_terms.ensures ∙ c.if-same_terms.false in
-    misses _ _ (compare_other _ _ _ _ c.requires _ _ c.if-m-ge-SLOTS.false c.if-k-ge-SLOTS.false at_p at_q other)
+    misses _ _ (compare_other _ _ _ _ c.requires _ _ c.if-m-ge-SLOTS.false c.if-k-ge-SLOTS.false
+    c.from-p.ensures c.if-p-eq-NONE.false c.from-q.ensures c.if-q-eq-NONE.false
+    (sym c.same_terms.ensures ∙ c.if-same_terms.false))

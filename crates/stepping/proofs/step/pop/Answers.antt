@@ -9,4 +9,4 @@ pub returns : goal.returns
 returns c h =
     let a = c.args in
     let p = pop_visit h a.cells.now c.requires a.n c.if-n-ge-SLOTS.false in
-    rw (← p, ← c.position.ensures.0) (c.moved.ensures h a.cells.now)
+    rw (← p, ← c.from.ensures) (c.moved.ensures h a.cells.now)
