@@ -189,9 +189,6 @@ pub record Closing (es : List ℕ) (d at a : ℕ) : Type 0 where
   pub fewer : a ≤ d
   pub rest : (ks : List ℕ) → still_open at (opens ks es a) ≡ still_open at (opens ks es d)
 
-pub closing_first : (es : List ℕ) (d at : ℕ) → Closing es d at d
-closing_first es d at = record { fewer = omega arith; rest = λ ks. refl }
-
 module _ (es : List ℕ) (d at a : ℕ) (c : Closing es d at a) where
   lowest : (ks : List ℕ) → 0 < a → opens ks es a ≡ record { key = get_or ks (a - 1) 0; end = get_or es (a - 1) 0 } ∷ opens ks es (a - 1)
   unfolding opens

@@ -1,7 +1,7 @@
 -- A block record by record: what the functions leave is what the definition says, byte after byte.
 use mathlib.Core.Path.{◌≡◌, refl, sym, ap, ◌∙◌}
 use mathlib.Core.Bool.{Bool, true, false, cond}
-use mathlib.Core.List.{List, [], ◌++◌, append_assoc, append-nil}
+use mathlib.Core.List.{List, [], ◌++◌, append_assoc}
 use Prim.Native.Nat.{ℕ, ◌+◌, ◌*◌, ◌^◌, ◌≤◌, ◌<◌}
 use native.Mathlib.Omega.{arith}
 use lib.Dec.{ltb}
@@ -243,9 +243,3 @@ module _ (v : Setting) (s₀ : Session) (m₀ : Store) (input o₀ : List ℕ) {
         words = lw ∙ f.words;
         counters = lc ∙ f.counters;
       }
-
-  -- nothing is left
-  pub feeding_done : rest ≡ [] → Took (feed v s₀ m₀ input) (length input) 0 s₀.totals o₀ s m (record { next = at; output = o })
-  feeding_done e =
-      let d : input ≡ f.done = f.split ∙ rw e (append-nil f.done) in
-      rw d f.took

@@ -1,6 +1,5 @@
 -- What is printed, handed on piece after piece.
 use mathlib.Core.Path.{◌≡◌, refl, sym, ap, subst, ◌∙◌}
-use mathlib.Core.Bool.{true, false, false≢true}
 use mathlib.Core.List.{List, [], ◌++◌, append_assoc, append-nil}
 use Prim.Native.Nat.{ℕ, ◌+◌, ◌-◌, ◌*◌, ◌≤◌, ◌<◌}
 use native.Mathlib.Omega.{arith}
@@ -19,16 +18,6 @@ use Rattle.printing.specs.declared.Meters.{Meters}
 use Rattle.printing.specs.Handed.{StandsAt, NextPiece, HandedOn, SheetNext}
 
 -- ---- the meters
-
--- the bytes handed on are so many more
-pub handed_more : (m : Meters) (n : ℕ) → m.failed ≡ false → HandedOn m n (record m { handed = m.handed + n })
-handed_more m n h =
-    record { read = refl; reads = refl; ended = refl; stopped = λ k. absurd (false≢true (sym h ∙ k)); all = λ _. (h, refl); most = omega arith }
-
--- a write has failed
-pub handed_failed : (m : Meters) (n : ℕ) → m.failed ≡ false → HandedOn m n (record m { failed = true })
-handed_failed m n h =
-    record { read = refl; reads = refl; ended = refl; stopped = λ k. absurd (false≢true (sym h ∙ k)); all = λ k. absurd (false≢true (sym k)); most = omega arith }
 
 -- nothing handed on, and some bytes after others
 pub handed_none : (m : Meters) → HandedOn m 0 m
