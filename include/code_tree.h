@@ -83,9 +83,9 @@
  *   15  short output                   read back: output_words under CT_CLAUSE_WORDS
  *   16  short list                     backward: one more number is found than the list_words words of the list hold
  *
- * Stack: a query of a tree made by these calls takes less than 72 KiB: a path has at most 321 instructions (proved),
- * so at most 320 calls nest, of 224 bytes each (measured), and the query itself takes 0.6 KiB. Tree words from
- * elsewhere nest up to 32,772 calls: 7,176 KiB; ct_check tells whether calls could have made them. ct_backward takes
+ * Stack: a query of a tree made by these calls takes less than 62 KiB: a path has at most 321 instructions (proved),
+ * so at most 320 calls nest, of 192 bytes each (measured), and the query itself takes 0.6 KiB. Tree words from
+ * elsewhere nest up to 32,772 calls: 6,152 KiB; ct_check tells whether calls could have made them. ct_backward takes
  * less than 170 KiB, ct_check and ct_read_back less than 20 KiB, the other functions less than 8 KiB (measured).
  *
  * Each function is proved, for all words, lengths and numbers, to return the number and to leave the words that its

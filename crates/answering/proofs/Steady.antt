@@ -132,7 +132,7 @@ freeing_taken n (k ∷ ns) m l = go (ℕ_discrete n k) (freeing_taken n ns (set 
           λ i. ih.1 (same ∙ i.0, λ j. i.1 (Memᴰ.tail j)),
         )
 
--- the marks after a record are those of the keeper after it
+-- the marks after a record are those of the book after it
 course_marks : {K M : List Pair} {x : Record} {ns : List ℕ} {o : Outcome} {ms : List ℕ} (m : List ℕ) → Course K (without_all ns K) x ns o ms M → length m ≡ number_count
     → x.number < number_count
     → ((n : ℕ) → n < number_count → (get_or m n 0 ≡ taken) ↔ Numbered K n)

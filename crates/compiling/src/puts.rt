@@ -10,16 +10,17 @@ use crate::keys::Keys;
 use machine::{Key, Sequence};
 use std::marker::Model;
 
-// A variable that was put, and the number of its first put.
+// A variable that was put, and the number of its first put: in bytes, since all puts are cleared for each clause.
 #[derive(Clone, Copy)]
 struct Put {
     variable: u16,
-    first: usize,
+    first: u8,
 }
 
 // The number of the first put of variable v.
 fn first_put(puts: &[Put], v: u16) -> usize
-    ensures { result ≡ first v (variables_in puts.now) }
+    ensures placed { result ≡ first v (variables_in puts.now) }
+    ensures inside { result ≤ length puts.now }
 {
     puts.iter()
         .position(|put| put.variable == v)
@@ -33,7 +34,7 @@ fn compare_row(puts: &[Put], from: usize, m: usize, keys: &mut Keys)
     ensures { Writes (row_keys (firsts_in puts.now) from m) keys.old keys.new }
 {
     for k in from.max(m + 1)..puts.len() {
-        if puts[k].first == m {
+        if usize::from(puts[k].first) == m {
             keys.push(Key::COMPARE + (m as u64) * Key::PAIR + (k as u64));
         }
     }
@@ -85,7 +86,7 @@ impl Puts {
         ensures { self.new ≡ self.old ++ (v ∷ []) }
     {
         let count = self.count;
-        let first = first_put(&self.puts[..count], v);
+        let first = first_put(&self.puts[..count], v) as u8;
         self.puts[count] = Put { variable: v, first };
         self.count = count + 1;
     }

@@ -6,14 +6,14 @@ use Prim.Native.Nat.{ℕ, suc, ◌+◌, ◌-◌, ◌/◌, ◌%◌, ◌^◌, ◌�
 use native.Mathlib.Omega.{arith}
 use native.Mathlib.Numerals.{add-one}
 use lib.ListN.{length, take, drop, get_or, length-append, drop_of_length-le, set}
-use lib.Seq.{sets, sets-eq, length-sets, take_at, drop-cons}
+use lib.Seq.{sets, sets-eq, set_comm, length-sets, take_at, drop-cons}
 use Rattle.record.specs.Text.{decimal, Written, put_at}
 use Rattle.lines.specs.declared.Page.{Page}
 use Rattle.lines.specs.Inner.Page.{Puts, HasRoom}
 use Rattle.record.specs.Line.{named, says_removed, removal_line, removal_lines, removed_total}
 use Rattle.record.specs.declared.Setting.{Setting}
 use Rattle.record.specs.declared.Setting.TheVariants.{Plain, Back}
-use Rattle.record.proofs.Text.{decimal_small, decimal_large, decimal_length}
+use Rattle.record.proofs.Text.{decimal_small, decimal_large, length_small, length_large, decimal_length}
 
 -- text in two pieces
 sets_append : (s t o : List ℕ) (at : ℕ) → sets o at (s ++ t) ≡ sets (sets o at s) (at + length s) t
@@ -75,16 +75,21 @@ removed_total_length Back n h = omega (arith, length-append says_removed (decima
 
 -- ---- a number, digit after digit
 
--- the only digit
-pub put_only : (n : ℕ) (p q : Page) → n < 10 → q.bytes.ghost_name ≡ p.bytes.ghost_name → q.bytes.now ≡ set p.bytes.now p.at (48 + n % 10) → q.at ≡ p.at + 1 → Puts (decimal n) p q
-put_only n p q h e f g = let r : n % 10 ≡ n = omega arith in record { same = e; put = rw (f, g, r, decimal_small n h) }
+-- a byte after some text may be put before the text
+sets_set : (t o : List ℕ) (at i b : ℕ) → at + length t ≤ i → set (sets o at t) i b ≡ sets (set o i b) at t
+sets_set [] o at i b h = refl
+sets_set (a ∷ t) o at i b h = sets_set t (set o at a) (suc at) i b (omega arith) ∙ rw (set_comm o at i a b (λ e. omega arith))
 
--- the digits before the last one, and then the last one
-pub put_last : (n : ℕ) {o : Page} (p q : Page) → 10 ≤ n → Puts (decimal (n / 10)) o p → q.bytes.ghost_name ≡ p.bytes.ghost_name → q.bytes.now ≡ set p.bytes.now p.at (48 + n % 10)
-    → q.at ≡ p.at + 1 → Puts (decimal n) o q
-put_last n p q h w e f g =
-    let l : Puts ((48 + n % 10) ∷ []) p q = record { same = e; put = rw (f, g) } in
-    rw (decimal_large n h) (joined (decimal (n / 10)) ((48 + n % 10) ∷ []) w l)
+-- a number's last digit first, and then the digits before it
+pub put_last : (n : ℕ) (o : List ℕ) (at last : ℕ) → 10 ≤ n → last + 1 ≡ at + length (decimal n)
+    → sets o at (decimal n) ≡ sets (set o last (48 + n % 10)) at (decimal (n / 10))
+put_last n o at last h e =
+    let l : at + length (decimal (n / 10)) ≡ last = omega (arith, length_large n h) in
+    rw (decimal_large n h, sets_append, l) (sets_set (decimal (n / 10)) o at last (48 + n % 10) (omega arith))
+
+-- the only digit
+pub put_only : (n : ℕ) (o : List ℕ) (at last : ℕ) → n < 10 → last + 1 ≡ at + length (decimal n) → sets o at (decimal n) ≡ set o last (48 + n)
+put_only n o at last h e = let l : last ≡ at = omega (arith, length_small n h) in rw (l, decimal_small n h)
 
 -- ---- the lines of removals, one after another
 

@@ -1,6 +1,7 @@
 // The lines of the output, put on a page of lent bytes.
 #![tactic(auto)]
 
+mod decimal;
 mod line;
 mod removals;
 mod text;

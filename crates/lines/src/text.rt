@@ -4,6 +4,7 @@ ghost use Rattle.record.specs.Text.{decimal};
 ghost use Rattle.lines.specs.Inner.Page.{Puts, HasRoom};
 
 use crate::Page;
+use crate::decimal::write_decimal;
 
 impl<'a> Page<'a> {
     // Puts some text.
@@ -16,17 +17,13 @@ impl<'a> Page<'a> {
         self.at = end;
     }
 
-    // Puts the digits of a number in base ten: those before the last one, and then the last one.
+    // Puts the digits of a number in base ten.
     // std's own digits (`InlineText::of`) are promised only up to a cut, and are no promise of these bytes.
     pub fn put_decimal(&mut self, number: u64)
         requires { HasRoom (length (decimal number)) self.old }
         ensures { Puts (decimal number) self.old self.new }
     {
-        if number >= 10 {
-            self.put_decimal(number / 10);
-        }
-        self.bytes[self.at] = b'0' + (number % 10) as u8;
-        self.at += 1;
+        self.at = write_decimal(self.bytes, self.at, number);
     }
 
     // Puts some text and a number after it.

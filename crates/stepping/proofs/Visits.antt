@@ -14,7 +14,7 @@ use Rattle.clause.specs.Word.{arity}
 use Rattle.clause.specs.Clause.{max_words, max_literals, term_at}
 use Rattle.clause.specs.Positions.{jump, rights}
 use Rattle.clause.proofs.Literals.{accepted}
-use Rattle.clause.proofs.Ends.{jump_from, jump_le, term_part}
+use Rattle.clause.proofs.Ends.{jump_from, jump_one, jump_le, term_part}
 use Rattle.clause.proofs.Siblings.{right_inside}
 use Rattle.machine.specs.Machine.{slots, State, Effect, onto, down, right, next, fails, given, headed}
 use Rattle.machine.specs.Machine.{putting, pushing, require, within, same_terms, compare_terms, step_at, step_from, step, finish, finish_from}
@@ -134,8 +134,8 @@ check_other s a b n = rw (ne_eqb a b n)
 -- Compare
 -- the part that a term is
 module _ (d t : List ℕ) (T : Tables d t) (p : ℕ) (h : p < length d) {e : ℕ} (f : e ≡ get_or t (at_ends + p) 0) where
-  pub part_start : p ≤ e
-  part_start = rw (f, T.ends p h) (jump_from d 1 p)
+  pub part_start : p < e
+  part_start = omega (arith, f, T.ends p h, jump_one d p h, jump_from d (arity (get_or d p 0)) (suc p))
 
   pub part_end : e ≤ length d
   part_end = rw (f, T.ends p h) (jump_le d 1 p (omega arith))

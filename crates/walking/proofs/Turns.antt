@@ -1,5 +1,5 @@
 -- The passes over the words below a node, as the walk's code takes them: where the node is entered, between two passes, and where a pass begins.
-use Prim.Native.Nat.{ℕ, ◌+◌, ◌-◌, ◌%◌, ◌≤◌, ◌<◌}
+use Prim.Native.Nat.{ℕ, ◌+◌, ◌-◌, ◌%◌, ◌≤◌, ◌<◌, min}
 use mathlib.Core.Path.{◌≡◌, refl, sym, ap, ◌∙◌}
 use mathlib.Core.Bool.{true, false}
 use mathlib.Core.Logic.{◌⊎◌, inl, inr, ⊎_elim}
@@ -29,6 +29,13 @@ use Rattle.cells.proofs.Bits.{bits_used, low_bit}
 use Rattle.stepping.proofs.Visits.{chosen_length}
 use Rattle.walking.proofs.Passes.{runs, runs_whole, runs_end, runs_over, runs_first, runs_plain, runs_spent}
 use Rattle.walking.proofs.Passes.{then_on, then_broken, then_covered, then_found, walked_missed, walked_spent, walked_broken, walked_found, walked_same}
+
+-- a clause has no more literals than may be gone through
+pub few_passes : {d t l : List ℕ} {h p last : ℕ} (above : Above) → Walkable d t h l → p ≡ passes_of above (get_or t at_count 0) → last ≡ min p max_literals
+    → last ≡ passes_of above (get_or t at_count 0)
+unfolding passes_of
+few_passes {d = d} First w e m = omega (arith, e, m, w.tables.count, (accepted d w.whole).few)
+few_passes Step w e m = omega (arith, e, m)
 
 -- the literal of a pass
 pass_literal : {above : Above} {last q j : ℕ} → above ≡ First → last ≡ passes_of above q → {n : ℕ} → q ≡ n → j < last → j < n

@@ -32,7 +32,8 @@ pub fn walk(
     let saved = reserve(cells, above);
     let mut n = count;
     'tries: {
-        for j in 0..passes(tables, above) {
+        // Bounded, so that the compiler knows that they are few: else it lays out vectors for them, and a call takes 240 bytes of the stack, not 192.
+        for j in 0..passes(tables, above).min(Clause::LITERALS) {
             if let Above::First = above {
                 if in_use(saved, j) {
                     continue;

@@ -606,3 +606,37 @@ fn deepest_trees() {
         .join()
         .unwrap();
 }
+
+// Firsts, as many as a clause has literals, and then rows of two Checks, each below the first one of the row before: a call of the walk for each row.
+fn rows_of_two() -> Vec<u64> {
+    let word = |key: u64, extent: usize| key << 28 | extent as u64;
+    let (used, check) = (65535, 7 << 32 | u64::from(P0));
+    let mut words = vec![0; 1 + used];
+    words[0] = (used as u64) << 32;
+    for first in 0..8 {
+        words[1 + first] = word(1 << 32, used - first);
+    }
+    let (mut from, mut to) = (9, 1 + used);
+    while from + 1 < to {
+        to -= 1;
+        words[from] = word(check, to - from);
+        words[to] = word(check, 1);
+        from += 1;
+    }
+    words[to - 1] = word(0, 1);
+    words
+}
+
+// The header tells a caller what stack the deepest slice takes, 6,152 KiB: it is answered on a thread that has little more.
+#[test]
+fn deepest_tree_on_the_stack_told() {
+    let calls = || {
+        assert_eq!(answer(&rows_of_two(), &[P0; 8], 99), covered(0, 8));
+    };
+    std::thread::Builder::new()
+        .stack_size(6200 << 10)
+        .spawn(calls)
+        .unwrap()
+        .join()
+        .unwrap();
+}

@@ -8,7 +8,7 @@ use Rattle.compiling.proofs.Writing.{writes_none, wrote}
 use Rattle.compiling.proofs.Rows.{row_first, row_room, row_writes, row_over, row_to_whole}
 use Rattle.compiling.proofs.Putting.{first_at}
 use Rattle.compiling.proofs.puts.compare_row.Goals as goal
-use Rattle.compiling.proofs.puts.compare_row.Goals.{then-puts-k, else-puts-k}
+use Rattle.compiling.proofs.puts.compare_row.Goals.{then-from-m, else-from-m}
 
 pub loop-k-init : goal.loop-k-init
 loop-k-init c =
@@ -21,7 +21,7 @@ push-requires c =
     let l = c.loop-k in
     let h : l.k < length a.puts.now = omega arith in
     let n = length-map a.puts.now (λ p. p.first) in
-    let e = first_at a.puts.now l.k h ∙ c.if-puts-k.true in
+    let e = first_at a.puts.now l.k h ∙ sym c.from.ensures ∙ c.if-from-m.true in
     omega (arith, c.requires.3, wrote l.invariant, row_room (firsts_in a.puts.now) a.from a.m l.k (omega arith) (omega arith) (omega arith) e)
 
 pub loop-k-preserved : goal.loop-k-preserved
@@ -30,9 +30,9 @@ loop-k-preserved c =
     let f = firsts_in a.puts.now in
     let l = c.loop-k in
     let at = first_at a.puts.now l.k (omega arith) in
-    elim c.if-puts-k.branch [
-      | then-puts-k w ↦ rw w.keys-is (row_writes f a.from a.m l.k (omega arith) (omega arith) (at ∙ w.if-puts-k.true) l.invariant w.push.ensures)
-      | else-puts-k w ↦ rw w.keys-is (row_over f a.from a.m l.k (omega arith) (omega arith) (λ e. w.if-puts-k.false (sym at ∙ e)) l.invariant)
+    elim c.if-from-m.branch [
+      | then-from-m w ↦ rw w.keys-is (row_writes f a.from a.m l.k (omega arith) (omega arith) (at ∙ sym c.from.ensures ∙ w.if-from-m.true) l.invariant w.push.ensures)
+      | else-from-m w ↦ rw w.keys-is (row_over f a.from a.m l.k (omega arith) (omega arith) (λ e. w.if-from-m.false (c.from.ensures ∙ sym at ∙ e)) l.invariant)
     ]
 
 pub returns : goal.returns

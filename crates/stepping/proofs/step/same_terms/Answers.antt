@@ -2,23 +2,24 @@
 use Rattle.machine.specs.Machine.{same_terms}
 use Rattle.clause.specs.Lists.{alike}
 use mathlib.Core.Path.{ap₂, ◌∙◌}
+use native.Mathlib.Omega.{arith}
 use Rattle.stepping.proofs.Visits.{part_start, part_end, part_term}
 use Rattle.stepping.proofs.step.same_terms.Goals as goal
 
 pub slice_bounds-at_p-count : goal.slice_bounds-at_p-count
-slice_bounds-at_p-count c = let p = c.requires in part_start _ _ p.1 _ p.2 c.from-p_end.ensures
+slice_bounds-at_p-count c = let p = c.requires in omega (arith, part_start _ _ p.1 _ p.2 c.from-p_end.ensures)
 
 pub slice_bounds-at_p-start : goal.slice_bounds-at_p-start
-slice_bounds-at_p-start c = let p = c.requires in part_start _ _ p.1 _ p.2 c.from-p_end.ensures
+slice_bounds-at_p-start c = let p = c.requires in omega (arith, part_start _ _ p.1 _ p.2 c.from-p_end.ensures)
 
 pub slice_bounds-at_p-end : goal.slice_bounds-at_p-end
 slice_bounds-at_p-end c = let p = c.requires in part_end _ _ p.1 _ p.2 c.from-p_end.ensures
 
 pub slice_bounds-at_q-count : goal.slice_bounds-at_q-count
-slice_bounds-at_q-count c = let p = c.requires in part_start _ _ p.1 _ p.3 c.from-q_end.ensures
+slice_bounds-at_q-count c = let p = c.requires in omega (arith, part_start _ _ p.1 _ p.3 c.from-q_end.ensures)
 
 pub slice_bounds-at_q-start : goal.slice_bounds-at_q-start
-slice_bounds-at_q-start c = let p = c.requires in part_start _ _ p.1 _ p.3 c.from-q_end.ensures
+slice_bounds-at_q-start c = let p = c.requires in omega (arith, part_start _ _ p.1 _ p.3 c.from-q_end.ensures)
 
 pub slice_bounds-at_q-end : goal.slice_bounds-at_q-end
 slice_bounds-at_q-end c = let p = c.requires in part_end _ _ p.1 _ p.3 c.from-q_end.ensures

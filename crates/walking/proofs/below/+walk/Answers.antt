@@ -18,7 +18,7 @@ use Rattle.stepping.specs.declared.Visit.{Visit}
 use Rattle.walking.proofs.Walking.{Walking, Meeting, Onward, onward_tries, onward_below, onward_stored, tail_less, walking_start, walking_end, met_size}
 use Rattle.walking.proofs.Walking.{node_stuck, node_hit, node_fails, node_plain, node_last, node_inside}
 use Rattle.walking.proofs.Walking.{node_ends, node_missed, fits_fails, call_fits, call_ready}
-use Rattle.walking.proofs.Turns.{small, walkable_literals, Entry, Between, Begun, first_few, entry_start}
+use Rattle.walking.proofs.Turns.{few_passes, small, walkable_literals, Entry, Between, Begun, first_few, entry_start}
 use Rattle.walking.proofs.Turns.{between_size, between_room, between_literal, between_over, between_ends, between_spent}
 use Rattle.walking.proofs.Turns.{begun_ready, pass_missed, pass_broken, pass_found, pass_ends}
 use Rattle.tree.proofs.Refused.{refusal_in}
@@ -59,32 +59,38 @@ reserve-saved-requires t c =
 
 pub loop-j-init : goal.loop-j-init
 loop-j-init t c =
-    let e = entry c.args.words.now c.args.budget c.args.count c.requires c.of-above.ensures c.passes-j-end.ensures c.reserve-saved.ensures in
+    let e = entry c.args.words.now c.args.budget c.args.count c.requires c.of-above.ensures
+    (few_passes _ c.requires.0 c.passes.ensures c.min-j-end.ensures) c.reserve-saved.ensures in
     entry_start e
 
 pub release-requires : goal.release-requires
 release-requires t c =
-    let e = entry c.args.words.now c.args.budget c.args.count c.requires c.of-above.ensures c.passes-j-end.ensures c.reserve-saved.ensures in
+    let e = entry c.args.words.now c.args.budget c.args.count c.requires c.of-above.ensures
+    (few_passes _ c.requires.0 c.passes.ensures c.min-j-end.ensures) c.reserve-saved.ensures in
     (between_size e c.loop-j.invariant, between_room e c.loop-j.invariant)
 
 pub in_use-requires : goal.in_use-requires
 in_use-requires t c =
-    let e = entry c.args.words.now c.args.budget c.args.count c.requires c.of-above.ensures c.passes-j-end.ensures c.reserve-saved.ensures in
+    let e = entry c.args.words.now c.args.budget c.args.count c.requires c.of-above.ensures
+    (few_passes _ c.requires.0 c.passes.ensures c.min-j-end.ensures) c.reserve-saved.ensures in
     small e c.loop-j-test.true c.in-First.is
 
 pub loop-j-preserved-then-in_use : goal.loop-j-preserved-then-in_use
 loop-j-preserved-then-in_use t c =
-    let e = entry c.args.words.now c.args.budget c.args.count c.requires c.of-above.ensures c.passes-j-end.ensures c.reserve-saved.ensures in
+    let e = entry c.args.words.now c.args.budget c.args.count c.requires c.of-above.ensures
+    (few_passes _ c.requires.0 c.passes.ensures c.min-j-end.ensures) c.reserve-saved.ensures in
     between_over e c.loop-j.invariant c.in-First.is c.loop-j-test.true (sym c.in_use.ensures ∙ c.if-in_use.true)
 
 pub begin-here-requires : goal.begin-here-requires
 begin-here-requires t c =
-    let e = entry c.args.words.now c.args.budget c.args.count c.requires c.of-above.ensures c.passes-j-end.ensures c.reserve-saved.ensures in
+    let e = entry c.args.words.now c.args.budget c.args.count c.requires c.of-above.ensures
+    (few_passes _ c.requires.0 c.passes.ensures c.min-j-end.ensures) c.reserve-saved.ensures in
     (e.ready.whole, e.ready.tables, between_size e c.loop-j.invariant, between_literal e c.loop-j.invariant c.loop-j-test.true)
 
 pub wanted-requires : goal.wanted-requires
 wanted-requires t c =
-    let e = entry c.args.words.now c.args.budget c.args.count c.requires c.of-above.ensures c.passes-j-end.ensures c.reserve-saved.ensures in
+    let e = entry c.args.words.now c.args.budget c.args.count c.requires c.of-above.ensures
+    (few_passes _ c.requires.0 c.passes.ensures c.min-j-end.ensures) c.reserve-saved.ensures in
     let p = begun c.match-above.n e c.loop-j.invariant c.loop-j-test.true
     (elim c.match-above.branch [
       | in-First+else-in_use+else-n-budget w ↦ inl (w.in-First.is, sym w.in_use.ensures ∙ w.if-in_use.false, w.if-n-budget.false, w.n-is)
@@ -94,7 +100,8 @@ wanted-requires t c =
 
 pub loop-rest-init : goal.loop-rest-init
 loop-rest-init t c =
-    let e = entry c.args.words.now c.args.budget c.args.count c.requires c.of-above.ensures c.passes-j-end.ensures c.reserve-saved.ensures in
+    let e = entry c.args.words.now c.args.budget c.args.count c.requires c.of-above.ensures
+    (few_passes _ c.requires.0 c.passes.ensures c.min-j-end.ensures) c.reserve-saved.ensures in
     let p = begun c.match-above.n e c.loop-j.invariant c.loop-j-test.true
     (elim c.match-above.branch [
       | in-First+else-in_use+else-n-budget w ↦ inl (w.in-First.is, sym w.in_use.ensures ∙ w.if-in_use.false, w.if-n-budget.false, w.n-is)
@@ -207,7 +214,8 @@ loop-rest-preserved t c =
 
 pub loop-j-preserved : goal.loop-j-preserved
 loop-j-preserved t c =
-    let e = entry c.args.words.now c.args.budget c.args.count c.requires c.of-above.ensures c.passes-j-end.ensures c.reserve-saved.ensures in
+    let e = entry c.args.words.now c.args.budget c.args.count c.requires c.of-above.ensures
+    (few_passes _ c.requires.0 c.passes.ensures c.min-j-end.ensures) c.reserve-saved.ensures in
     let p = begun c.match-above.n e c.loop-j.invariant c.loop-j-test.true
     (elim c.match-above.branch [
       | in-First+else-in_use+else-n-budget w ↦ inl (w.in-First.is, sym w.in_use.ensures ∙ w.if-in_use.false, w.if-n-budget.false, w.n-is)
@@ -218,17 +226,20 @@ loop-j-preserved t c =
 
 pub returns-after-loop-j : goal.returns-after-loop-j
 returns-after-loop-j t c =
-    let e = entry c.args.words.now c.args.budget c.args.count c.requires c.of-above.ensures c.passes-j-end.ensures c.reserve-saved.ensures in
+    let e = entry c.args.words.now c.args.budget c.args.count c.requires c.of-above.ensures
+    (few_passes _ c.requires.0 c.passes.ensures c.min-j-end.ensures) c.reserve-saved.ensures in
     between_ends e c.loop-j.invariant c.loop-j-test.false c.release.ensures
 
 pub returns-then-n-budget : goal.returns-then-n-budget
 returns-then-n-budget t c =
-    let e = entry c.args.words.now c.args.budget c.args.count c.requires c.of-above.ensures c.passes-j-end.ensures c.reserve-saved.ensures in
+    let e = entry c.args.words.now c.args.budget c.args.count c.requires c.of-above.ensures
+    (few_passes _ c.requires.0 c.passes.ensures c.min-j-end.ensures) c.reserve-saved.ensures in
     between_spent e c.loop-j.invariant c.in-First.is c.loop-j-test.true (sym c.in_use.ensures ∙ c.if-in_use.false) c.if-n-budget.true
 
 pub returns-in-Stuck : goal.returns-in-Stuck
 returns-in-Stuck t c =
-    let e = entry c.args.words.now c.args.budget c.args.count c.requires c.of-above.ensures c.passes-j-end.ensures c.reserve-saved.ensures in
+    let e = entry c.args.words.now c.args.budget c.args.count c.requires c.of-above.ensures
+    (few_passes _ c.requires.0 c.passes.ensures c.min-j-end.ensures) c.reserve-saved.ensures in
     let p = begun c.match-above.n e c.loop-j.invariant c.loop-j-test.true
     (elim c.match-above.branch [
       | in-First+else-in_use+else-n-budget w ↦ inl (w.in-First.is, sym w.in_use.ensures ∙ w.if-in_use.false, w.if-n-budget.false, w.n-is)
@@ -239,7 +250,8 @@ returns-in-Stuck t c =
 
 pub returns-in-Hit : goal.returns-in-Hit
 returns-in-Hit t c =
-    let e = entry c.args.words.now c.args.budget c.args.count c.requires c.of-above.ensures c.passes-j-end.ensures c.reserve-saved.ensures in
+    let e = entry c.args.words.now c.args.budget c.args.count c.requires c.of-above.ensures
+    (few_passes _ c.requires.0 c.passes.ensures c.min-j-end.ensures) c.reserve-saved.ensures in
     let p = begun c.match-above.n e c.loop-j.invariant c.loop-j-test.true
     (elim c.match-above.branch [
       | in-First+else-in_use+else-n-budget w ↦ inl (w.in-First.is, sym w.in_use.ensures ∙ w.if-in_use.false, w.if-n-budget.false, w.n-is)
@@ -250,7 +262,8 @@ returns-in-Hit t c =
 
 pub returns-in_default-found : goal.returns-in_default-found
 returns-in_default-found t c =
-    let e = entry c.args.words.now c.args.budget c.args.count c.requires c.of-above.ensures c.passes-j-end.ensures c.reserve-saved.ensures in
+    let e = entry c.args.words.now c.args.budget c.args.count c.requires c.of-above.ensures
+    (few_passes _ c.requires.0 c.passes.ensures c.min-j-end.ensures) c.reserve-saved.ensures in
     let p = begun c.match-above.n e c.loop-j.invariant c.loop-j-test.true
     (elim c.match-above.branch [
       | in-First+else-in_use+else-n-budget w ↦ inl (w.in-First.is, sym w.in_use.ensures ∙ w.if-in_use.false, w.if-n-budget.false, w.n-is)
