@@ -50,6 +50,7 @@ first_found v puts = rw (← first_place v puts) (go (ltb (first v (variables_in
     go true e = refl
     go false e = omega (arith, n, first_high v (variables_in puts), ltb-false (first v (variables_in puts)) (length puts) e)
 
+-- and so it is inside, or just past, the puts
 pub found_inside : (v : ℕ) (puts : List Put) → unwrap_or (position (λ p. eqb p.variable v) puts) (length puts) ≤ length puts
 found_inside v puts = rw (first_found v puts) (omega (arith, length-map puts (λ p. p.variable), first_high v (variables_in puts)))
 

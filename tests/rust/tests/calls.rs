@@ -577,6 +577,16 @@ fn nested(levels: usize, siblings: usize) -> Vec<u64> {
     words
 }
 
+// Makes some calls on a thread with so many KiB of stack: an overflow kills the tests.
+fn on_a_stack_of(kib: usize, calls: fn()) {
+    std::thread::Builder::new()
+        .stack_size(kib << 10)
+        .spawn(calls)
+        .unwrap()
+        .join()
+        .unwrap();
+}
+
 #[test]
 fn deepest_trees() {
     let calls = || {
@@ -599,12 +609,7 @@ fn deepest_trees() {
         assert_eq!(remove(&mut words, 5), Ok(()));
         assert_eq!(words, [0; 65536]);
     };
-    std::thread::Builder::new()
-        .stack_size(8 << 20)
-        .spawn(calls)
-        .unwrap()
-        .join()
-        .unwrap();
+    on_a_stack_of(8 << 10, calls);
 }
 
 // Firsts, as many as a clause has literals, and then rows of two Checks, each below the first one of the row before: a call of the walk for each row.
@@ -633,10 +638,5 @@ fn deepest_tree_on_the_stack_told() {
     let calls = || {
         assert_eq!(answer(&rows_of_two(), &[P0; 8], 99), covered(0, 8));
     };
-    std::thread::Builder::new()
-        .stack_size(6200 << 10)
-        .spawn(calls)
-        .unwrap()
-        .join()
-        .unwrap();
+    on_a_stack_of(6200, calls);
 }

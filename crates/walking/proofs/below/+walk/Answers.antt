@@ -3,11 +3,12 @@ use mathlib.Core.Path.{◌≡◌, sym, ◌∙◌}
 use mathlib.Core.Logic.{◌⊎◌, inl, inr}
 use mathlib.Core.List.{List}
 use mathlib.Core.Bool.{false}
-use Prim.Native.Nat.{ℕ, ◌+◌, ◌%◌, ◌<◌}
+use Prim.Native.Nat.{ℕ, ◌+◌, ◌%◌, ◌<◌, min}
 use native.Mathlib.Omega.{arith}
 use lib.ListN.{length, get_or, length-take, length-drop}
 use Rattle.machine.specs.Machine.{State}
 use Rattle.tree.specs.Laid.{extent_of}
+use Rattle.clause.specs.Clause.{max_literals}
 use Rattle.clause.specs.Inner.Tables.{at_count}
 use Rattle.cells.specs.Inner.Cells.{no_position, HasPlace, Walkable, state_of}
 use Rattle.cells.specs.Inner.Cells.{use_limit, has_bit, uses_of, saved_byte, above_of, reserved, candidate, kept_in, pass_head, passes_of}
@@ -26,14 +27,22 @@ use Rattle.walking.proofs.below.+walk.Goals as goal
 use Rattle.walking.proofs.below.+walk.Goals.{in-First+else-in_use+else-n-budget, in_default}
 use Rattle.walking.proofs.below.+walk.Goals.{in-Tries, in-Below+else-size-rest, in-Stored+else-size-rest-2}
 
--- the node is entered
+-- the node is entered, and no more literals are gone through than a clause may have
 entry :
-    {d t l l₁ : List ℕ} {h last saved : ℕ} {above : Above} (words : List ℕ) (b n₀ : ℕ)
-    → Walkable d t h l × (h ≡ no_position → HasPlace l) → above ≡ above_of h → last ≡ passes_of above (get_or t at_count 0)
+    {d t l l₁ : List ℕ} {h many last saved : ℕ} {above : Above} (words : List ℕ) (b n₀ : ℕ)
+    → Walkable d t h l × (h ≡ no_position → HasPlace l) → above ≡ above_of h → many ≡ passes_of above (get_or t at_count 0) → last ≡ min many max_literals
     → (saved % use_limit ≡ uses_of above l) × (saved_byte saved ≡ kept_in above l) × (l₁ ≡ reserved above l)
     → Entry d t words b h l n₀ above last saved l₁
-entry words b n₀ p of passes r =
-    record { ready = p.0; room = p.1; by_head = of; times = passes; uses = r.0; keeps = r.1; reserves = r.2 }
+entry words b n₀ p of passes few r =
+    record {
+      ready = p.0;
+      room = p.1;
+      by_head = of;
+      times = few_passes _ p.0 passes few;
+      uses = r.0;
+      keeps = r.1;
+      reserves = r.2;
+    }
 
 -- a pass begins
 begun :
@@ -59,38 +68,32 @@ reserve-saved-requires t c =
 
 pub loop-j-init : goal.loop-j-init
 loop-j-init t c =
-    let e = entry c.args.words.now c.args.budget c.args.count c.requires c.of-above.ensures
-    (few_passes _ c.requires.0 c.passes.ensures c.min-j-end.ensures) c.reserve-saved.ensures in
+    let e = entry c.args.words.now c.args.budget c.args.count c.requires c.of-above.ensures c.passes.ensures c.min-j-end.ensures c.reserve-saved.ensures in
     entry_start e
 
 pub release-requires : goal.release-requires
 release-requires t c =
-    let e = entry c.args.words.now c.args.budget c.args.count c.requires c.of-above.ensures
-    (few_passes _ c.requires.0 c.passes.ensures c.min-j-end.ensures) c.reserve-saved.ensures in
+    let e = entry c.args.words.now c.args.budget c.args.count c.requires c.of-above.ensures c.passes.ensures c.min-j-end.ensures c.reserve-saved.ensures in
     (between_size e c.loop-j.invariant, between_room e c.loop-j.invariant)
 
 pub in_use-requires : goal.in_use-requires
 in_use-requires t c =
-    let e = entry c.args.words.now c.args.budget c.args.count c.requires c.of-above.ensures
-    (few_passes _ c.requires.0 c.passes.ensures c.min-j-end.ensures) c.reserve-saved.ensures in
+    let e = entry c.args.words.now c.args.budget c.args.count c.requires c.of-above.ensures c.passes.ensures c.min-j-end.ensures c.reserve-saved.ensures in
     small e c.loop-j-test.true c.in-First.is
 
 pub loop-j-preserved-then-in_use : goal.loop-j-preserved-then-in_use
 loop-j-preserved-then-in_use t c =
-    let e = entry c.args.words.now c.args.budget c.args.count c.requires c.of-above.ensures
-    (few_passes _ c.requires.0 c.passes.ensures c.min-j-end.ensures) c.reserve-saved.ensures in
+    let e = entry c.args.words.now c.args.budget c.args.count c.requires c.of-above.ensures c.passes.ensures c.min-j-end.ensures c.reserve-saved.ensures in
     between_over e c.loop-j.invariant c.in-First.is c.loop-j-test.true (sym c.in_use.ensures ∙ c.if-in_use.true)
 
 pub begin-here-requires : goal.begin-here-requires
 begin-here-requires t c =
-    let e = entry c.args.words.now c.args.budget c.args.count c.requires c.of-above.ensures
-    (few_passes _ c.requires.0 c.passes.ensures c.min-j-end.ensures) c.reserve-saved.ensures in
+    let e = entry c.args.words.now c.args.budget c.args.count c.requires c.of-above.ensures c.passes.ensures c.min-j-end.ensures c.reserve-saved.ensures in
     (e.ready.whole, e.ready.tables, between_size e c.loop-j.invariant, between_literal e c.loop-j.invariant c.loop-j-test.true)
 
 pub wanted-requires : goal.wanted-requires
 wanted-requires t c =
-    let e = entry c.args.words.now c.args.budget c.args.count c.requires c.of-above.ensures
-    (few_passes _ c.requires.0 c.passes.ensures c.min-j-end.ensures) c.reserve-saved.ensures in
+    let e = entry c.args.words.now c.args.budget c.args.count c.requires c.of-above.ensures c.passes.ensures c.min-j-end.ensures c.reserve-saved.ensures in
     let p = begun c.match-above.n e c.loop-j.invariant c.loop-j-test.true
     (elim c.match-above.branch [
       | in-First+else-in_use+else-n-budget w ↦ inl (w.in-First.is, sym w.in_use.ensures ∙ w.if-in_use.false, w.if-n-budget.false, w.n-is)
@@ -100,8 +103,7 @@ wanted-requires t c =
 
 pub loop-rest-init : goal.loop-rest-init
 loop-rest-init t c =
-    let e = entry c.args.words.now c.args.budget c.args.count c.requires c.of-above.ensures
-    (few_passes _ c.requires.0 c.passes.ensures c.min-j-end.ensures) c.reserve-saved.ensures in
+    let e = entry c.args.words.now c.args.budget c.args.count c.requires c.of-above.ensures c.passes.ensures c.min-j-end.ensures c.reserve-saved.ensures in
     let p = begun c.match-above.n e c.loop-j.invariant c.loop-j-test.true
     (elim c.match-above.branch [
       | in-First+else-in_use+else-n-budget w ↦ inl (w.in-First.is, sym w.in_use.ensures ∙ w.if-in_use.false, w.if-n-budget.false, w.n-is)
@@ -214,8 +216,7 @@ loop-rest-preserved t c =
 
 pub loop-j-preserved : goal.loop-j-preserved
 loop-j-preserved t c =
-    let e = entry c.args.words.now c.args.budget c.args.count c.requires c.of-above.ensures
-    (few_passes _ c.requires.0 c.passes.ensures c.min-j-end.ensures) c.reserve-saved.ensures in
+    let e = entry c.args.words.now c.args.budget c.args.count c.requires c.of-above.ensures c.passes.ensures c.min-j-end.ensures c.reserve-saved.ensures in
     let p = begun c.match-above.n e c.loop-j.invariant c.loop-j-test.true
     (elim c.match-above.branch [
       | in-First+else-in_use+else-n-budget w ↦ inl (w.in-First.is, sym w.in_use.ensures ∙ w.if-in_use.false, w.if-n-budget.false, w.n-is)
@@ -226,20 +227,17 @@ loop-j-preserved t c =
 
 pub returns-after-loop-j : goal.returns-after-loop-j
 returns-after-loop-j t c =
-    let e = entry c.args.words.now c.args.budget c.args.count c.requires c.of-above.ensures
-    (few_passes _ c.requires.0 c.passes.ensures c.min-j-end.ensures) c.reserve-saved.ensures in
+    let e = entry c.args.words.now c.args.budget c.args.count c.requires c.of-above.ensures c.passes.ensures c.min-j-end.ensures c.reserve-saved.ensures in
     between_ends e c.loop-j.invariant c.loop-j-test.false c.release.ensures
 
 pub returns-then-n-budget : goal.returns-then-n-budget
 returns-then-n-budget t c =
-    let e = entry c.args.words.now c.args.budget c.args.count c.requires c.of-above.ensures
-    (few_passes _ c.requires.0 c.passes.ensures c.min-j-end.ensures) c.reserve-saved.ensures in
+    let e = entry c.args.words.now c.args.budget c.args.count c.requires c.of-above.ensures c.passes.ensures c.min-j-end.ensures c.reserve-saved.ensures in
     between_spent e c.loop-j.invariant c.in-First.is c.loop-j-test.true (sym c.in_use.ensures ∙ c.if-in_use.false) c.if-n-budget.true
 
 pub returns-in-Stuck : goal.returns-in-Stuck
 returns-in-Stuck t c =
-    let e = entry c.args.words.now c.args.budget c.args.count c.requires c.of-above.ensures
-    (few_passes _ c.requires.0 c.passes.ensures c.min-j-end.ensures) c.reserve-saved.ensures in
+    let e = entry c.args.words.now c.args.budget c.args.count c.requires c.of-above.ensures c.passes.ensures c.min-j-end.ensures c.reserve-saved.ensures in
     let p = begun c.match-above.n e c.loop-j.invariant c.loop-j-test.true
     (elim c.match-above.branch [
       | in-First+else-in_use+else-n-budget w ↦ inl (w.in-First.is, sym w.in_use.ensures ∙ w.if-in_use.false, w.if-n-budget.false, w.n-is)
@@ -250,8 +248,7 @@ returns-in-Stuck t c =
 
 pub returns-in-Hit : goal.returns-in-Hit
 returns-in-Hit t c =
-    let e = entry c.args.words.now c.args.budget c.args.count c.requires c.of-above.ensures
-    (few_passes _ c.requires.0 c.passes.ensures c.min-j-end.ensures) c.reserve-saved.ensures in
+    let e = entry c.args.words.now c.args.budget c.args.count c.requires c.of-above.ensures c.passes.ensures c.min-j-end.ensures c.reserve-saved.ensures in
     let p = begun c.match-above.n e c.loop-j.invariant c.loop-j-test.true
     (elim c.match-above.branch [
       | in-First+else-in_use+else-n-budget w ↦ inl (w.in-First.is, sym w.in_use.ensures ∙ w.if-in_use.false, w.if-n-budget.false, w.n-is)
@@ -262,8 +259,7 @@ returns-in-Hit t c =
 
 pub returns-in_default-found : goal.returns-in_default-found
 returns-in_default-found t c =
-    let e = entry c.args.words.now c.args.budget c.args.count c.requires c.of-above.ensures
-    (few_passes _ c.requires.0 c.passes.ensures c.min-j-end.ensures) c.reserve-saved.ensures in
+    let e = entry c.args.words.now c.args.budget c.args.count c.requires c.of-above.ensures c.passes.ensures c.min-j-end.ensures c.reserve-saved.ensures in
     let p = begun c.match-above.n e c.loop-j.invariant c.loop-j-test.true
     (elim c.match-above.branch [
       | in-First+else-in_use+else-n-budget w ↦ inl (w.in-First.is, sym w.in_use.ensures ∙ w.if-in_use.false, w.if-n-budget.false, w.n-is)
